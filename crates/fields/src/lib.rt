@@ -1,0 +1,21 @@
+// The field rules of document 01, for callers with and without a flow: digit fields, amounts, dates,
+// the one digit writer, and two tests on bytes.
+//
+// No public function has a `requires`: whatever bytes it is lent, it ends with an answer, and its
+// contract says which. Only `write_digits` changes a byte. A refusal is its number alone.
+mod amount;
+mod calendar;
+mod compare;
+mod date;
+mod digits;
+
+pub use amount::read_amount;
+pub use compare::all_blank;
+pub use compare::equal;
+pub use date::Date;
+pub use date::NO_SUCH_DAY;
+pub use date::read_date;
+pub use digits::NOT_DIGITS;
+pub use digits::Number;
+pub use digits::read_digits;
+pub use digits::write_digits;

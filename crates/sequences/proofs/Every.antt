@@ -1,0 +1,23 @@
+-- Laws of `every`. Assumes nothing.
+use mathlib.Core.Path.{_≡_, refl, sym, _∙_, ap}
+use mathlib.Core.Bool.{Bool, true, _&&_, and-assoc}
+use mathlib.Core.List.{List, [], _∷_, _++_}
+use Prim.Native.Nat.{ℕ, _+_, _≤_, _<_}
+use lib.ListN.{length, drop, getD, drop-of-length-le}
+use Rattle.sequences.specs.Every.{every}
+use Rattle.sequences.proofs.Drop.{drop-next}
+
+-- of two lists joined, each passes
+pub every-append : (p : ℕ → Bool) (xs ys : List ℕ) → every p (xs ++ ys) ≡ (every p xs && every p ys)
+unfolding every
+every-append p [] ys = refl
+every-append p (x ∷ xs) ys = ap (λ (b : Bool). p x && b) (every-append p xs ys) ∙ sym (and-assoc (p x) (every p xs) (every p ys))
+
+-- for a loop over i: the test at i, then the rest; and past the end nothing is left to test
+pub every-next : (p : ℕ → Bool) (xs : List ℕ) (i : ℕ) → i < length xs → every p (drop i xs) ≡ (p (getD xs i 0) && every p (drop (i + 1) xs))
+unfolding every
+every-next p xs i h = rw (drop-next xs i)
+
+pub every-end : (p : ℕ → Bool) (xs : List ℕ) (i : ℕ) → length xs ≤ i → every p (drop i xs) ≡ true
+unfolding every
+every-end p xs i h = rw (drop-of-length-le xs h)

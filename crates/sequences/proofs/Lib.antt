@@ -1,0 +1,4 @@
+pub mod Below
+pub mod Drop
+pub mod Every
+pub mod Part
