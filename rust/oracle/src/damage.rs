@@ -1,0 +1,401 @@
+//! Damage to flows and request lists, in every way a rule can be broken.
+
+use crate::fields::{amount, digits, write_digits};
+use crate::list::items;
+use crate::record::{field, field_mut, record_type, Record, RECORD_LEN};
+use crate::rng::Rng;
+
+/// First and last position of a field.
+type Field = (usize, usize);
+
+/// The fields with a check (document 01, table of checks) and the record
+/// type. The parts of the header's 105-111 stand alone as well.
+#[rustfmt::skip]
+const CHECKED: [([u8; 2], &[Field]); 11] = [
+    (*b"IM", &[
+        (2, 3), (4, 8), (9, 13), (14, 19), (20, 39), (105, 111), (105, 105), (106, 106),
+        (107, 111), (114, 114),
+    ]),
+    (*b"14", &[
+        (2, 3), (4, 10), (23, 28), (29, 33), (34, 46), (47, 47), (48, 52), (53, 57), (92, 96),
+        (97, 97), (120, 120),
+    ]),
+    (*b"16", &[
+        (2, 3), (4, 10), (11, 12), (13, 14), (15, 15), (16, 20), (21, 25), (26, 37),
+    ]),
+    (*b"20", &[(2, 3), (4, 10), (11, 34)]),
+    (*b"30", &[(2, 3), (4, 10), (11, 40)]),
+    (*b"40", &[(2, 3), (4, 10)]),
+    (*b"50", &[(2, 3), (4, 10)]),
+    (*b"59", &[(2, 3), (4, 10), (11, 65)]),
+    (*b"51", &[(2, 3), (4, 10)]),
+    (*b"70", &[(2, 3), (4, 10), (94, 94)]),
+    (*b"EF", &[
+        (2, 3), (4, 8), (9, 13), (14, 19), (20, 39), (46, 52), (53, 67), (68, 82), (83, 89),
+        (114, 114),
+    ]),
+];
+
+/// The checked fields of a record type; of an unknown one, the type itself.
+fn checked(kind: [u8; 2]) -> &'static [Field] {
+    let row = CHECKED.iter().find(|(of, _)| *of == kind);
+    row.map_or(&[(2, 3)], |(_, fields)| fields)
+}
+
+/// The record types, and some that are none.
+const TYPES: [&[u8; 2]; 16] = [
+    b"IM", b"14", b"16", b"20", b"30", b"40", b"50", b"51", b"59", b"70", b"EF", b"10", b"17",
+    b"im", b"  ", b"PC",
+];
+
+/// Bytes outside 32 to 126.
+const OUTSIDE: [u8; 6] = [0, 31, 127, 128, 255, b'\n'];
+
+/// Damages a flow once. At times nothing that is checked has changed.
+pub fn damage_flow(rng: &mut Rng, flow: &mut Vec<u8>) {
+    match rng.below(26) {
+        0..=9 => damage_record(rng, flow, 1),
+        10..=12 => damage_record(rng, flow, 2),
+        13 => change_type(rng, flow),
+        14 => drop_record(rng, flow),
+        15 => double_record(rng, flow),
+        16 => swap_records(rng, flow),
+        17 => copy_block(rng, flow),
+        18 => cut_records(rng, flow),
+        19 => change_len(rng, flow),
+        20 => put_outside(rng, flow),
+        21 => append_record(rng, flow),
+        22 => shift_trailer(rng, flow),
+        23 => crowd_details(rng, flow),
+        24 => change_company(rng, flow),
+        _ => put_anywhere(rng, flow),
+    }
+}
+
+/// Damages one field in one way. By rising `index` it is the turn of each
+/// checked field of each record type, then of each way, then of first, middle
+/// and last byte.
+pub fn damage_in_turn(rng: &mut Rng, index: u64, flow: &mut [u8]) {
+    let fields: Vec<([u8; 2], Field)> = CHECKED
+        .iter()
+        .flat_map(|&(kind, fields)| fields.iter().map(move |&field| (kind, field)))
+        .collect();
+    let turn = index as usize % fields.len();
+    let rest = index / fields.len() as u64;
+    let (kind, (first, last)) = fields[turn];
+    let len = last + 1 - first;
+    let place = [0, len / 2, len - 1][(rest / WAYS % 3) as usize];
+    let of_kind = |record: &&mut Record| record_type(record) == kind;
+    let mut records: Vec<&mut Record> = records_of(flow).iter_mut().filter(of_kind).collect();
+    let chosen = rng.index(records.len());
+    if let Some(record) = records.get_mut(chosen) {
+        spoil(rng, rest % WAYS, field_mut(record, first, last), place);
+    }
+}
+
+fn records_of(flow: &mut [u8]) -> &mut [Record] {
+    flow.as_chunks_mut::<RECORD_LEN>().0
+}
+
+/// A record of the flow; header and trailer come more often than others.
+fn any_record(rng: &mut Rng, flow: &[u8]) -> usize {
+    let records = flow.len() / RECORD_LEN;
+    match rng.below(6) {
+        0 => 0,
+        1 => records.saturating_sub(1),
+        _ => rng.index(records),
+    }
+}
+
+/// Damages some checked fields of one record.
+fn damage_record(rng: &mut Rng, flow: &mut [u8], fields: usize) {
+    let index = any_record(rng, flow);
+    if let Some(record) = records_of(flow).get_mut(index) {
+        let checked = checked(record_type(record));
+        for _ in 0..fields {
+            let (first, last) = rng.pick(checked);
+            spoil_anyhow(rng, field_mut(record, first, last));
+        }
+    }
+}
+
+/// Spoils a field in any way at any place. The ends come more often.
+fn spoil_anyhow(rng: &mut Rng, bytes: &mut [u8]) {
+    let len = bytes.len();
+    let inside = rng.index(len);
+    let place = rng.pick(&[0, len.saturating_sub(1), inside]);
+    let way = match rng.below(6) {
+        0 if len == 6 => 15,
+        1 => 6,
+        _ => rng.below(WAYS),
+    };
+    spoil(rng, way, bytes, place);
+}
+
+/// The ways to spoil a field.
+const WAYS: u64 = 16;
+
+/// Spoils a field in one way, the byte at `place` or the whole of it.
+fn spoil(rng: &mut Rng, way: u64, bytes: &mut [u8], place: usize) {
+    let Some(&old) = bytes.get(place) else {
+        return;
+    };
+    match way {
+        0 => bytes[place] = b'/',
+        1 => bytes[place] = b':',
+        2 => bytes[place] = b' ',
+        3 => bytes[place] = rng.pick(b"+-.AaIZ~!"),
+        4 => bytes[place] = old.wrapping_add(1),
+        5 => bytes[place] = old.wrapping_sub(1),
+        6 => bytes.fill(b' '),
+        7 => bytes.fill(b'0'),
+        8 => bytes.fill(b'9'),
+        9 => bytes[place] = 0,
+        10 => bytes[place] = 31,
+        11 => bytes[place] = 127,
+        12 => bytes[place] = 255,
+        13 => bytes
+            .iter_mut()
+            .for_each(|b| *b = b'0' + rng.below(10) as u8),
+        15 if bytes.len() == 6 => bytes.copy_from_slice(&rng.pick(&NO_DATES)[..]),
+        _ => bytes[place] = rng.within(32, 126) as u8,
+    }
+}
+
+/// Six bytes that are no date, or nearly.
+const NO_DATES: [&[u8; 6]; 12] = [
+    b"290227", b"290299", b"300228", b"310426", b"320126", b"000126", b"010026", b"011326",
+    b"310626", b"999999", b"000000", b"2902 8",
+];
+
+fn change_type(rng: &mut Rng, flow: &mut [u8]) {
+    let index = any_record(rng, flow);
+    let kind = rng.pick(&TYPES);
+    if let Some(record) = records_of(flow).get_mut(index) {
+        field_mut(record, 2, 3).copy_from_slice(kind);
+    }
+}
+
+fn drop_record(rng: &mut Rng, flow: &mut Vec<u8>) {
+    let start = any_record(rng, flow) * RECORD_LEN;
+    if flow.len() >= start + RECORD_LEN {
+        flow.drain(start..start + RECORD_LEN);
+    }
+}
+
+fn double_record(rng: &mut Rng, flow: &mut Vec<u8>) {
+    let start = any_record(rng, flow) * RECORD_LEN;
+    insert_copy(flow, start, start + RECORD_LEN, start);
+}
+
+/// Inserts a copy of the bytes from `start` to `end` at `place`.
+fn insert_copy(flow: &mut Vec<u8>, start: usize, end: usize, place: usize) {
+    if let Some(bytes) = flow.get(start..end).map(<[u8]>::to_vec) {
+        flow.splice(place..place, bytes);
+    }
+}
+
+fn swap_records(rng: &mut Rng, flow: &mut [u8]) {
+    let (one, other) = (any_record(rng, flow), any_record(rng, flow));
+    let records = records_of(flow);
+    let other = if rng.one_in(2) { one + 1 } else { other };
+    if one < records.len() && other < records.len() {
+        records.swap(one, other);
+    }
+}
+
+/// Copies a whole disposition twice, and adjusts the trailer to agree. The
+/// copy stands right behind the original or at the end, and at times has the
+/// number due there, so that the flow is right again.
+fn copy_block(rng: &mut Rng, flow: &mut Vec<u8>) {
+    let kinds: Vec<[u8; 2]> = records_of(flow).iter().map(record_type).collect();
+    let starts: Vec<usize> = (0..kinds.len()).filter(|&i| kinds[i] == *b"14").collect();
+    if starts.is_empty() || kinds.last() != Some(b"EF") {
+        return;
+    }
+    let chosen = rng.index(starts.len());
+    let (start, end) = match starts.get(chosen + 1) {
+        Some(&next) => (starts[chosen], next),
+        None => (starts[chosen], kinds.len() - 1),
+    };
+    let place = rng.pick(&[end, kinds.len() - 1]);
+    insert_copy(
+        flow,
+        start * RECORD_LEN,
+        end * RECORD_LEN,
+        place * RECORD_LEN,
+    );
+    let renumber = rng.one_in(4);
+    let records = records_of(flow);
+    let cents = amount(field(&records[start], 34, 46)).unwrap_or(0);
+    if renumber && place == kinds.len() - 1 {
+        for record in &mut records[place..place + end - start] {
+            write_digits(field_mut(record, 4, 10), starts.len() as u64 + 1);
+        }
+    }
+    if let Some(trailer) = records.last_mut() {
+        add_to(trailer, (46, 52), 1);
+        add_to(trailer, (53, 67), cents as i64);
+        add_to(trailer, (83, 89), (end - start) as i64);
+    }
+}
+
+/// Adds to a digit field, if it is one and the sum is not negative.
+pub(crate) fn add_to(record: &mut Record, (first, last): Field, by: i64) {
+    let bytes = field_mut(record, first, last);
+    let sum = digits(bytes)
+        .ok()
+        .and_then(|value| value.checked_add_signed(by));
+    if let Some(sum) = sum {
+        write_digits(bytes, sum);
+    }
+}
+
+/// Cuts the flow after a whole record.
+fn cut_records(rng: &mut Rng, flow: &mut Vec<u8>) {
+    let records = rng.index(flow.len() / RECORD_LEN + 1);
+    flow.truncate(records * RECORD_LEN);
+}
+
+/// Cuts bytes off, or adds some.
+fn change_len(rng: &mut Rng, flow: &mut Vec<u8>) {
+    match rng.below(4) {
+        0 => flow.clear(),
+        1 => flow.truncate(flow.len().saturating_sub(1)),
+        2 => flow.push(rng.pick(b" \n\r\0E")),
+        _ => flow.truncate(rng.index(flow.len() + 1)),
+    }
+}
+
+/// Puts a byte outside 32 to 126 anywhere.
+fn put_outside(rng: &mut Rng, flow: &mut [u8]) {
+    let index = rng.index(flow.len());
+    if let Some(byte) = flow.get_mut(index) {
+        *byte = rng.pick(&OUTSIDE);
+    }
+}
+
+/// Puts any byte anywhere.
+fn put_anywhere(rng: &mut Rng, flow: &mut [u8]) {
+    let index = rng.index(flow.len());
+    if let Some(byte) = flow.get_mut(index) {
+        *byte = rng.below(256) as u8;
+    }
+}
+
+/// Adds a record after the trailer: one of the flow's own, or blanks.
+fn append_record(rng: &mut Rng, flow: &mut Vec<u8>) {
+    if rng.one_in(4) {
+        flow.extend([b' '; RECORD_LEN]);
+        return;
+    }
+    let start = any_record(rng, flow) * RECORD_LEN;
+    insert_copy(flow, start, start + RECORD_LEN, flow.len());
+}
+
+/// Makes a count or a sum of the trailer a little wrong.
+fn shift_trailer(rng: &mut Rng, flow: &mut [u8]) {
+    let place = rng.pick(&[(46, 52), (53, 67), (68, 82), (83, 89)]);
+    let by = rng.pick(&[-10, -1, 1, 10, 100]);
+    if let Some(trailer) = records_of(flow).last_mut() {
+        add_to(trailer, place, by);
+    }
+}
+
+/// Gives one or two records 14 a company code.
+fn change_company(rng: &mut Rng, flow: &mut [u8]) {
+    let kind = |record: &&mut Record| record_type(record) == *b"14";
+    let mut openings: Vec<&mut Record> = records_of(flow).iter_mut().filter(kind).collect();
+    for _ in 0..rng.within(1, 2) {
+        let index = rng.index(openings.len());
+        let code = rng.pick(&[b"AB124", b"A    ", b"    A"]);
+        if let Some(opening) = openings.get_mut(index) {
+            field_mut(opening, 92, 96).copy_from_slice(code);
+        }
+    }
+}
+
+/// Doubles a record 50 or 59 until there are too many, or sets the other kind
+/// beside it; the trailer's count of records agrees.
+fn crowd_details(rng: &mut Rng, flow: &mut Vec<u8>) {
+    let kinds: Vec<[u8; 2]> = records_of(flow).iter().map(record_type).collect();
+    let details = |i: &usize| matches!(&kinds[*i], b"50" | b"59");
+    let places: Vec<usize> = (0..kinds.len()).filter(details).collect();
+    if places.is_empty() {
+        return;
+    }
+    let index = rng.pick(&places);
+    let start = index * RECORD_LEN;
+    let more = rng.within(1, 5);
+    for _ in 0..more {
+        insert_copy(flow, start, start + RECORD_LEN, start);
+    }
+    let kind = rng.pick(&[b"50", b"59"]);
+    let records = records_of(flow);
+    field_mut(&mut records[index + rng.index(2)], 2, 3).copy_from_slice(kind);
+    if let Some(trailer) = records.last_mut() {
+        add_to(trailer, (83, 89), more as i64);
+    }
+}
+
+/// Damages a request list once.
+pub fn damage_list(rng: &mut Rng, list: &mut Vec<u8>) {
+    let starts = item_starts(list);
+    let item = rng.index(starts.len());
+    let start = starts.get(item).copied().unwrap_or(0);
+    let end = starts.get(item + 1).copied().unwrap_or(list.len());
+    match rng.below(13) {
+        0 => list.truncate(rng.index(list.len() + 1)),
+        1 => list.truncate(start + 1),
+        2 => list.clear(),
+        3 => set(list, start, rng.pick(b"EMQhd14 \0\xff")),
+        4 => set(list, start, rng.pick(b"HDSCBARXKZ")),
+        5 => drop(list.drain(start..end)),
+        6 => insert_copy(list, start, end, start),
+        7 => insert_copy(list, start, end, list.len()),
+        8 => list.push(rng.pick(b"HDSCBARXKZ?")),
+        9 => list.truncate(start),
+        10 => swap_items(rng, list, item),
+        _ => spoil_body(rng, list, start + 1, end),
+    }
+}
+
+/// Swaps an item with another one; what follows the whole items stays.
+fn swap_items(rng: &mut Rng, list: &mut Vec<u8>, item: usize) {
+    let mut rows: Vec<Vec<u8>> = items(list)
+        .flatten()
+        .map(|item| [&[item.layout.kind], item.body].concat())
+        .collect();
+    let other = rng.index(rows.len());
+    if item < rows.len() {
+        rows.swap(item, other);
+    }
+    let whole = rows.concat();
+    list[..whole.len()].copy_from_slice(&whole);
+}
+
+/// Spoils some bytes of an item's body.
+fn spoil_body(rng: &mut Rng, list: &mut [u8], start: usize, end: usize) {
+    if let Some(body) = list.get_mut(start..end).filter(|body| !body.is_empty()) {
+        let first = rng.index(body.len());
+        let len = rng.within(1, 20).min((body.len() - first) as u64) as usize;
+        spoil_anyhow(rng, &mut body[first..first + len]);
+    }
+}
+
+/// Where the items of a list start, as far as they are whole.
+fn item_starts(list: &[u8]) -> Vec<usize> {
+    let mut start = 0;
+    let mut starts = Vec::new();
+    for item in items(list).flatten() {
+        starts.push(start);
+        start += 1 + item.body.len();
+    }
+    starts
+}
+
+fn set(bytes: &mut [u8], index: usize, byte: u8) {
+    if let Some(place) = bytes.get_mut(index) {
+        *place = byte;
+    }
+}

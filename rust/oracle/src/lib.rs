@@ -1,0 +1,28 @@
+//! M.Av. request flows of 120-byte records, by the rules of document 01: the
+//! field rules, the reader, where a disposition is, request lists, amount
+//! change and withdrawal, and the ledger that says what a list of calls
+//! leaves. Beside them stand generated cases and sample files.
+//!
+//! The rules read in place. No call allocates per record, asks anything of
+//! its input first, or panics.
+
+#![forbid(unsafe_code)]
+
+pub mod amend;
+pub mod answer;
+pub mod damage;
+pub mod fields;
+pub mod find;
+pub mod generate;
+pub mod ledger;
+pub mod list;
+pub mod program;
+pub mod reader;
+pub mod record;
+pub mod rng;
+pub mod samples;
+pub mod shrink;
+pub mod tally;
+pub mod vectors;
+
+pub use answer::{Answer, Refusal};

@@ -1,0 +1,466 @@
+//! The sample files: right flows and lists, and one for each refusal number
+//! that reading or writing can give.
+
+use std::fmt::Write;
+use std::path::Path;
+use std::{fs, io};
+
+use crate::answer::Answer;
+use crate::fields::{write_digits, MAX_AMOUNT};
+use crate::generate::{blank, Draft};
+use crate::list::write_flow;
+use crate::reader::read;
+use crate::record::{field_mut, put, Record, BLANK_RECORD, RECORD_LEN};
+
+/// One row of the table of samples.
+pub struct Sample {
+    pub file: &'static str,
+    pub bytes: Vec<u8>,
+    pub use_as: UseAs,
+    pub shows: &'static str,
+    /// The line of the answer due, written by hand.
+    pub due: &'static str,
+}
+
+/// What a sample is given to.
+#[derive(Clone, Copy, Debug, Eq, PartialEq)]
+pub enum UseAs {
+    /// A flow to be read.
+    Flow,
+    /// A list to be written to an output of this length.
+    List(usize),
+}
+
+impl Sample {
+    /// The answer given.
+    pub fn answer(&self) -> Answer {
+        match self.use_as {
+            UseAs::Flow => read(&self.bytes),
+            UseAs::List(room) => write_flow(&self.bytes, &mut vec![0; room]).0,
+        }
+    }
+}
+
+/// A tenant with a rent due.
+struct Tenant {
+    name: &'static str,
+    tax_code: &'static str,
+    room: &'static str,
+    customer: &'static str,
+    number: u64,
+    cents: u64,
+}
+
+/// The two tenants of document 01's example.
+const TENANTS: [Tenant; 2] = [
+    Tenant {
+        name: "ROSSI GIULIA",
+        tax_code: "RSSGLI05A41F205X",
+        room: "STANZA 17",
+        customer: "S0017",
+        number: 17,
+        cents: 45_000,
+    },
+    Tenant {
+        name: "BIANCHI MARCO",
+        tax_code: "BNCMRC04P12F205Y",
+        room: "STANZA 23",
+        customer: "S0023",
+        number: 23,
+        cents: 38_050,
+    },
+];
+
+fn header() -> Record {
+    let mut record = blank(b"IM");
+    put(&mut record, 4, b"AB123");
+    put(&mut record, 9, b"01234");
+    put(&mut record, 14, b"150326");
+    put(&mut record, 20, b"RENT-MARCH");
+    put(&mut record, 114, b"E");
+    record
+}
+
+/// The seven records of a tenant's rent.
+fn rent(tenant: &Tenant) -> Vec<Record> {
+    let mut opening = blank(b"14");
+    put(&mut opening, 23, b"310326");
+    put(&mut opening, 29, b"07000");
+    write_digits(field_mut(&mut opening, 34, 46), tenant.cents);
+    put(&mut opening, 47, b"-");
+    put(&mut opening, 48, b"01234");
+    put(&mut opening, 53, b"02400");
+    put(&mut opening, 58, b"000000123456");
+    put(&mut opening, 92, b"AB123");
+    put(&mut opening, 97, b"2");
+    put(&mut opening, 98, tenant.customer.as_bytes());
+    put(&mut opening, 120, b"E");
+    let mut creditor = blank(b"20");
+    put(&mut creditor, 11, b"RESIDENZA SAN MARTINO");
+    put(&mut creditor, 35, b"VIA DEI COLLEGI 12");
+    put(&mut creditor, 59, b"20100 MILANO MI");
+    let mut debtor = blank(b"30");
+    put(&mut debtor, 11, tenant.name.as_bytes());
+    put(&mut debtor, 71, tenant.tax_code.as_bytes());
+    let mut address = blank(b"40");
+    put(&mut address, 11, b"VIA DEI COLLEGI 12");
+    put(&mut address, 41, b"20100");
+    put(&mut address, 46, b"MILANO MI");
+    put(&mut address, 71, tenant.room.as_bytes());
+    let mut detail = blank(b"50");
+    put(&mut detail, 11, b"RETTA MARZO 2026");
+    let mut reference = blank(b"51");
+    write_digits(field_mut(&mut reference, 11, 20), tenant.number);
+    vec![
+        opening,
+        creditor,
+        debtor,
+        address,
+        detail,
+        reference,
+        blank(b"70"),
+    ]
+}
+
+/// The two-rent example of document 01.
+pub fn two_rents() -> Draft {
+    Draft {
+        header: header(),
+        dispositions: TENANTS.iter().map(rent).collect(),
+        trailer: BLANK_RECORD,
+    }
+}
+
+/// Forty rents with every optional record and field.
+pub fn forty_rents() -> Draft {
+    let mut header = header();
+    put(&mut header, 40, b"CASE40");
+    put(&mut header, 105, b"1$05678");
+    Draft {
+        header,
+        dispositions: (1..=40).map(full_rent).collect(),
+        trailer: {
+            let mut trailer = BLANK_RECORD;
+            put(&mut trailer, 40, b"CASE40");
+            trailer
+        },
+    }
+}
+
+/// Rent `index` of forty: 300.00 Euro and 12.50 more for each.
+fn full_rent(index: u64) -> Vec<Record> {
+    let place = index as usize;
+    let customer = format!("S{index:04}");
+    let name = format!("STUDENTE {index:02}");
+    let mut block = rent(&TENANTS[place % 2]);
+    let opening = &mut block[0];
+    write_digits(field_mut(opening, 34, 46), 30_000 + 1_250 * index);
+    put(opening, 97, &[b" 1234569"[place % 8]]);
+    put(opening, 98, customer.as_bytes());
+    if index.is_multiple_of(7) {
+        put(opening, 92, b"     ");
+    }
+    let debtor = field_mut(&mut block[2], 11, 86);
+    debtor.fill(b' ');
+    put(&mut block[2], 11, name.as_bytes());
+    write_digits(field_mut(&mut block[5], 11, 20), index);
+    put(&mut block[6], 94, &[b" PB"[place % 3]]);
+    put(&mut block[6], 96, b"NOTTE");
+    let details = place % 6;
+    if details > 0 {
+        block.splice(4..5, (1..=details).map(detail_line));
+    }
+    if index.is_multiple_of(2) {
+        block.insert(1, account());
+    }
+    block
+}
+
+/// Line `index` of a longer description.
+fn detail_line(index: usize) -> Record {
+    let mut record = blank(b"59");
+    let text = format!("RETTA MARZO 2026, VOCE {index}");
+    put(&mut record, 11, text.as_bytes());
+    put(&mut record, 66, b"AFFITTO, RISCALDAMENTO E PULIZIE");
+    record
+}
+
+/// The creditor's account, record 16.
+fn account() -> Record {
+    let mut record = blank(b"16");
+    put(&mut record, 11, b"IT60X0123402400000000123456");
+    record
+}
+
+/// A flow of two rents with some bytes of one record replaced.
+fn spoiled(record: usize, position: usize, bytes: &[u8]) -> Vec<u8> {
+    let mut records = two_rents().records();
+    put(&mut records[record - 1], position, bytes);
+    records.concat()
+}
+
+/// The first rent twice, with a trailer that agrees.
+fn block_twice() -> Vec<u8> {
+    let mut records = two_rents().records();
+    let block = records[1..8].to_vec();
+    records.splice(8..8, block);
+    let trailer = &mut records[22];
+    put(trailer, 46, b"0000003");
+    put(trailer, 53, b"000000000128050");
+    put(trailer, 83, b"0000023");
+    records.concat()
+}
+
+/// A list of 101 rents of the largest amount.
+fn total_above_limit() -> Vec<u8> {
+    let mut draft = two_rents();
+    let mut block = rent(&TENANTS[0]);
+    write_digits(field_mut(&mut block[0], 34, 46), MAX_AMOUNT);
+    draft.dispositions = vec![block; 101];
+    draft.list()
+}
+
+/// Two rents with text where nothing is checked.
+fn filled() -> Vec<u8> {
+    let mut records = two_rents().records();
+    put(&mut records[0], 46, b"FEDERAZIONE DELLE RESIDENZE");
+    put(&mut records[1], 70, b"NOTA");
+    put(&mut records[15], 115, b"NOTTE");
+    records.concat()
+}
+
+/// The flow of two rents without its last bytes.
+fn cut(bytes: usize) -> Vec<u8> {
+    let mut flow = two_rents().flow();
+    flow.truncate(flow.len().saturating_sub(bytes));
+    flow
+}
+
+fn flow(file: &'static str, bytes: Vec<u8>, shows: &'static str, due: &'static str) -> Sample {
+    Sample {
+        file,
+        bytes,
+        use_as: UseAs::Flow,
+        shows,
+        due,
+    }
+}
+
+fn list(
+    file: &'static str,
+    bytes: Vec<u8>,
+    room: usize,
+    shows: &'static str,
+    due: &'static str,
+) -> Sample {
+    Sample {
+        file,
+        bytes,
+        use_as: UseAs::List(room),
+        shows,
+        due,
+    }
+}
+
+/// All samples in the order of their table.
+pub fn samples() -> Vec<Sample> {
+    let mut samples = right_samples();
+    samples.extend(refused_flows());
+    samples.extend(refused_lists());
+    samples
+}
+
+fn right_samples() -> Vec<Sample> {
+    let rents = two_rents();
+    let forty = forty_rents();
+    vec![
+        flow(
+            "two-rents.flow",
+            rents.flow(),
+            "two rents, canonical, no record 16, one 50 each",
+            "accepted dispositions 2 cents 83050 records 16",
+        ),
+        list(
+            "two-rents.list",
+            rents.list(),
+            1_920,
+            "the request list of two-rents.flow, which it encodes byte for byte",
+            "accepted dispositions 2 cents 83050 records 16",
+        ),
+        flow(
+            "two-rents-filler.flow",
+            filled(),
+            "the two rents with text at positions that are not checked and not carried: not canonical, the same list",
+            "accepted dispositions 2 cents 83050 records 16",
+        ),
+        flow(
+            "forty-rents.flow",
+            forty.flow(),
+            "forty rents, canonical, with 16, one 50 or one to five 59, the header's 105-111, and the company code on most",
+            "accepted dispositions 40 cents 2225000 records 368",
+        ),
+        list(
+            "forty-rents.list",
+            forty.list(),
+            44_160,
+            "the request list of forty-rents.flow",
+            "accepted dispositions 40 cents 2225000 records 368",
+        ),
+    ]
+}
+
+fn refused_flows() -> Vec<Sample> {
+    vec![
+        flow(
+            "refused-01-length.flow",
+            cut(1),
+            "the last byte is missing",
+            "refused 1 record 0 position 0",
+        ),
+        flow(
+            "refused-02-byte.flow",
+            spoiled(4, 16, b"\t"),
+            "a tab in the debtor's name",
+            "refused 2 record 4 position 16",
+        ),
+        flow(
+            "refused-03-type.flow",
+            spoiled(7, 2, b"59"),
+            "a 59 after a 50",
+            "refused 3 record 7 position 2",
+        ),
+        flow(
+            "refused-04-ended.flow",
+            cut(RECORD_LEN),
+            "the trailer is missing",
+            "refused 4 record 16 position 0",
+        ),
+        flow(
+            "refused-05-digits.flow",
+            spoiled(2, 34, b"0000000450.00"),
+            "an amount with a decimal point",
+            "refused 5 record 2 position 34",
+        ),
+        flow(
+            "refused-06-value.flow",
+            spoiled(9, 29, b"07100"),
+            "the causale of a recall",
+            "refused 6 record 9 position 29",
+        ),
+        flow(
+            "refused-07-blank.flow",
+            spoiled(11, 11, &[b' '; 30]),
+            "no name of the debtor",
+            "refused 7 record 11 position 11",
+        ),
+        flow(
+            "refused-08-date.flow",
+            spoiled(2, 23, b"290227"),
+            "29 February of a common year",
+            "refused 8 record 2 position 23",
+        ),
+        flow(
+            "refused-09-block-twice.flow",
+            block_twice(),
+            "the first rent stands twice, and the trailer agrees",
+            "refused 9 record 9 position 4",
+        ),
+        flow(
+            "refused-10-header.flow",
+            spoiled(9, 48, b"01235"),
+            "the ABI of a 14 is not the header's",
+            "refused 10 record 9 position 48",
+        ),
+        flow(
+            "refused-11-company.flow",
+            spoiled(9, 92, b"AB124"),
+            "two company codes",
+            "refused 11 record 9 position 92",
+        ),
+        flow(
+            "refused-12-dispositions.flow",
+            spoiled(16, 46, b"0000003"),
+            "the trailer counts three dispositions",
+            "refused 12 record 16 position 46",
+        ),
+        flow(
+            "refused-13-total.flow",
+            spoiled(16, 53, b"000000000083051"),
+            "the trailer's total is a cent too high",
+            "refused 13 record 16 position 53",
+        ),
+        flow(
+            "refused-14-records.flow",
+            spoiled(16, 83, b"0000014"),
+            "the trailer counts the records without header and trailer",
+            "refused 14 record 16 position 83",
+        ),
+    ]
+}
+
+fn refused_lists() -> Vec<Sample> {
+    let rents = two_rents().list();
+    let mut short = rents.clone();
+    short.pop();
+    vec![
+        list(
+            "refused-03-empty.list",
+            Vec::new(),
+            120,
+            "an empty list",
+            "refused 3 record 1 position 2",
+        ),
+        list(
+            "refused-17-total.list",
+            total_above_limit(),
+            85_080,
+            "101 rents of 9,999,999,999,999 cents",
+            "refused 17 record 0 position 0",
+        ),
+        list(
+            "refused-20-item.list",
+            short,
+            1_920,
+            "the last item is cut short",
+            "refused 20 record 15 position 0",
+        ),
+        list(
+            "two-rents.list",
+            rents,
+            1_919,
+            "an output one byte too short",
+            "refused 21 record 0 position 0",
+        ),
+    ]
+}
+
+/// The table of samples, as Markdown.
+pub fn table(samples: &[Sample]) -> String {
+    let mut text = String::from(
+        "# Samples\n\n\
+         Files ending in `.flow` are flows to be read, files ending in `.list` are request\n\
+         lists to be written to an output of the length given. The rules are those of\n\
+         document 01. The files are written by `oracle sample`.\n\n\
+         | file | what it shows | answer due |\n|---|---|---|\n",
+    );
+    for sample in samples {
+        let (file, shows, due) = (sample.file, sample.shows, sample.due);
+        let _ = match sample.use_as {
+            UseAs::Flow => writeln!(text, "| `{file}` | {shows} | `{due}` |"),
+            UseAs::List(room) => {
+                writeln!(text, "| `{file}`, room {room} | {shows} | `{due}` |")
+            }
+        };
+    }
+    text
+}
+
+/// Writes all samples and their table to a directory.
+pub fn write(dir: &Path) -> io::Result<()> {
+    let samples = samples();
+    fs::create_dir_all(dir)?;
+    for sample in &samples {
+        fs::write(dir.join(sample.file), &sample.bytes)?;
+    }
+    fs::write(dir.join("README.md"), table(&samples))
+}

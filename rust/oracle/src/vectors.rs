@@ -1,0 +1,329 @@
+//! Files of cases with the answers due, for comparing another program.
+
+use std::fmt::Write;
+use std::path::Path;
+use std::{fs, io};
+
+use crate::{fields, generate, program};
+
+/// Writes the input and the output file of the field rules.
+pub fn write_fields(input: &Path, output: &Path) -> io::Result<()> {
+    let (cases, answers) = field_files();
+    fs::write(input, cases)?;
+    fs::write(output, answers)
+}
+
+/// Writes `count` generated flows, `000001.flow` and on, and the file
+/// `expected` with the small program's line for each.
+pub fn write_flows(seed: u64, count: u64, dir: &Path) -> io::Result<()> {
+    fs::create_dir_all(dir)?;
+    let mut expected = String::new();
+    for index in 1..=count {
+        let flow = generate::flow_case(seed, index);
+        fs::write(dir.join(format!("{index:06}.flow")), &flow)?;
+        expected.push_str(&program::line(&flow));
+        expected.push('\n');
+    }
+    fs::write(dir.join("expected"), expected)
+}
+
+/// One case of a field rule: the letter of the rule and the bytes it is given.
+///
+/// | letter | rule | bytes |
+/// |---|---|---|
+/// | `n` | digits | the field |
+/// | `a` | amount | the field |
+/// | `d` | date | the field |
+/// | `w` | digit writer | one byte of length, eight of value, big-endian |
+/// | `b` | blank | the slice |
+/// | `e` | equality | one byte, the length of the first slice; both slices |
+#[derive(Clone, Debug, Eq, PartialEq)]
+pub struct FieldCase {
+    pub rule: u8,
+    pub bytes: Vec<u8>,
+}
+
+impl FieldCase {
+    /// The line of the input file: the letter, then lower-case hex pairs.
+    pub fn line(&self) -> String {
+        let mut line = String::from(char::from(self.rule));
+        for byte in &self.bytes {
+            let _ = write!(line, "{byte:02x}");
+        }
+        line
+    }
+
+    /// The line of the output file.
+    pub fn answer(&self) -> String {
+        match self.rule {
+            b'n' => value_line(fields::digits(&self.bytes)),
+            b'a' => value_line(fields::amount(&self.bytes)),
+            b'd' => date_line(fields::date(&self.bytes)),
+            b'w' => writer_line(&self.bytes),
+            b'b' => yes_or_no(fields::is_blank(&self.bytes)),
+            b'e' => equality_line(&self.bytes),
+            _ => String::from("no such rule"),
+        }
+    }
+}
+
+fn value_line(result: Result<u64, u8>) -> String {
+    match result {
+        Ok(value) => format!("value {value}"),
+        Err(number) => format!("refused {number}"),
+    }
+}
+
+fn date_line(result: Result<fields::Date, u8>) -> String {
+    match result {
+        Ok(date) => format!("day {} month {} year {}", date.day, date.month, date.year),
+        Err(number) => format!("refused {number}"),
+    }
+}
+
+fn writer_line(bytes: &[u8]) -> String {
+    let Some((&len, value)) = bytes.split_first() else {
+        return String::new();
+    };
+    let value = value
+        .iter()
+        .fold(0, |sum, &byte| sum << 8 | u64::from(byte));
+    let mut out = vec![b'?'; usize::from(len)];
+    fields::write_digits(&mut out, value);
+    out.into_iter().map(char::from).collect()
+}
+
+fn equality_line(bytes: &[u8]) -> String {
+    let (first, second) = match bytes.split_first() {
+        Some((&len, rest)) => rest.split_at(usize::from(len).min(rest.len())),
+        None => (bytes, bytes),
+    };
+    yes_or_no(fields::is_equal(first, second))
+}
+
+fn yes_or_no(yes: bool) -> String {
+    String::from(if yes { "yes" } else { "no" })
+}
+
+/// The input and the output file of the field rules.
+pub fn field_files() -> (String, String) {
+    let (mut input, mut output) = (String::new(), String::new());
+    for case in field_cases() {
+        input.push_str(&case.line());
+        input.push('\n');
+        output.push_str(&case.answer());
+        output.push('\n');
+    }
+    output.push_str(&six_digits_line());
+    output.push('\n');
+    (input, output)
+}
+
+/// The last line of the output: all strings of six digits through the date
+/// rule.
+fn six_digits_line() -> String {
+    let (mut dates, mut no_date, mut not_digits) = (0, 0, 0);
+    let mut field = [0; fields::DATE_LEN];
+    for value in 0..1_000_000 {
+        fields::write_digits(&mut field, value);
+        match fields::date(&field) {
+            Ok(_) => dates += 1,
+            Err(fields::NO_DATE) => no_date += 1,
+            Err(_) => not_digits += 1,
+        }
+    }
+    format!("six digits: dates {dates} refused-8 {no_date} refused-5 {not_digits}")
+}
+
+/// All cases of the field rules.
+pub fn field_cases() -> Vec<FieldCase> {
+    let mut cases = Cases(Vec::new());
+    cases.digits();
+    cases.amounts();
+    cases.dates();
+    cases.writer();
+    cases.blanks();
+    cases.equality();
+    cases.0
+}
+
+/// Bytes that are no digits: the neighbours of the digits and of the blank,
+/// both ends of a byte, a digit with its high bit set, and marks that a
+/// lenient number parser would take.
+const INTRUDERS: [u8; 14] = [
+    0, 9, 10, 31, b' ', b'+', b'-', b'.', b'/', b':', b'a', 127, 0xb1, 255,
+];
+
+struct Cases(Vec<FieldCase>);
+
+impl Cases {
+    fn push(&mut self, rule: u8, bytes: &[u8]) {
+        let bytes = bytes.to_vec();
+        let case = FieldCase { rule, bytes };
+        if !self.0.contains(&case) {
+            self.0.push(case);
+        }
+    }
+
+    /// The right field `bytes`, then each byte of `places` replaced by each
+    /// intruder.
+    fn intrude(&mut self, rule: u8, bytes: &[u8], places: &[usize]) {
+        self.push(rule, bytes);
+        for &place in places {
+            for intruder in INTRUDERS {
+                let mut bytes = bytes.to_vec();
+                if let Some(byte) = bytes.get_mut(place) {
+                    *byte = intruder;
+                    self.push(rule, &bytes);
+                }
+            }
+        }
+    }
+
+    /// Right and wrong fields of a number of `len` bytes.
+    fn number(&mut self, rule: u8, len: usize) {
+        self.push(rule, &vec![b'0'; len]);
+        self.push(rule, &vec![b'9'; len]);
+        self.push(rule, &vec![b' '; len]);
+        let rising: Vec<u8> = (0..len).map(|i| b'0' + ((i + 1) % 10) as u8).collect();
+        self.push(rule, &rising);
+        for place in [0, len / 2, len - 1] {
+            let mut single = vec![b'0'; len];
+            single[place] = b'1';
+            self.push(rule, &single);
+        }
+    }
+
+    fn digits(&mut self) {
+        self.push(b'n', b"");
+        self.push(b'n', b"83050");
+        for byte in 0..=255 {
+            self.push(b'n', &[byte]);
+        }
+        for len in [1, 2, 5, 7, 13, 14, 15, 16, 17, 19, 20, 21, 32] {
+            self.number(b'n', len);
+        }
+        self.intrude(b'n', b"83050", &[0, 1, 2, 3, 4]);
+        self.intrude(b'n', b"0000016", &[0, 3, 6]);
+        self.intrude(b'n', b"999999999999999", &[0, 7, 14]);
+        self.intrude(b'n', b"0999999999999999", &[0, 7, 15]);
+    }
+
+    fn amounts(&mut self) {
+        self.push(b'a', b"");
+        self.push(b'a', b"45000");
+        for len in [1, 12, 13, 14, 15, 16, 26] {
+            self.number(b'a', len);
+        }
+        self.intrude(b'a', b"0000000045000", &[0, 1, 6, 11, 12]);
+        self.intrude(b'a', b"000000045000", &[0, 11]);
+        self.intrude(b'a', b"00000000045000", &[0, 13]);
+        self.push(b'a', b"        45000");
+        self.push(b'a', b"45000        ");
+        self.push(b'a', b"0000000450.00");
+        self.push(b'a', b"00000000450,0");
+    }
+
+    fn dates(&mut self) {
+        for len in [0, 1, 4, 5, 7, 8, 12] {
+            self.push(b'd', &b"010101010101"[..len]);
+            self.push(b'd', &b"            "[..len]);
+        }
+        self.push(b'd', b"      ");
+        self.push(b'd', b"15032026");
+        self.push(b'd', b"2026-03-15");
+        for year in 0..100 {
+            self.day(29, 2, year);
+        }
+        for year in [0, 26, 28, 99] {
+            for month in 0..=14 {
+                for day in [0, 1, 28, 29, 30, 31, 32] {
+                    self.day(day, month, year);
+                }
+            }
+        }
+        for day in [0, 28, 30, 31, 32, 39, 99] {
+            self.day(day, 2, 96);
+            self.day(day, 20, 96);
+            self.day(day, 99, 96);
+        }
+        self.push(b'd', b"000000");
+        self.push(b'd', b"999999");
+        self.intrude(b'd', b"150326", &[0, 1, 2, 3, 4, 5]);
+        // No digits and no date either: the digits come first.
+        self.intrude(b'd', b"320026", &[4, 5]);
+        self.intrude(b'd', b"001326", &[4, 5]);
+    }
+
+    fn day(&mut self, day: u8, month: u8, year: u8) {
+        self.push(b'd', format!("{day:02}{month:02}{year:02}").as_bytes());
+    }
+
+    fn writer(&mut self) {
+        let mut values = vec![0, 5, 83050, 9_999_999, 123_456_789_012_345];
+        for exponent in 1..20 {
+            let power = 10_u64.pow(exponent);
+            values.extend([power - 1, power]);
+        }
+        values.extend([1 << 32, (1 << 32) - 1, 1 << 63, u64::MAX - 1, u64::MAX]);
+        for len in [0, 1, 2, 5, 7, 13, 15, 19, 20, 21, 32] {
+            for value in &values {
+                let mut bytes = vec![len];
+                bytes.extend(value.to_be_bytes());
+                self.push(b'w', &bytes);
+            }
+        }
+    }
+
+    fn blanks(&mut self) {
+        self.push(b'b', b"");
+        for byte in 0..=255 {
+            self.push(b'b', &[byte]);
+        }
+        for len in [2, 5, 7, 8, 9, 16, 17, 20, 24, 30, 33] {
+            self.push(b'b', &vec![b' '; len]);
+            for place in [0, len / 2, len - 1] {
+                for byte in [0, 31, 33, 0xa0, 255] {
+                    let mut bytes = vec![b' '; len];
+                    bytes[place] = byte;
+                    self.push(b'b', &bytes);
+                }
+            }
+        }
+    }
+
+    fn equality(&mut self) {
+        for len in [0, 1, 2, 5, 7, 8, 16, 20] {
+            let first: Vec<u8> = (0..len).map(|i| b"AB 123"[i % 6]).collect();
+            self.pair(&first, &first);
+            for byte in [0, 31, b' ', 33, b'B', 255] {
+                let longer = [&first[..], &[byte]].concat();
+                self.pair(&first, &longer);
+                self.pair(&longer, &first);
+                self.pair(&[&[byte], &first[..]].concat(), &first);
+            }
+            for place in [0, len / 2, len.saturating_sub(1)] {
+                for byte in [0, 31, b' ', 33, 255] {
+                    let mut second = first.clone();
+                    if let Some(changed) = second.get_mut(place) {
+                        *changed = byte;
+                        self.pair(&first, &second);
+                        self.pair(&second, &first);
+                    }
+                }
+            }
+        }
+        self.pair(b"", b"AB123");
+        self.pair(b"AB123", b"");
+        self.pair(b"ab123", b"AB123");
+        self.pair(b"12345", b"54321");
+        self.pair(b"\0\0\0", b"\0\0");
+    }
+
+    fn pair(&mut self, first: &[u8], second: &[u8]) {
+        let mut bytes = vec![first.len() as u8];
+        bytes.extend(first);
+        bytes.extend(second);
+        self.push(b'e', &bytes);
+    }
+}

@@ -1,0 +1,135 @@
+//! The command, and the generated files.
+
+mod common;
+
+use std::fs;
+use std::io::Write;
+use std::path::PathBuf;
+use std::process::{Command, Output, Stdio};
+
+use common::*;
+use oracle::tally::{tally, NUMBERS};
+use oracle::{generate, program, rng::Rng};
+
+fn oracle(args: &[&str], input: &[u8]) -> Output {
+    let mut child = Command::new(env!("CARGO_BIN_EXE_oracle"))
+        .args(args)
+        .stdin(Stdio::piped())
+        .stdout(Stdio::piped())
+        .stderr(Stdio::piped())
+        .spawn()
+        .unwrap();
+    // The command may end before it has read all of a long input.
+    let _ = child.stdin.take().unwrap().write_all(input);
+    child.wait_with_output().unwrap()
+}
+
+fn judged(input: &[u8]) -> String {
+    let output = oracle(&["judge"], input);
+    assert!(output.status.success());
+    assert!(output.stderr.is_empty());
+    String::from_utf8(output.stdout).unwrap()
+}
+
+#[test]
+fn judge_prints_one_line() {
+    let flow = two_rents().bytes();
+    let due = "accepted dispositions 2 cents 83050 records 16\n";
+    assert_eq!(judged(&flow), due);
+    let wrong = two_rents().with(10, 4, b"0000001").bytes();
+    assert_eq!(judged(&wrong), "refused 9 record 10 position 4\n");
+    let none = "refused 1 record 0 position 0\n";
+    assert_eq!(judged(b""), none);
+    assert_eq!(judged(&[&flow[..], b"\n"].concat()), none);
+}
+
+#[test]
+fn judge_holds_546_records() {
+    let too_long = "too long for this program\n";
+    assert_eq!(judged(&[b' '; 65_520]), "refused 3 record 1 position 2\n");
+    assert_eq!(judged(&[b' '; 65_521]), too_long);
+    assert_eq!(judged(&vec![0; 1_000_000]), too_long);
+    let draft = generate::draft(&mut Rng::new(5), generate::Size::Program);
+    let flow = draft.flow();
+    assert_eq!(flow.len(), 65_520);
+    let line = program::line(&flow);
+    assert!(line.starts_with("accepted dispositions ") && line.ends_with(" records 546"));
+    assert_eq!(judged(&flow), line + "\n");
+}
+
+#[test]
+fn bad_usage_is_one_sentence_and_status_2() {
+    for args in [
+        &[][..],
+        &["judge", "file"],
+        &["sample"],
+        &["vectors"],
+        &["vectors", "fields", "a"],
+        &["vectors", "flows", "one", "2", "dir"],
+        &["tally", "1"],
+        &["tally", "1", "-5"],
+        &["help"],
+    ] {
+        let output = oracle(args, b"");
+        assert_eq!(output.status.code(), Some(2), "{args:?}");
+        assert!(output.stdout.is_empty());
+        let sentence = String::from_utf8(output.stderr).unwrap();
+        assert_eq!(sentence.lines().count(), 1);
+    }
+}
+
+fn scratch(name: &str) -> PathBuf {
+    let dir = PathBuf::from(env!("CARGO_TARGET_TMPDIR")).join(name);
+    let _ = fs::remove_dir_all(&dir);
+    dir
+}
+
+#[test]
+fn samples_are_written() {
+    let dir = scratch("samples");
+    let output = oracle(&["sample", dir.to_str().unwrap()], b"");
+    assert!(output.status.success());
+    let flow = fs::read(dir.join("two-rents.flow")).unwrap();
+    assert_eq!(flow, two_rents().bytes());
+    let list = fs::read(dir.join("two-rents.list")).unwrap();
+    assert_eq!(list, two_rents_list());
+    let table = fs::read_to_string(dir.join("README.md")).unwrap();
+    for number in [1, 2, 3, 4, 5, 6, 7, 8, 9, 10, 11, 12, 13, 14, 17, 20, 21] {
+        assert!(table.contains(&format!("`refused {number} record")));
+    }
+}
+
+#[test]
+fn flow_vectors_are_written() {
+    let dir = scratch("flows");
+    let path = dir.to_str().unwrap();
+    let output = oracle(&["vectors", "flows", "9", "40", path], b"");
+    assert!(output.status.success());
+    let expected = fs::read_to_string(dir.join("expected")).unwrap();
+    assert_eq!(expected.lines().count(), 40);
+    for (index, line) in expected.lines().enumerate() {
+        let file = dir.join(format!("{:06}.flow", index + 1));
+        assert_eq!(program::line(&fs::read(file).unwrap()), line);
+    }
+}
+
+#[test]
+fn the_same_seed_gives_the_same_cases() {
+    let flow = generate::flow_case;
+    let list = |seed, index| generate::list(&mut Rng::for_case(seed, index));
+    for index in 0..50 {
+        assert_eq!(flow(1, index), flow(1, index));
+        assert_eq!(list(1, index), list(1, index));
+        assert_ne!(flow(1, index), flow(2, index + 100));
+    }
+    assert_eq!(tally(3, 600), tally(3, 600));
+}
+
+#[test]
+fn every_number_comes() {
+    let tally = tally(1, 100_000);
+    for number in NUMBERS {
+        assert!(tally.count(number) >= 100, "number {number}");
+    }
+    assert!(tally.accepted >= 10_000);
+}

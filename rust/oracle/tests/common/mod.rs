@@ -1,0 +1,306 @@
+//! The two-rent example of document 01 and its relatives, set down by hand
+//! position by position.
+
+#![allow(dead_code)]
+
+use oracle::answer::{Answer, Refusal};
+
+pub fn accepted(dispositions: u64, cents: u64, records: u64) -> Answer {
+    Answer::Accepted {
+        dispositions,
+        cents,
+        records,
+    }
+}
+
+pub fn refused(number: u8, record: u64, position: u8) -> Answer {
+    Answer::Refused {
+        number,
+        record,
+        position,
+    }
+}
+
+pub fn refusal(number: u8, record: u64, position: u8) -> Refusal {
+    Refusal {
+        number,
+        record,
+        position,
+    }
+}
+
+/// A record of blanks with texts at positions.
+pub fn row(texts: &[(usize, &str)]) -> Vec<u8> {
+    let mut record = vec![b' '; 120];
+    for (position, text) in texts {
+        record[position - 1..position - 1 + text.len()].copy_from_slice(text.as_bytes());
+    }
+    record
+}
+
+pub fn header() -> Vec<u8> {
+    row(&[
+        (2, "IM"),
+        (4, "AB123"),
+        (9, "01234"),
+        (14, "150326"),
+        (20, "RENT-MARCH"),
+        (114, "E"),
+    ])
+}
+
+pub fn opening(number: &str, cents: &str, customer: &str) -> Vec<u8> {
+    row(&[
+        (2, "14"),
+        (4, number),
+        (23, "310326"),
+        (29, "07000"),
+        (34, cents),
+        (47, "-"),
+        (48, "01234"),
+        (53, "02400"),
+        (58, "000000123456"),
+        (92, "AB123"),
+        (97, "2"),
+        (98, customer),
+        (120, "E"),
+    ])
+}
+
+pub fn account(number: &str) -> Vec<u8> {
+    row(&[(2, "16"), (4, number), (11, "IT60X0123402400000000123456")])
+}
+
+pub fn creditor(number: &str) -> Vec<u8> {
+    row(&[
+        (2, "20"),
+        (4, number),
+        (11, "RESIDENZA SAN MARTINO"),
+        (35, "VIA DEI COLLEGI 12"),
+        (59, "20100 MILANO MI"),
+    ])
+}
+
+pub fn debtor(number: &str, name: &str, tax_code: &str) -> Vec<u8> {
+    row(&[(2, "30"), (4, number), (11, name), (71, tax_code)])
+}
+
+pub fn address(number: &str, room: &str) -> Vec<u8> {
+    row(&[
+        (2, "40"),
+        (4, number),
+        (11, "VIA DEI COLLEGI 12"),
+        (41, "20100"),
+        (46, "MILANO MI"),
+        (71, room),
+    ])
+}
+
+pub fn detail(kind: &str, number: &str) -> Vec<u8> {
+    row(&[(2, kind), (4, number), (11, "RETTA MARZO 2026")])
+}
+
+pub fn reference(number: &str, text: &str) -> Vec<u8> {
+    row(&[(2, "51"), (4, number), (11, text)])
+}
+
+pub fn closing(number: &str) -> Vec<u8> {
+    row(&[(2, "70"), (4, number)])
+}
+
+pub fn trailer(count: &str, total: &str, records: &str) -> Vec<u8> {
+    row(&[
+        (2, "EF"),
+        (4, "AB123"),
+        (9, "01234"),
+        (14, "150326"),
+        (20, "RENT-MARCH"),
+        (46, count),
+        (53, total),
+        (68, "000000000000000"),
+        (83, records),
+        (114, "E"),
+    ])
+}
+
+/// The seven records of the first rent.
+pub fn first_rent(number: &str) -> Vec<Vec<u8>> {
+    vec![
+        opening(number, "0000000045000", "S0017"),
+        creditor(number),
+        debtor(number, "ROSSI GIULIA", "RSSGLI05A41F205X"),
+        address(number, "STANZA 17"),
+        detail("50", number),
+        reference(number, "0000000017"),
+        closing(number),
+    ]
+}
+
+/// The seven records of the second rent.
+pub fn second_rent(number: &str) -> Vec<Vec<u8>> {
+    vec![
+        opening(number, "0000000038050", "S0023"),
+        creditor(number),
+        debtor(number, "BIANCHI MARCO", "BNCMRC04P12F205Y"),
+        address(number, "STANZA 23"),
+        detail("50", number),
+        reference(number, "0000000023"),
+        closing(number),
+    ]
+}
+
+/// The two-rent flow as 16 records.
+pub fn two_rents() -> Flow {
+    let mut records = vec![header()];
+    records.extend(first_rent("0000001"));
+    records.extend(second_rent("0000002"));
+    records.push(trailer("0000002", "000000000083050", "0000016"));
+    Flow(records)
+}
+
+/// A flow with a 16 and five 59 in its first disposition, so that every type
+/// of record stands in it: IM, 14, 16, 20, 30, 40, 59 * 5, 51, 70, then the
+/// seven of the second rent, EF. 21 records.
+pub fn all_types() -> Flow {
+    let mut first = first_rent("0000001");
+    first.splice(4..5, vec![detail("59", "0000001"); 5]);
+    first.insert(1, account("0000001"));
+    let mut records = vec![header()];
+    records.extend(first);
+    records.extend(second_rent("0000002"));
+    records.push(trailer("0000002", "000000000083050", "0000021"));
+    Flow(records)
+}
+
+/// One rent alone.
+pub fn one_rent() -> Flow {
+    let mut records = vec![header()];
+    records.extend(first_rent("0000001"));
+    records.push(trailer("0000001", "000000000045000", "0000009"));
+    Flow(records)
+}
+
+/// The request list of the two-rent flow.
+pub fn two_rents_list() -> Vec<u8> {
+    let mut list = header_item();
+    list.extend(rent_items(
+        "0000000045000",
+        "S0017",
+        "ROSSI GIULIA",
+        "RSSGLI05A41F205X",
+        "STANZA 17",
+        "0000000017",
+    ));
+    list.extend(rent_items(
+        "0000000038050",
+        "S0023",
+        "BIANCHI MARCO",
+        "BNCMRC04P12F205Y",
+        "STANZA 23",
+        "0000000023",
+    ));
+    list
+}
+
+pub fn header_item() -> Vec<u8> {
+    item(
+        'H',
+        &[
+            ("AB123", 5),
+            ("01234", 5),
+            ("150326", 6),
+            ("RENT-MARCH", 20),
+            ("", 6),
+            ("", 7),
+        ],
+    )
+}
+
+fn rent_items(
+    cents: &str,
+    customer: &str,
+    name: &str,
+    tax_code: &str,
+    room: &str,
+    reference: &str,
+) -> Vec<u8> {
+    [
+        item(
+            'D',
+            &[
+                ("310326", 6),
+                (cents, 13),
+                ("02400", 5),
+                ("000000123456", 12),
+                ("AB123", 5),
+                ("2", 1),
+                (customer, 16),
+            ],
+        ),
+        item(
+            'C',
+            &[
+                ("RESIDENZA SAN MARTINO", 24),
+                ("VIA DEI COLLEGI 12", 24),
+                ("20100 MILANO MI", 24),
+                ("", 24),
+            ],
+        ),
+        item('B', &[(name, 30), ("", 30), (tax_code, 16)]),
+        item(
+            'A',
+            &[
+                ("VIA DEI COLLEGI 12", 30),
+                ("20100", 5),
+                ("MILANO MI", 25),
+                (room, 50),
+            ],
+        ),
+        item('R', &[("RETTA MARZO 2026", 110)]),
+        item('K', &[(reference, 110)]),
+        item('Z', &[("", 26)]),
+    ]
+    .concat()
+}
+
+/// A kind byte and texts padded with blanks.
+pub fn item(kind: char, texts: &[(&str, usize)]) -> Vec<u8> {
+    let mut bytes = vec![kind as u8];
+    for (text, len) in texts {
+        bytes.extend(format!("{text:len$}").bytes());
+    }
+    bytes
+}
+
+/// Records that can be changed by record and position, both from 1.
+#[derive(Clone)]
+pub struct Flow(pub Vec<Vec<u8>>);
+
+impl Flow {
+    pub fn bytes(&self) -> Vec<u8> {
+        self.0.concat()
+    }
+
+    /// The flow with bytes put into one record.
+    pub fn with(mut self, record: usize, position: usize, bytes: &[u8]) -> Flow {
+        self.0[record - 1][position - 1..position - 1 + bytes.len()].copy_from_slice(bytes);
+        self
+    }
+
+    /// The flow with a record before this one.
+    pub fn insert(mut self, record: usize, bytes: Vec<u8>) -> Flow {
+        self.0.insert(record - 1, bytes);
+        self
+    }
+
+    /// The flow without a record.
+    pub fn without(mut self, record: usize) -> Flow {
+        self.0.remove(record - 1);
+        self
+    }
+
+    /// The reader's answer.
+    pub fn read(&self) -> Answer {
+        oracle::reader::read(&self.bytes())
+    }
+}
