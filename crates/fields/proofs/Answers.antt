@@ -1,6 +1,7 @@
 -- What an answer tells of the tests that led to it. Assumes nothing.
 use Prim.Native.Nat.{ℕ}
-use mathlib.Core.Path.{_≡_, refl, sym}
+use mathlib.Core.Path.{_≡_, refl, sym, _∙_, ap}
+use mathlib.Core.Logic.{_↔_, _⊎_, inl, inr}
 use mathlib.Core.Bool.{Bool, true, false, cond}
 use native.Mathlib.Omega.{arith}
 use Rattle.fields.specs.Answer.{Answer, accepted, refused}
@@ -20,6 +21,24 @@ module _ {A : Type 0} where
   pub passed : (b : Bool) (x : Answer A) (n : ℕ) {y : A} → cond b x (refused n) ≡ accepted y → (b ≡ true) × (x ≡ accepted y)
   passed true x n e = (refl, e)
   passed false x n e = absurd (accepted-not-refused (sym e))
+
+  pub refused-same : {n m : ℕ} → _≡_ {A = Answer A} (refused n) (refused m) → n ≡ m
+  refused-same e = cc
+
+  -- an answer that is a value where P holds, and else the refusal k, is a refusal exactly where P fails, and then by k
+  pub refused-exactly : {P : Type 0} (x : Answer A) (k : ℕ) → (P → (y : A) × (x ≡ accepted y)) → P ⊎ (x ≡ refused k) → (n : ℕ) → (x ≡ refused n) ↔ ((n ≡ k) × ¬ P)
+  refused-exactly {P} x k value decided n = (λ e. (number decided e, fails e), λ h. left decided h)
+    where
+      fails : {m : ℕ} → x ≡ refused m → ¬ P
+      fails e p = accepted-not-refused (sym (value p .1) ∙ e)
+
+      number : P ⊎ (x ≡ refused k) → x ≡ refused n → n ≡ k
+      number (inl p) e = absurd (fails e p)
+      number (inr f) e = refused-same (sym e ∙ f)
+
+      left : P ⊎ (x ≡ refused k) → (n ≡ k) × ¬ P → x ≡ refused n
+      left (inl p) h = absurd (h .1 p)
+      left (inr f) h = f ∙ ap refused (sym (h .0))
 
   -- what was refused, where the test's passing would have been accepted, has failed it
   pub failed : (b : Bool) (x : A) (n m : ℕ) → cond b (accepted x) (refused n) ≡ refused m → b ≡ false

@@ -3,17 +3,18 @@ use Prim.Native.Nat.{ℕ, _+_, _-_, _*_, _^_, _≤_, _<_}
 use mathlib.Core.Path.{_≡_, refl, sym, _∙_}
 use mathlib.Core.Bool.{Bool, true, false, cond, _&&_, and-eq-true-iff}
 use mathlib.Core.List.{List}
+use mathlib.Core.Logic.{_⊎_, inl, inr}
 use native.Mathlib.Omega.{arith}
 use lib.Dec.{leb, eqb}
 use lib.ListN.{length, drop, getD, drop-of-length-le}
-use borrow.Author.Tests.{leb-true, le-leb, lt-leb, eqb-true}
+use borrow.Author.Tests.{leb-true, le-leb, lt-leb, eq-eqb, eqb-true}
 use Rattle.sequences.specs.Every.{every}
 use Rattle.sequences.proofs.Drop.{drop-next}
 use Rattle.fields.specs.Amount.{amountField}
 use Rattle.fields.specs.Answer.{Answer, accepted, refused, notDigits}
 use Rattle.fields.specs.Digits.{isDigit, isDigits, numberFrom, number, digits, digitsFrom, digitField}
-use Rattle.fields.specs.Laws.{FieldExact, AmountExact}
-use Rattle.fields.proofs.Answers.{passed, accepted-same}
+use Rattle.fields.specs.Laws.{FieldExact, AmountExact, FieldRefused, AmountRefused}
+use Rattle.fields.proofs.Answers.{passed, accepted-same, refused-exactly}
 use Rattle.fields.proofs.Decimal.{number-below, written-length, written-digits, written-read-fits, read-written}
 
 -- which bytes are digits
@@ -80,6 +81,42 @@ amount-exact bs v = (read, write)
 
     write : (v < 10 ^ 13) × (bs ≡ digits 13 v) → amountField bs ≡ accepted v
     write h = rw (h .1, written-length 13 v) (field-written 13 v (omega arith) (omega arith) (h .0))
+
+-- digits of a right length give their number
+digitField-value : (bs : List ℕ) → 1 ≤ length bs → length bs ≤ 15 → isDigits bs ≡ true → digitField bs ≡ accepted (number bs)
+digitField-value bs some few all = digitField-sized bs some few ∙ rw all
+
+pub field-refused : FieldRefused
+unfolding digitField
+field-refused bs =
+    refused-exactly (digitField bs) notDigits (λ h. (number bs, digitField-value bs (h .0) (h .1) (h .2)))
+    (decided (leb 1 (length bs) && leb (length bs) 15) (isDigits bs) refl refl)
+  where
+    decided :
+        (a b : Bool)
+        → (leb 1 (length bs) && leb (length bs) 15) ≡ a → isDigits bs ≡ b
+        → ((1 ≤ length bs) × (length bs ≤ 15) × (isDigits bs ≡ true)) ⊎ (digitField bs ≡ refused notDigits)
+    decided false b sized all = inr (rw sized)
+    decided true false sized all = inr (rw (sized, all))
+    decided true true sized all =
+        let ends = and-eq-true-iff (leb 1 (length bs)) (leb (length bs) 15) .0 sized in
+        inl (leb-true 1 (length bs) (ends .0), leb-true (length bs) 15 (ends .1), all)
+
+pub amount-refused : AmountRefused
+unfolding amountField
+amount-refused bs =
+    refused-exactly (amountField bs) notDigits (λ h. (number bs, rw (eq-eqb (length bs) 13 (h .0)) (value h)))
+    (decided (eqb (length bs) 13) (isDigits bs) refl refl)
+  where
+    value : (length bs ≡ 13) × (isDigits bs ≡ true) → digitField bs ≡ accepted (number bs)
+    value h = digitField-value bs (omega arith) (omega arith) (h .1)
+
+    decided : (a b : Bool) → eqb (length bs) 13 ≡ a → isDigits bs ≡ b → ((length bs ≡ 13) × (isDigits bs ≡ true)) ⊎ (amountField bs ≡ refused notDigits)
+    decided false b sized all = inr (rw sized)
+    decided true false sized all =
+        let thirteen = eqb-true (length bs) 13 sized in
+        inr (rw sized (digitField-sized bs (omega arith) (omega arith) ∙ rw all))
+    decided true true sized all = inl (eqb-true (length bs) 13 sized, all)
 
 -- for a loop over i: the digit at i, then the rest; and past the end the number is read
 pub digitsFrom-next :

@@ -1,7 +1,8 @@
--- The date rule accepts exactly the days of the Gregorian calendar from 1 January 2000 to 31 December 2099. Assumes nothing.
+-- The date rule accepts exactly the days of the Gregorian calendar from 1 January 2000 to 31 December 2099, and refuses what is not six
+-- digits by 5 and other six digits by 8. Assumes nothing.
 use Prim.Native.Nat.{ℕ, _+_, _-_, _%_, _^_, _≤_, _<_}
 use mathlib.Core.Path.{_≡_, refl, sym, _∙_, ap, subst}
-use mathlib.Core.Bool.{Bool, true, false, not, cond, _&&_, _||_, and-eq-true-iff, or-true}
+use mathlib.Core.Bool.{Bool, true, false, not, cond, _&&_, _||_, and-eq-true-iff, or-true, true≢false}
 use mathlib.Core.List.{List, _++_}
 use mathlib.Core.Logic.{_⊎_, inl, inr, ⊎-elim}
 use native.Mathlib.Nat.{le-of-suc-le-suc, eq-or-lt-of-le}
@@ -13,12 +14,12 @@ use borrow.Author.Tests.{leb-true, le-leb, eqb-true, eqb-false, eq-eqb, ne-eqb, 
 use Rattle.sequences.specs.Part.{part}
 use Rattle.sequences.proofs.Below.{below}
 use Rattle.sequences.proofs.Every.{every-append}
-use Rattle.fields.specs.Answer.{accepted, notDigits, noSuchDay}
+use Rattle.fields.specs.Answer.{accepted, refused, notDigits, noSuchDay}
 use Rattle.fields.specs.Calendar.{Day, commonYear, isLeap, daysIn, isDay, Leap, Gregorian}
 use Rattle.fields.specs.Date.{dayOf, onCalendar, dateField, dateDigits}
 use Rattle.fields.specs.Digits.{isDigits, number, digits}
-use Rattle.fields.specs.Laws.{DateExact}
-use Rattle.fields.proofs.Answers.{passed, accepted-same}
+use Rattle.fields.specs.Laws.{SixDigits, DateExact, DateRefused}
+use Rattle.fields.proofs.Answers.{accepted-same, refused-same, accepted-not-refused}
 use Rattle.fields.proofs.Dates.{two, three-parts, parts-digits, small}
 use Rattle.fields.proofs.Decimal.{written-length, written-digits, written-read-fits, read-written}
 
@@ -113,14 +114,51 @@ module _ (bs : List ℕ) (six : length bs ≡ 6) (all : isDigits bs ≡ true) wh
       ap₃ : {a b c d e f : List ℕ} → a ≡ b → c ≡ d → e ≡ f → a ++ (c ++ e) ≡ b ++ (d ++ f)
       ap₃ p q r = cc
 
-date-read : (bs : List ℕ) (t : Day) → dateField bs ≡ accepted t → Gregorian t × (2000 ≤ t .year) × (t .year ≤ 2099) × (bs ≡ dateDigits t)
+-- the three ways that the rule can go
+data Outcome (bs : List ℕ) : Type 0 where
+  no-digits : ¬ SixDigits bs → dateField bs ≡ refused notDigits → Outcome bs
+  no-day : SixDigits bs → ¬ Gregorian (dayOf bs) → dateField bs ≡ refused noSuchDay → Outcome bs
+  a-day : SixDigits bs → Gregorian (dayOf bs) → dateField bs ≡ accepted (dayOf bs) → Outcome bs
+
+outcome : (bs : List ℕ) → Outcome bs
 unfolding dateField
-date-read bs t e =
-    let digit = passed (eqb (length bs) 6 && isDigits bs) (onCalendar (dayOf bs)) notDigits e in
-    let both = and-eq-true-iff (eqb (length bs) 6) (isDigits bs) .0 (digit .0) in
-    let on = passed (isDay (dayOf bs .day) (dayOf bs .month) (dayOf bs .year)) (accepted (dayOf bs)) noSuchDay (digit .1) in
-    let n = named bs (eqb-true (length bs) 6 (both .0)) (both .1) in
-    subst (λ (u : Day). Gregorian u × (2000 ≤ u .year) × (u .year ≤ 2099) × (bs ≡ dateDigits u)) (accepted-same (on .1)) (day-said (dayOf bs) (on .0), n .0, n .1, n .2)
+outcome bs = go (eqb (length bs) 6 && isDigits bs) (isDay (dayOf bs .day) (dayOf bs .month) (dayOf bs .year)) refl refl
+  where
+    six : (eqb (length bs) 6 && isDigits bs) ≡ true → SixDigits bs
+    six e =
+        let both = and-eq-true-iff (eqb (length bs) 6) (isDigits bs) .0 e in
+        (eqb-true (length bs) 6 (both .0), both .1)
+
+    go : (a b : Bool) → (eqb (length bs) 6 && isDigits bs) ≡ a → isDay (dayOf bs .day) (dayOf bs .month) (dayOf bs .year) ≡ b → Outcome bs
+    go false b e f = no-digits (λ s. true≢false (sym (rw (eq-eqb (length bs) 6 (s .0), s .1)) ∙ e)) (rw e)
+    go true false e f = no-day (six e) (λ g. true≢false (sym (day-tested (dayOf bs) g) ∙ f)) (rw (e, f))
+    go true true e f = a-day (six e) (day-said (dayOf bs) f) (rw (e, f))
+
+date-read : (bs : List ℕ) (t : Day) → dateField bs ≡ accepted t → Gregorian t × (2000 ≤ t .year) × (t .year ≤ 2099) × (bs ≡ dateDigits t)
+date-read bs t f = go (outcome bs)
+  where
+    go : Outcome bs → Gregorian t × (2000 ≤ t .year) × (t .year ≤ 2099) × (bs ≡ dateDigits t)
+    go (no-digits s e) = absurd (accepted-not-refused (sym f ∙ e))
+    go (no-day s g e) = absurd (accepted-not-refused (sym f ∙ e))
+    go (a-day s g e) =
+        let n = named bs (s .0) (s .1) in
+        subst (λ (u : Day). Gregorian u × (2000 ≤ u .year) × (u .year ≤ 2099) × (bs ≡ dateDigits u)) (accepted-same (sym e ∙ f)) (g, n .0, n .1, n .2)
 
 pub date-exact : DateExact
 date-exact bs t = (date-read bs t, λ h. rw (h .3) (date-written t (h .0) (h .1) (h .2)))
+
+pub date-refused : DateRefused
+date-refused bs n = (by (outcome bs), back (outcome bs))
+  where
+    by : Outcome bs → dateField bs ≡ refused n → ((n ≡ 5) × ¬ SixDigits bs) ⊎ ((n ≡ 8) × SixDigits bs × ¬ Gregorian (dayOf bs))
+    by (no-digits s e) f = inl (refused-same (sym f ∙ e), s)
+    by (no-day s g e) f = inr (refused-same (sym f ∙ e), s, g)
+    by (a-day s g e) f = absurd (accepted-not-refused (sym e ∙ f))
+
+    back : Outcome bs → ((n ≡ 5) × ¬ SixDigits bs) ⊎ ((n ≡ 8) × SixDigits bs × ¬ Gregorian (dayOf bs)) → dateField bs ≡ refused n
+    back (no-digits s e) (inl h) = e ∙ ap refused (sym (h .0))
+    back (no-digits s e) (inr h) = absurd (s (h .1))
+    back (no-day s g e) (inl h) = absurd (h .1 s)
+    back (no-day s g e) (inr h) = e ∙ ap refused (sym (h .0))
+    back (a-day s g e) (inl h) = absurd (h .1 s)
+    back (a-day s g e) (inr h) = absurd (h .2 g)

@@ -4,13 +4,13 @@ use Prim.Native.Nat.{ℕ, _%_, _^_, _≤_, _<_}
 use mathlib.Core.Path.{_≡_}
 use mathlib.Core.Bool.{true}
 use mathlib.Core.List.{List}
-use mathlib.Core.Logic.{_↔_}
+use mathlib.Core.Logic.{_↔_, _⊎_}
 use lib.ListN.{length, replicate}
 use Rattle.fields.specs.Amount.{amountField}
-use Rattle.fields.specs.Answer.{accepted, numberAnswer, dateAnswer}
+use Rattle.fields.specs.Answer.{accepted, refused, numberAnswer, dateAnswer}
 use Rattle.fields.specs.Bytes.{isBlank, isEqual}
 use Rattle.fields.specs.Calendar.{Day, Gregorian}
-use Rattle.fields.specs.Date.{dateField, dateDigits}
+use Rattle.fields.specs.Date.{dayOf, dateField, dateDigits}
 use Rattle.fields.specs.Digits.{isDigits, number, digits, digitField}
 use Rattle.fields.specs.declared.date.Date.{Date}
 use Rattle.fields.specs.declared.digits.Number.{Number}
@@ -48,6 +48,23 @@ AmountExact = (bs : List ℕ) (v : ℕ) → (amountField bs ≡ accepted v) ↔ 
 abbrev pub DateExact : Type 0
 DateExact =
     (bs : List ℕ) (t : Day) → (dateField bs ≡ accepted t) ↔ (Gregorian t × (2000 ≤ t .year) × (t .year ≤ 2099) × (bs ≡ dateDigits t))
+
+-- what is refused, and by which number. A digit field: 5, where it is not 1 to 15 digits
+abbrev pub FieldRefused : Type 0
+FieldRefused =
+    (bs : List ℕ) (n : ℕ) → (digitField bs ≡ refused n) ↔ ((n ≡ 5) × ¬ ((1 ≤ length bs) × (length bs ≤ 15) × (isDigits bs ≡ true)))
+
+-- an amount: 5, where it is not thirteen digits
+abbrev pub AmountRefused : Type 0
+AmountRefused = (bs : List ℕ) (n : ℕ) → (amountField bs ≡ refused n) ↔ ((n ≡ 5) × ¬ ((length bs ≡ 13) × (isDigits bs ≡ true)))
+
+-- a date: 5, where it is not six digits; else 8, where the day that they name is none of the calendar
+abbrev pub SixDigits : List ℕ → Type 0
+SixDigits bs = (length bs ≡ 6) × (isDigits bs ≡ true)
+
+abbrev pub DateRefused : Type 0
+DateRefused =
+    (bs : List ℕ) (n : ℕ) → (dateField bs ≡ refused n) ↔ (((n ≡ 5) × ¬ SixDigits bs) ⊎ ((n ≡ 8) × SixDigits bs × ¬ Gregorian (dayOf bs)))
 
 -- equal slices are equal lists
 abbrev pub EqualExact : Type 0
