@@ -361,7 +361,7 @@ pub fn damage_list(rng: &mut Rng, list: &mut Vec<u8>) {
 }
 
 /// Swaps an item with another one; what follows the whole items stays.
-fn swap_items(rng: &mut Rng, list: &mut Vec<u8>, item: usize) {
+fn swap_items(rng: &mut Rng, list: &mut [u8], item: usize) {
     let mut rows: Vec<Vec<u8>> = items(list)
         .flatten()
         .map(|item| [&[item.layout.kind], item.body].concat())

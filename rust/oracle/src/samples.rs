@@ -1,13 +1,15 @@
-//! The sample files: right flows and lists, and one for each refusal number
-//! that reading or writing can give.
+//! The sample files: right flows and lists, and for each refusal number a file,
+//! with the call that gives it where reading alone does not.
 
 use std::fmt::Write;
 use std::path::Path;
 use std::{fs, io};
 
+use crate::amend::{change, withdraw};
 use crate::answer::Answer;
 use crate::fields::{write_digits, MAX_AMOUNT};
 use crate::generate::{blank, Draft};
+use crate::ledger::Call;
 use crate::list::write_flow;
 use crate::reader::read;
 use crate::record::{field_mut, put, Record, BLANK_RECORD, RECORD_LEN};
@@ -29,6 +31,8 @@ pub enum UseAs {
     Flow,
     /// A list to be written to an output of this length.
     List(usize),
+    /// A flow to be amended by this call.
+    Amended(Call),
 }
 
 impl Sample {
@@ -37,6 +41,8 @@ impl Sample {
         match self.use_as {
             UseAs::Flow => read(&self.bytes),
             UseAs::List(room) => write_flow(&self.bytes, &mut vec![0; room]).0,
+            UseAs::Amended(Call::Change { k, cents }) => change(&mut self.bytes.clone(), k, cents),
+            UseAs::Amended(Call::Withdraw { k }) => withdraw(&mut self.bytes.clone(), k).0,
         }
     }
 }
@@ -124,9 +130,19 @@ fn rent(tenant: &Tenant) -> Vec<Record> {
 
 /// The two-rent example of document 01.
 pub fn two_rents() -> Draft {
+    rents(&TENANTS)
+}
+
+/// The first of the two rents alone.
+fn one_rent() -> Draft {
+    rents(&TENANTS[..1])
+}
+
+/// The rents of these tenants.
+fn rents(tenants: &[Tenant]) -> Draft {
     Draft {
         header: header(),
-        dispositions: TENANTS.iter().map(rent).collect(),
+        dispositions: tenants.iter().map(rent).collect(),
         trailer: BLANK_RECORD,
     }
 }
@@ -262,27 +278,44 @@ fn list(
     }
 }
 
+fn amended(
+    file: &'static str,
+    bytes: Vec<u8>,
+    call: Call,
+    shows: &'static str,
+    due: &'static str,
+) -> Sample {
+    Sample {
+        file,
+        bytes,
+        use_as: UseAs::Amended(call),
+        shows,
+        due,
+    }
+}
+
 /// All samples in the order of their table.
 pub fn samples() -> Vec<Sample> {
     let mut samples = right_samples();
     samples.extend(refused_flows());
     samples.extend(refused_lists());
+    samples.extend(refused_calls());
     samples
 }
 
 fn right_samples() -> Vec<Sample> {
-    let rents = two_rents();
+    let two = two_rents();
     let forty = forty_rents();
     vec![
         flow(
             "two-rents.flow",
-            rents.flow(),
+            two.flow(),
             "two rents, canonical, no record 16, one 50 each",
             "accepted dispositions 2 cents 83050 records 16",
         ),
         list(
             "two-rents.list",
-            rents.list(),
+            two.list(),
             1_920,
             "the request list of two-rents.flow, which it encodes byte for byte",
             "accepted dispositions 2 cents 83050 records 16",
@@ -292,6 +325,12 @@ fn right_samples() -> Vec<Sample> {
             filled(),
             "the two rents with text at positions that are not checked and not carried: not canonical, the same list",
             "accepted dispositions 2 cents 83050 records 16",
+        ),
+        flow(
+            "one-rent.flow",
+            one_rent().flow(),
+            "the first of the two rents alone",
+            "accepted dispositions 1 cents 45000 records 9",
         ),
         flow(
             "forty-rents.flow",
@@ -399,8 +438,8 @@ fn refused_flows() -> Vec<Sample> {
 }
 
 fn refused_lists() -> Vec<Sample> {
-    let rents = two_rents().list();
-    let mut short = rents.clone();
+    let two = two_rents().list();
+    let mut short = two.clone();
     short.pop();
     vec![
         list(
@@ -426,10 +465,40 @@ fn refused_lists() -> Vec<Sample> {
         ),
         list(
             "two-rents.list",
-            rents,
+            two,
             1_919,
             "an output one byte too short",
             "refused 21 record 0 position 0",
+        ),
+    ]
+}
+
+fn refused_calls() -> Vec<Sample> {
+    let flow = two_rents().flow();
+    vec![
+        amended(
+            "two-rents.flow",
+            flow.clone(),
+            Call::Withdraw { k: 3 },
+            "there are two dispositions",
+            "refused 15 record 0 position 0",
+        ),
+        amended(
+            "two-rents.flow",
+            flow,
+            Call::Change {
+                k: 1,
+                cents: 10_000_000_000_000,
+            },
+            "an amount of fourteen digits",
+            "refused 16 record 0 position 0",
+        ),
+        amended(
+            "one-rent.flow",
+            one_rent().flow(),
+            Call::Withdraw { k: 1 },
+            "the only disposition",
+            "refused 18 record 0 position 0",
         ),
     ]
 }
@@ -439,18 +508,22 @@ pub fn table(samples: &[Sample]) -> String {
     let mut text = String::from(
         "# Samples\n\n\
          Files ending in `.flow` are flows to be read, files ending in `.list` are request\n\
-         lists to be written to an output of the length given. The rules are those of\n\
-         document 01. The files are written by `oracle sample`.\n\n\
+         lists to be written to an output of the length given. A row that names a call\n\
+         is about that call on the flow. The rules are those of document 01. The files\n\
+         are written by `oracle sample`.\n\n\
          | file | what it shows | answer due |\n|---|---|---|\n",
     );
     for sample in samples {
         let (file, shows, due) = (sample.file, sample.shows, sample.due);
-        let _ = match sample.use_as {
-            UseAs::Flow => writeln!(text, "| `{file}` | {shows} | `{due}` |"),
-            UseAs::List(room) => {
-                writeln!(text, "| `{file}`, room {room} | {shows} | `{due}` |")
+        let used = match sample.use_as {
+            UseAs::Flow => String::new(),
+            UseAs::List(room) => format!(", room {room}"),
+            UseAs::Amended(Call::Change { k, cents }) => {
+                format!(", change of {k} to {cents} cents")
             }
+            UseAs::Amended(Call::Withdraw { k }) => format!(", withdrawal of {k}"),
         };
+        let _ = writeln!(text, "| `{file}`{used} | {shows} | `{due}` |");
     }
     text
 }

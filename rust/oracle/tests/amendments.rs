@@ -127,13 +127,6 @@ fn check_withdrawal(before: &[u8], after: &[u8], k: u64, answer: Answer, len: us
     }
 }
 
-fn list_of(flow: &[u8]) -> Vec<u8> {
-    let mut list = vec![0; flow.len()];
-    let (_, len) = write_list(flow, &mut list);
-    list.truncate(len);
-    list
-}
-
 /// Runs a call on the first `len` bytes of `memory`: the answer, and the
 /// length of the flow left.
 fn run(memory: &mut [u8], len: usize, call: Call) -> (Answer, usize) {

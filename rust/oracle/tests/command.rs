@@ -94,7 +94,7 @@ fn samples_are_written() {
     let list = fs::read(dir.join("two-rents.list")).unwrap();
     assert_eq!(list, two_rents_list());
     let table = fs::read_to_string(dir.join("README.md")).unwrap();
-    for number in [1, 2, 3, 4, 5, 6, 7, 8, 9, 10, 11, 12, 13, 14, 17, 20, 21] {
+    for number in NUMBERS {
         assert!(table.contains(&format!("`refused {number} record")));
     }
 }

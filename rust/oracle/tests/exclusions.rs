@@ -6,17 +6,9 @@ use common::*;
 use oracle::amend::{change, withdraw};
 use oracle::find::find;
 use oracle::generate::{self, Size};
-use oracle::list::write_list;
 use oracle::reader::read;
 use oracle::rng::Rng;
 use oracle::Answer;
-
-fn list_of(flow: &[u8]) -> Vec<u8> {
-    let mut list = vec![0; flow.len()];
-    let (_, len) = write_list(flow, &mut list);
-    list.truncate(len);
-    list
-}
 
 #[test]
 fn a_reader_that_refuses_everything_or_has_one_reply() {

@@ -9,14 +9,6 @@ use oracle::reader::read;
 use oracle::rng::Rng;
 use oracle::Answer;
 
-fn list_of(flow: &[u8]) -> Vec<u8> {
-    let mut list = vec![0; flow.len()];
-    let (answer, len) = write_list(flow, &mut list);
-    assert_eq!(answer, read(flow));
-    list.truncate(len);
-    list
-}
-
 fn flow_of(list: &[u8]) -> Vec<u8> {
     let mut flow = vec![0; 120 * (items(list).count() + 1)];
     let (answer, len) = write_flow(list, &mut flow);

@@ -1,7 +1,8 @@
 //! The reader against a second statement of the same rules: all faults of a
 //! record are gathered in no order at all, and the first is chosen by the
 //! order of document 01. Compared on every single byte put anywhere, and on
-//! generated flows.
+//! generated flows. The digit and date rules are those of `fields`, which has
+//! tests of its own.
 
 mod common;
 
@@ -211,12 +212,9 @@ impl<'a> Found<'a> {
 
 #[test]
 fn every_byte_at_every_place() {
+    // Every type of record: 59 in the first disposition, 50 in the second.
     let mut flow = all_types().with(1, 105, b"1$05678").bytes();
-    // The second disposition has the same types as the first, and less.
-    for index in 0..14 * 120 {
-        check_bytes_at(&mut flow, index);
-    }
-    for index in 20 * 120..21 * 120 {
+    for index in 0..flow.len() {
         check_bytes_at(&mut flow, index);
     }
 }

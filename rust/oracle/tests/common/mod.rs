@@ -272,6 +272,15 @@ pub fn item(kind: char, texts: &[(&str, usize)]) -> Vec<u8> {
     bytes
 }
 
+/// The list of an accepted flow, read back with the reader's answer.
+pub fn list_of(flow: &[u8]) -> Vec<u8> {
+    let mut list = vec![0; flow.len()];
+    let (answer, len) = oracle::list::write_list(flow, &mut list);
+    assert_eq!(answer, oracle::reader::read(flow));
+    list.truncate(len);
+    list
+}
+
 /// Records that can be changed by record and position, both from 1.
 #[derive(Clone)]
 pub struct Flow(pub Vec<Vec<u8>>);
