@@ -38,7 +38,7 @@ pub fn read_digits(field: &[u8]) -> Number
         if b'9' < b {
             return Number::Refused(NOT_DIGITS);
         }
-        value = value * 10 + wide(b - b'0');
+        value = value * 10 + (wide(b) - 48);
         i += 1;
     }
     Number::Value(value)

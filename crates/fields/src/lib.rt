@@ -1,7 +1,7 @@
 // The field rules of document 01, for callers with and without a flow: digit fields, amounts, dates,
 // the one digit writer, and two tests on bytes.
 //
-// No public function has a `requires`: whatever bytes it is lent, it ends with an answer, and its
+// No public function has a `requires`: whatever bytes it is given, it ends with an answer, and its
 // contract says which. Only `write_digits` changes a byte. A refusal is its number alone.
 mod amount;
 mod calendar;

@@ -3,6 +3,8 @@ ghost use Prim.Native.Nat.{_<_};
 use fields::Date;
 use fields::Number;
 use libc::STDOUT_FILENO;
+use printing::labelled;
+use printing::line_feed;
 
 pub(crate) fn number(answer: Number) {
     match answer {
@@ -106,7 +108,7 @@ fn refusal(n: u64) -> u64 {
 // 2^56: what lies above seven bytes makes room for one more.
 const SEVEN_BYTES: u64 = 72057594037927936;
 
-// The number that the bytes spell, the highest first; of more than eight, the last eight.
+// The number that the bytes give, the highest first; of more than eight, the last eight.
 fn big_endian(bytes: &[u8]) -> u64 {
     let mut value: u64 = 0;
     let mut i = 0;
@@ -125,13 +127,4 @@ fn wide(b: u8) -> u64
 
 fn size(b: u8) -> usize {
     b as usize
-}
-
-fn labelled(label: &[u8], n: u64) {
-    io::write_all(STDOUT_FILENO, label);
-    io::print_decimal(STDOUT_FILENO, n);
-}
-
-fn line_feed() {
-    io::write_all(STDOUT_FILENO, b"\n");
 }

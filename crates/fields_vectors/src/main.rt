@@ -4,8 +4,6 @@
 mod case;
 mod hex;
 
-ghost use Prim.Native.Nat.{_≤_};
-ghost use lib.ListN.{length};
 use libc::STDIN_FILENO;
 
 fn main() {
@@ -17,28 +15,14 @@ fn main() {
 }
 
 // The bytes of each case are decoded into `space`.
-fn answer_lines(input: &[u8], space: &mut [u8]) {
+fn answer_lines(text: &[u8], space: &mut [u8]) {
     let mut at = 0;
-    while at < input.len() {
-        let end = line_end(input, at);
-        answer(&input[at..end], space);
-        at = end + 1;
+    while at < text.len() {
+        let rest = &text[at..];
+        let n = vector_lines::line_end(rest);
+        answer(&rest[0..n], space);
+        at += n + 1;
     }
-}
-
-// Where the line that starts at `at` ends: at its line feed, or at the end of the input.
-fn line_end(input: &[u8], at: usize) -> usize
-    requires { ⌜ at ≤ length (now input) ⌝ }
-    ensures { λ r. ⌜ (at ≤ r) × (r ≤ length (now (input .entry))) ⌝ }
-{
-    let mut end = at;
-    while end < input.len() {
-        if input[end] == b'\n' {
-            return end;
-        }
-        end += 1;
-    }
-    end
 }
 
 // One case: a letter, then its bytes in hexadecimal.

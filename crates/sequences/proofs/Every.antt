@@ -3,7 +3,7 @@ use mathlib.Core.Path.{_≡_, refl, sym, _∙_, ap}
 use mathlib.Core.Bool.{Bool, true, _&&_, and-assoc}
 use mathlib.Core.List.{List, [], _∷_, _++_}
 use Prim.Native.Nat.{ℕ, _+_, _≤_, _<_}
-use lib.ListN.{length, drop, getD, drop-of-length-le}
+use lib.ListN.{length, take, drop, getD, drop-of-length-le, take-append-drop}
 use Rattle.sequences.specs.Every.{every}
 use Rattle.sequences.proofs.Drop.{drop-next}
 
@@ -12,6 +12,10 @@ pub every-append : (p : ℕ → Bool) (xs ys : List ℕ) → every p (xs ++ ys) 
 unfolding every
 every-append p [] ys = refl
 every-append p (x ∷ xs) ys = ap (λ (b : Bool). p x && b) (every-append p xs ys) ∙ sym (and-assoc (p x) (every p xs) (every p ys))
+
+-- of a list cut in two, each part passes
+pub every-split : (p : ℕ → Bool) (n : ℕ) (xs : List ℕ) → every p xs ≡ (every p (take n xs) && every p (drop n xs))
+every-split p n xs = ap (every p) (sym (take-append-drop n xs)) ∙ every-append p (take n xs) (drop n xs)
 
 -- for a loop over i: the test at i, then the rest; and past the end nothing is left to test
 pub every-next : (p : ℕ → Bool) (xs : List ℕ) (i : ℕ) → i < length xs → every p (drop i xs) ≡ (p (getD xs i 0) && every p (drop (i + 1) xs))

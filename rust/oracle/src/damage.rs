@@ -37,7 +37,7 @@ const CHECKED: [([u8; 2], &[Field]); 11] = [
 ];
 
 /// The checked fields of a record type; of an unknown one, the type itself.
-fn checked(kind: [u8; 2]) -> &'static [Field] {
+pub(crate) fn checked(kind: [u8; 2]) -> &'static [Field] {
     let row = CHECKED.iter().find(|(of, _)| *of == kind);
     row.map_or(&[(2, 3)], |(_, fields)| fields)
 }

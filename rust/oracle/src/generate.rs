@@ -5,7 +5,7 @@ use crate::damage::{damage_flow, damage_in_turn, damage_list};
 use crate::fields::{amount, write_digits, MAX_AMOUNT, MAX_TOTAL};
 use crate::ledger::Call;
 use crate::list::layout_of_record;
-use crate::record::{field, field_mut, put, Record, BLANK_RECORD};
+use crate::record::{field, field_mut, put, record_type, Record, BLANK_RECORD, RECORD_LEN};
 use crate::rng::Rng;
 
 /// A flow before its numbers and its trailer are filled in.
@@ -21,24 +21,15 @@ impl Draft {
     /// more than 15 digits is given with its low ones.
     pub fn records(&self) -> Vec<Record> {
         let mut records = vec![self.header];
-        let mut cents = 0;
         for (index, disposition) in self.dispositions.iter().enumerate() {
             for record in disposition {
                 let mut record = *record;
                 write_digits(field_mut(&mut record, 4, 10), index as u64 + 1);
                 records.push(record);
             }
-            cents += disposition.first().map_or(0, cents_of);
         }
         let mut trailer = self.trailer;
-        put(&mut trailer, 2, b"EF");
-        put(&mut trailer, 4, field(&self.header, 4, 39));
-        let count = self.dispositions.len() as u64;
-        write_digits(field_mut(&mut trailer, 46, 52), count);
-        write_digits(field_mut(&mut trailer, 53, 67), cents);
-        write_digits(field_mut(&mut trailer, 68, 82), 0);
-        write_digits(field_mut(&mut trailer, 83, 89), records.len() as u64 + 1);
-        put(&mut trailer, 114, b"E");
+        fill_trailer(&mut trailer, &records);
         records.push(trailer);
         records
     }
@@ -68,6 +59,22 @@ impl Draft {
             write_digits(field_mut(opening, 34, 46), cents);
         }
     }
+}
+
+/// Makes a trailer agree with the records before it; its unchecked positions
+/// stay. A total of more than 15 digits is given with its low ones.
+pub(crate) fn fill_trailer(trailer: &mut Record, before: &[Record]) {
+    put(trailer, 2, b"EF");
+    if let Some(header) = before.first() {
+        put(trailer, 4, field(header, 4, 39));
+    }
+    let openings = before.iter().filter(|r| record_type(r) == *b"14");
+    let cents = openings.clone().map(cents_of).sum();
+    write_digits(field_mut(trailer, 46, 52), openings.count() as u64);
+    write_digits(field_mut(trailer, 53, 67), cents);
+    write_digits(field_mut(trailer, 68, 82), 0);
+    write_digits(field_mut(trailer, 83, 89), before.len() as u64 + 1);
+    put(trailer, 114, b"E");
 }
 
 /// The amount of a record 14.
@@ -407,6 +414,34 @@ pub fn flow_case(seed: u64, index: u64) -> Vec<u8> {
     let mut flow = draft(&mut rng, Size::AllTypes).flow();
     damage_in_turn(&mut rng, index / 3, &mut flow);
     flow
+}
+
+/// Flows at the edges of a record's length and of the small program's: 0, 1,
+/// 119, 120 and 121 bytes of a right flow, the whole of it with the 65,520
+/// bytes that the program holds, the same with the last digit of its trailer
+/// wrong, with a line feed more, and with a record more.
+pub fn edge_flows(seed: u64) -> Vec<Vec<u8>> {
+    let right = draft(&mut Rng::for_case(seed, 0), Size::Program).flow();
+    let mut flows: Vec<Vec<u8>> = [
+        0,
+        1,
+        RECORD_LEN - 1,
+        RECORD_LEN,
+        RECORD_LEN + 1,
+        right.len(),
+    ]
+    .map(|len| right[..len].to_vec())
+    .into();
+    let mut wrong = right.clone();
+    let (records, _) = wrong.as_chunks_mut::<RECORD_LEN>();
+    if let Some(trailer) = records.last_mut() {
+        // The 546 of the record count becomes 547.
+        put(trailer, 89, b"7");
+    }
+    flows.push(wrong);
+    flows.push([&right[..], b"\n"].concat());
+    flows.push([&right[..], &BLANK_RECORD].concat());
+    flows
 }
 
 /// A flow, right or damaged.

@@ -18,6 +18,7 @@ pub mod ledger;
 pub mod list;
 pub mod program;
 pub mod reader;
+pub mod reader_cases;
 pub mod record;
 pub mod rng;
 pub mod samples;

@@ -193,7 +193,7 @@ fn full_rent(index: u64) -> Vec<Record> {
 }
 
 /// Line `index` of a longer description.
-fn detail_line(index: usize) -> Record {
+pub(crate) fn detail_line(index: usize) -> Record {
     let mut record = blank(b"59");
     let text = format!("RETTA MARZO 2026, VOCE {index}");
     put(&mut record, 11, text.as_bytes());
@@ -202,7 +202,7 @@ fn detail_line(index: usize) -> Record {
 }
 
 /// The creditor's account, record 16.
-fn account() -> Record {
+pub(crate) fn account() -> Record {
     let mut record = blank(b"16");
     put(&mut record, 11, b"IT60X0123402400000000123456");
     record

@@ -1,10 +1,33 @@
 //! Files of cases with the answers due, for comparing another program.
+//!
+//! Every file is text in lines, each ended by a line feed.
+//!
+//! The field rules (`oracle vectors fields IN OUT`): a line of IN is a case,
+//! the line of OUT with the same number its answer; see [`FieldCase`]. One
+//! line more ends OUT.
+//!
+//! The reader (`oracle vectors reader IN OUT`): OUT has as many lines as IN.
+//!
+//! | line of IN | the same line of OUT |
+//! |---|---|
+//! | `# six 59s`, the name of the case whose flow comes next | as it is |
+//! | `=` and the bytes of one flow | the reader's answer |
+//!
+//! After the `=` each byte of the flow stands as it is, but every byte outside
+//! 32 to 126 and the backslash as a backslash and two lower-case hex digits,
+//! `\0a` and `\5c`. An empty flow is the line `=` alone. An answer is
+//! `accepted dispositions 2 cents 83050 records 16` or
+//! `refused 9 record 10 position 4`; there is no limit of 65,520 bytes.
+//!
+//! Generated flows (`oracle vectors flows SEED COUNT DIR`): a file for each
+//! flow, and `expected` with the small program's line for each.
 
 use std::fmt::Write;
 use std::path::Path;
 use std::{fs, io};
 
-use crate::{fields, generate, program};
+use crate::reader::read;
+use crate::{fields, generate, program, reader_cases};
 
 /// Writes the input and the output file of the field rules.
 pub fn write_fields(input: &Path, output: &Path) -> io::Result<()> {
@@ -13,13 +36,45 @@ pub fn write_fields(input: &Path, output: &Path) -> io::Result<()> {
     fs::write(output, answers)
 }
 
-/// Writes `count` generated flows, `000001.flow` and on, and the file
-/// `expected` with the small program's line for each.
+/// Writes the input and the output file of the reader.
+pub fn write_reader(input: &Path, output: &Path) -> io::Result<()> {
+    let (cases, answers) = reader_files();
+    fs::write(input, cases)?;
+    fs::write(output, answers)
+}
+
+/// The input and the output file of the reader.
+pub fn reader_files() -> (String, String) {
+    let (mut input, mut output) = (String::new(), String::new());
+    for reader_cases::Case { name, flow } in reader_cases::cases() {
+        let _ = writeln!(input, "# {name}\n={}", escaped(&flow));
+        let _ = writeln!(output, "# {name}\n{}", read(&flow));
+    }
+    (input, output)
+}
+
+/// The bytes of a flow as the reader's input file has them.
+fn escaped(flow: &[u8]) -> String {
+    let mut text = String::new();
+    for &byte in flow {
+        match byte {
+            b'\\' | ..32 | 127.. => {
+                let _ = write!(text, "\\{byte:02x}");
+            }
+            _ => text.push(char::from(byte)),
+        }
+    }
+    text
+}
+
+/// Writes `count` generated flows, `000001.flow` and on, after them those of
+/// edge sizes (`generate::edge_flows`), numbered on, and the file `expected`
+/// with the small program's line for each.
 pub fn write_flows(seed: u64, count: u64, dir: &Path) -> io::Result<()> {
     fs::create_dir_all(dir)?;
     let mut expected = String::new();
-    for index in 1..=count {
-        let flow = generate::flow_case(seed, index);
+    let generated = (1..=count).map(|index| generate::flow_case(seed, index));
+    for (index, flow) in (1_u64..).zip(generated.chain(generate::edge_flows(seed))) {
         fs::write(dir.join(format!("{index:06}.flow")), &flow)?;
         expected.push_str(&program::line(&flow));
         expected.push('\n');

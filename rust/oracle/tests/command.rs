@@ -9,7 +9,7 @@ use std::process::{Command, Output, Stdio};
 
 use common::*;
 use oracle::tally::{tally, NUMBERS};
-use oracle::{generate, program, rng::Rng};
+use oracle::{generate, program, rng::Rng, vectors};
 
 fn oracle(args: &[&str], input: &[u8]) -> Output {
     let mut child = Command::new(env!("CARGO_BIN_EXE_oracle"))
@@ -65,6 +65,7 @@ fn bad_usage_is_one_sentence_and_status_2() {
         &["sample"],
         &["vectors"],
         &["vectors", "fields", "a"],
+        &["vectors", "reader", "a"],
         &["vectors", "flows", "one", "2", "dir"],
         &["tally", "1"],
         &["tally", "1", "-5"],
@@ -100,13 +101,26 @@ fn samples_are_written() {
 }
 
 #[test]
+fn reader_vectors_are_written() {
+    let dir = scratch("reader");
+    fs::create_dir_all(&dir).unwrap();
+    let (input, output) = (dir.join("in"), dir.join("out"));
+    let paths = [&input, &output].map(|path| path.to_str().unwrap());
+    let run = oracle(&["vectors", "reader", paths[0], paths[1]], b"");
+    assert!(run.status.success());
+    let (input_due, output_due) = vectors::reader_files();
+    assert_eq!(fs::read_to_string(input).unwrap(), input_due);
+    assert_eq!(fs::read_to_string(output).unwrap(), output_due);
+}
+
+#[test]
 fn flow_vectors_are_written() {
     let dir = scratch("flows");
     let path = dir.to_str().unwrap();
     let output = oracle(&["vectors", "flows", "9", "40", path], b"");
     assert!(output.status.success());
     let expected = fs::read_to_string(dir.join("expected")).unwrap();
-    assert_eq!(expected.lines().count(), 40);
+    assert_eq!(expected.lines().count(), 49);
     for (index, line) in expected.lines().enumerate() {
         let file = dir.join(format!("{:06}.flow", index + 1));
         assert_eq!(program::line(&fs::read(file).unwrap()), line);

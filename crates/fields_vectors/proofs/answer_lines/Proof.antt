@@ -7,13 +7,22 @@ use Rattle.fields_vectors.proofs.answer_lines.Statement.{statement}
 use Rattle.fields_vectors.proofs.answer_lines.Tie as tie
 
 abbrev Inv-loop : tie.InvT-loop
-Inv-loop input space₀ at₀ space at = length space ≡ length space₀
+Inv-loop text space₀ at₀ space at = length space ≡ length space₀
 
 abbrev μ-loop : tie.MeasureT-loop
-μ-loop input space₀ at₀ space at = length input - at
+μ-loop text space₀ at₀ space at = length text - at
 
 loop-holds : tie.Need-loop-holds Inv-loop μ-loop
 loop-holds c = search needs
+
+sub-rest : tie.Need-sub-rest Inv-loop μ-loop
+sub-rest c = search needs
+
+part-rest-start : tie.Need-part-rest-start Inv-loop μ-loop
+part-rest-start c = search needs
+
+part-rest-end : tie.Need-part-rest-end Inv-loop μ-loop
+part-rest-end c = search needs
 
 line-end-requires : tie.Need-line-end-requires Inv-loop μ-loop
 line-end-requires c κs = search needs
@@ -32,6 +41,9 @@ answer-requires c κs = search needs
 
 add-at : tie.Need-add-at Inv-loop μ-loop
 add-at c = search needs
+
+add-at-2 : tie.Need-add-at-2 Inv-loop μ-loop
+add-at-2 c = search needs
 
 loop-less : tie.Need-loop-less Inv-loop μ-loop
 loop-less c = search needs
@@ -52,12 +64,16 @@ answer-lines-spec =
     Inv-loop
     μ-loop
     loop-holds
+    sub-rest
+    part-rest-start
+    part-rest-end
     line-end-requires
     sub-answer
     part-answer-start
     part-answer-end
     answer-requires
     add-at
+    add-at-2
     loop-less
     loop-again
     same-length

@@ -60,6 +60,9 @@ mul-value c = omega (arith, room (c .before .before .before))
 wide-requires : tie.Need-wide-requires Inv-loop μ-loop
 wide-requires c κs = tt
 
+sub-value : tie.Need-sub-value Inv-loop μ-loop
+sub-value c = omega arith
+
 add-value : tie.Need-add-value Inv-loop μ-loop
 add-value c = omega (arith, room (c .before .before .before .before))
 
@@ -74,7 +77,7 @@ loop-again c =
     let in-turn = c .before .before .before .before in
     let loop = in-turn .before .loop in (
       omega arith,
-      digit-more (loop .i) (loop .value) (c .wide .result) (loop .inv .1) (omega arith),
+      digit-more (loop .i) (loop .value) (c .wide .result - 48) (loop .inv .1) (omega arith),
       rw (c .wide .ensures, turn in-turn, digit-right (byte in-turn) (c .before .before .if3 .left) (c .before .if4 .left)),
     )
 
@@ -95,6 +98,7 @@ read-digits-spec =
     returns-4
     mul-value
     wide-requires
+    sub-value
     add-value
     add-i
     loop-less

@@ -2,8 +2,7 @@
 use Prim.Native.Nat.{_-_, _≤_}
 use mathlib.Core.Path.{_≡_}
 use native.Mathlib.Omega.{arith}
-use lib.ListN.{length-set}
-use lib.ListN.{length}
+use lib.ListN.{length, length-set}
 use borrow.Author.Needs.{needs}
 use Rattle.fields_vectors.proofs.hex.decode.Statement.{statement}
 use Rattle.fields_vectors.proofs.hex.decode.Tie as tie
@@ -20,29 +19,29 @@ loop-holds c = search needs
 least-requires : tie.Need-least-requires Inv-loop μ-loop
 least-requires c κs = search needs
 
-mul-digit : tie.Need-mul-digit Inv-loop μ-loop
-mul-digit c = search needs
+mul-hex-digit : tie.Need-mul-hex-digit Inv-loop μ-loop
+mul-hex-digit c = search needs
 
-shared-slice-read-digit : tie.Need-shared-slice-read-digit Inv-loop μ-loop
-shared-slice-read-digit c = search needs
+shared-slice-read-hex-digit : tie.Need-shared-slice-read-hex-digit Inv-loop μ-loop
+shared-slice-read-hex-digit c = search needs
 
-digit-requires : tie.Need-digit-requires Inv-loop μ-loop
-digit-requires c κs = search needs
+hex-digit-requires : tie.Need-hex-digit-requires Inv-loop μ-loop
+hex-digit-requires c κs = search needs
 
 mul-out : tie.Need-mul-out Inv-loop μ-loop
 mul-out c = search needs
 
-mul-digit-2 : tie.Need-mul-digit-2 Inv-loop μ-loop
-mul-digit-2 c = search needs
+mul-hex-digit-2 : tie.Need-mul-hex-digit-2 Inv-loop μ-loop
+mul-hex-digit-2 c = search needs
 
-add-digit : tie.Need-add-digit Inv-loop μ-loop
-add-digit c = search needs
+add-hex-digit : tie.Need-add-hex-digit Inv-loop μ-loop
+add-hex-digit c = search needs
 
-shared-slice-read-digit-2 : tie.Need-shared-slice-read-digit-2 Inv-loop μ-loop
-shared-slice-read-digit-2 c = search needs
+shared-slice-read-hex-digit-2 : tie.Need-shared-slice-read-hex-digit-2 Inv-loop μ-loop
+shared-slice-read-hex-digit-2 c = search needs
 
-digit-requires-2 : tie.Need-digit-requires-2 Inv-loop μ-loop
-digit-requires-2 c κs = search needs
+hex-digit-requires-2 : tie.Need-hex-digit-requires-2 Inv-loop μ-loop
+hex-digit-requires-2 c κs = search needs
 
 add-out : tie.Need-add-out Inv-loop μ-loop
 add-out c = search needs
@@ -73,14 +72,14 @@ decode-spec =
     μ-loop
     loop-holds
     least-requires
-    mul-digit
-    shared-slice-read-digit
-    digit-requires
+    mul-hex-digit
+    shared-slice-read-hex-digit
+    hex-digit-requires
     mul-out
-    mul-digit-2
-    add-digit
-    shared-slice-read-digit-2
-    digit-requires-2
+    mul-hex-digit-2
+    add-hex-digit
+    shared-slice-read-hex-digit-2
+    hex-digit-requires-2
     add-out
     slice-write-out
     add-n

@@ -1,0 +1,128 @@
+-- Counts that stop one above the trailer's digits: no record is judged otherwise for it, and behind a right trailer they are exact.
+-- Assumes nothing.
+use Prim.Native.Nat.{ℕ, suc, _+_, min}
+use mathlib.Core.Bool.{Bool, true, false, cond, true≢false}
+use mathlib.Core.List.{List, [], _∷_}
+use mathlib.Core.Path.{_≡_, refl, sym, _∙_, ap, subst}
+use native.Mathlib.Omega.{arith}
+use lib.Dec.{eqb, ltb}
+use lib.ListN.{length}
+use Rattle.records.specs.Bytes.{badByte}
+use Rattle.records.specs.Context.{Header, context}
+use Rattle.records.specs.Finding.{Finding, right, refused}
+use Rattle.records.specs.Judge.{judge}
+use Rattle.records.specs.Kinds.{hasType}
+use Rattle.records.specs.Limits.{countLimit, centsLimit, stoppedCounts}
+use Rattle.records.specs.declared.judged.Counts.{Counts}
+use Rattle.records.specs.declared.kind.Kind.{Kind}
+use Rattle.records.specs.declared.kind.Kind.the-variants.{Im, R14, R16, R20, R30, R40, R50, R59, R51, R70, Ef}
+use Rattle.records.proofs.ByKind.{right-asked}
+use Rattle.records.proofs.FirstFault.{right-not-refused}
+use Rattle.records.proofs.Stopping.{limits-unseen, trailer-exact}
+use Rattle.flow.specs.Order.{permitted, isDue, place, placeAfter, among}
+use Rattle.flow.specs.Steps.{opened, counted, step, countsAt, typed, judgeRecord, stopped}
+use Rattle.flow.specs.declared.order.Due.the-variants.{R59OrR51, OnlyR51}
+use Rattle.flow.specs.declared.order.Found.{Found}
+use Rattle.flow.specs.declared.order.Found.the-variants.{Of, Missing}
+use Rattle.flow.specs.declared.walk.Walk.{Walk}
+
+-- counts that stop alike are judged alike
+pub counts-alike : (header : Header) (company : List ℕ) (k : Kind) (a b : Counts) (rec : List ℕ) → stoppedCounts a ≡ stoppedCounts b → judge k (context header company a) rec ≡ judge k (context header company b) rec
+counts-alike header company k a b rec e =
+    sym (limits-unseen k (context header company a) rec) ∙ ap (λ (c : Counts). judge k (context header company c) rec) e ∙ limits-unseen k (context header company b) rec
+
+-- a sum that goes on from where one stopped, stops alike
+on-from-limit : (a m l : ℕ) → min (min a l + m) l ≡ min (a + m) l
+on-from-limit a m l = omega arith
+
+-- the counts of a state that has stopped
+stopped-counts : (w : Walk) (n : ℕ) (k : Kind) → stoppedCounts (countsAt (stopped w) n k) ≡ stoppedCounts (countsAt w n k)
+stopped-counts w n k =
+    let count = on-from-limit (w .dispositions) (opened k) countLimit in
+    let cents : min (min (w .cents) centsLimit) centsLimit ≡ min (w .cents) centsLimit = omega arith in
+    λ i. record { dispositions = count i; cents = cents i; records = n }
+
+-- so a state that has stopped judges as the exact one does, and has the same next state
+module _ (header : Header) (w : Walk) (company : List ℕ) (n : ℕ) (rec : List ℕ) where
+  typed-alike : (x : Found) → typed header (stopped w) company n rec x ≡ typed header w company n rec x
+  unfolding typed
+  typed-alike Missing = refl
+  typed-alike (Of k) = counts-alike header company k (countsAt (stopped w) n k) (countsAt w n k) rec (stopped-counts w n k)
+
+  pub record-alike : judgeRecord header (stopped w) company n rec ≡ judgeRecord header w company n rec
+  unfolding judgeRecord
+  record-alike = ap (λ (x : Finding). cond (eqb (length rec) 120) (cond (eqb (badByte rec) 0) x (refused 2 (badByte rec))) (refused 1 0)) (typed-alike (among (permitted (w .place .due)) rec))
+
+pub stopped-step : (w : Walk) (k : Kind) (c : ℕ) → stopped (step (stopped w) k c) ≡ stopped (step w k c)
+stopped-step w k c =
+    let count = on-from-limit (w .dispositions) (opened k) countLimit in
+    let cents = on-from-limit (w .cents) c centsLimit in
+    λ i. record { place = placeAfter (w .place .further) k; dispositions = count i; cents = cents i }
+
+-- only behind a trailer nothing is due
+last-kind : (n : ℕ) (k : Kind) → isDue (permitted (placeAfter n k .due)) ≡ false → k ≡ Ef
+last-kind n Im e = absurd (true≢false e)
+last-kind n R14 e = absurd (true≢false e)
+last-kind n R16 e = absurd (true≢false e)
+last-kind n R20 e = absurd (true≢false e)
+last-kind n R30 e = absurd (true≢false e)
+last-kind n R40 e = absurd (true≢false e)
+last-kind n R50 e = absurd (true≢false e)
+last-kind n R59 e = absurd (further (ltb n 4) e)
+  where
+    further : (b : Bool) → isDue (permitted (cond b (record { due = R59OrR51; further = suc n }) (place OnlyR51) .due)) ≡ false → ⊥
+    further true e = true≢false e
+    further false e = true≢false e
+last-kind n R51 e = absurd (true≢false e)
+last-kind n R70 e = absurd (true≢false e)
+last-kind n Ef e = refl
+
+-- a kind found among those permitted is the record's type
+among-type : (ks : List Kind) (rec : List ℕ) (k : Kind) → among ks rec ≡ Of k → hasType k rec ≡ true
+unfolding among
+among-type [] rec k e = absurd (missing-not-of e)
+  where
+    missing-not-of : Missing ≡ Of k → ⊥
+    missing-not-of e = let z : _≡_ {A = ℕ} 0 1 = cc in omega arith
+among-type (l ∷ ks) rec k e = go (among-type ks rec k) (hasType l rec) refl e
+  where
+    go : (among ks rec ≡ Of k → hasType k rec ≡ true) → (b : Bool) → hasType l rec ≡ b → cond b (Of l) (among ks rec) ≡ Of k → hasType k rec ≡ true
+    go rest true t e =
+        let same : l ≡ k = cc in
+        subst (λ (m : Kind). hasType m rec ≡ true) same t
+    go rest false t e = rest e
+
+-- what was found right was found so by its type and by the rules of its kind
+pub right-typed :
+    (header : Header) (w : Walk) (company : List ℕ) (n : ℕ) (rec : List ℕ) (k : Kind) (c : ℕ)
+    → judgeRecord header w company n rec ≡ right k c → (hasType k rec ≡ true) × (judge k (context header company (countsAt w n k)) rec ≡ right k c)
+unfolding judgeRecord typed
+right-typed header w company n rec k c = sized (eqb (length rec) 120) (eqb (badByte rec) 0) (among (permitted (w .place .due)) rec) refl
+  where
+    of : (x : Found) → among (permitted (w .place .due)) rec ≡ x → typed header w company n rec x ≡ right k c → (hasType k rec ≡ true) × (judge k (context header company (countsAt w n k)) rec ≡ right k c)
+    of Missing t e = absurd (right-not-refused e)
+    of (Of l) t e =
+        let same = right-asked l k (context header company (countsAt w n l)) rec c e .0 in
+        let kind = among-type (permitted (w .place .due)) rec l t in
+        subst (λ (m : Kind). (hasType m rec ≡ true) × (judge m (context header company (countsAt w n m)) rec ≡ right k c)) same (kind, e)
+
+    sized : (a b : Bool) (x : Found) → among (permitted (w .place .due)) rec ≡ x → cond a (cond b (typed header w company n rec x) (refused 2 (badByte rec))) (refused 1 0) ≡ right k c → (hasType k rec ≡ true) × (judge k (context header company (countsAt w n k)) rec ≡ right k c)
+    sized true true x t e = of x t e
+    sized true false x t e = absurd (right-not-refused e)
+    sized false b x t e = absurd (right-not-refused e)
+
+-- behind a right trailer the counts have not stopped
+pub exact-at-end :
+    (header : Header) (w : Walk) (company : List ℕ) (n : ℕ) (rec : List ℕ) (k : Kind) (c : ℕ)
+    → judgeRecord header w company n rec ≡ right k c → isDue (permitted (step w k c .place .due)) ≡ false → stopped (step w k c) ≡ step w k c
+exact-at-end header w company n rec k c e last = trailer (last-kind (w .place .further) k last)
+  where
+    trailer : k ≡ Ef → stopped (step w k c) ≡ step w k c
+    trailer ef =
+        let found : judge Ef (context header company (countsAt w n Ef)) rec ≡ right k c = subst (λ (m : Kind). judge m (context header company (countsAt w n m)) rec ≡ right k c) ef (right-typed header w company n rec k c e .1) in
+        let small = trailer-exact (context header company (countsAt w n Ef)) rec k c found in
+        let none : c ≡ 0 = right-asked Ef k (context header company (countsAt w n Ef)) rec c found .1 in
+        let same : opened k ≡ 0 = ap opened ef in
+        let count : min (counted w k) countLimit ≡ counted w k = omega arith in
+        let cents : min (w .cents + c) centsLimit ≡ w .cents + c = omega arith in
+        λ i. record { place = placeAfter (w .place .further) k; dispositions = count i; cents = cents i }

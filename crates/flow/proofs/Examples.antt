@@ -1,0 +1,18 @@
+-- The worked examples, by computation. Assumes nothing.
+use mathlib.Core.Path.{refl}
+use Rattle.sequences.specs.Every.{every}
+use Rattle.fields.specs.Bytes.{isEqual}
+use Rattle.fields.specs.Calendar.{isLeap, daysIn, isDay}
+use Rattle.fields.specs.Digits.{numberFrom}
+use Rattle.records.specs.Bytes.{badFrom}
+use Rattle.records.specs.Checks.{isListed, checks}
+use Rattle.records.specs.Finding.{firstFault}
+use Rattle.records.specs.Judge.{judge as Record·judge}
+use Rattle.flow.specs.Examples.{Examples}
+use Rattle.flow.specs.Judge.{cut, go, judge}
+use Rattle.flow.specs.Order.{among}
+use Rattle.flow.specs.Steps.{typed, judgeRecord}
+
+pub examples : Examples
+unfolding judge go cut judgeRecord typed among Record·judge firstFault checks isListed badFrom isEqual numberFrom every isDay daysIn isLeap
+examples = record { two-rents = refl; empty = refl; header-alone = refl; no-disposition = refl; five-further = refl; six-further = refl }

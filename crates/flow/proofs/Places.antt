@@ -1,0 +1,49 @@
+-- A record at its place in the flow: which law finds what. Assumes nothing.
+use Prim.Native.Nat.{ℕ, min}
+use mathlib.Core.List.{List}
+use mathlib.Core.Path.{_≡_, _∙_}
+use native.Mathlib.Omega.{arith}
+use lib.ListN.{length}
+use borrow.Author.Tests.{eq-eqb, ne-eqb}
+use Rattle.records.specs.Bytes.{badByte}
+use Rattle.records.specs.Context.{Header, context}
+use Rattle.records.specs.Finding.{refused}
+use Rattle.records.specs.Judge.{judge}
+use Rattle.records.specs.Limits.{countLimit, centsLimit, stoppedCounts}
+use Rattle.records.specs.declared.judged.Counts.{Counts}
+use Rattle.records.specs.declared.kind.Kind.{Kind}
+use Rattle.flow.specs.Order.{permitted, among}
+use Rattle.flow.specs.Steps.{counted, typed, judgeRecord, countsAt}
+use Rattle.flow.specs.declared.order.Found.{Found}
+use Rattle.flow.specs.declared.order.Found.the-variants.{Of, Missing}
+use Rattle.flow.specs.declared.walk.Walk.{Walk}
+use Rattle.flow.proofs.Exact.{counts-alike}
+
+module _ (header : Header) (w : Walk) (company : List ℕ) (n : ℕ) (rec : List ℕ) where
+  pub other-length : (length rec ≡ 120 → ⊥) → judgeRecord header w company n rec ≡ refused 1 0
+  unfolding judgeRecord
+  other-length h = rw (ne-eqb (length rec) 120 h)
+
+  module _ (whole : length rec ≡ 120) where
+    pub bad-byte : (badByte rec ≡ 0 → ⊥) → judgeRecord header w company n rec ≡ refused 2 (badByte rec)
+    unfolding judgeRecord
+    bad-byte h = rw (eq-eqb (length rec) 120 whole, ne-eqb (badByte rec) 0 h)
+
+    by-type : (x : Found) → badByte rec ≡ 0 → among (permitted (w .place .due)) rec ≡ x → judgeRecord header w company n rec ≡ typed header w company n rec x
+    unfolding judgeRecord
+    by-type x printable e = rw (eq-eqb (length rec) 120 whole, eq-eqb (badByte rec) 0 printable, e)
+
+    pub no-type : badByte rec ≡ 0 → among (permitted (w .place .due)) rec ≡ Missing → judgeRecord header w company n rec ≡ refused 3 2
+    unfolding typed
+    no-type printable e = by-type Missing printable e
+
+    -- the count handed to the rules may have stopped
+    pub of-type :
+        (k : Kind) → badByte rec ≡ 0 → among (permitted (w .place .due)) rec ≡ Of k
+        → judgeRecord header w company n rec ≡ judge k (context header company (record { dispositions = min (counted w k) countLimit; cents = w .cents; records = n })) rec
+    unfolding typed
+    of-type k printable e =
+        let handed : Counts = record { dispositions = min (counted w k) countLimit; cents = w .cents; records = n } in
+        let count : min (counted w k) countLimit ≡ min (min (counted w k) countLimit) countLimit = omega arith in
+        let alike : stoppedCounts (countsAt w n k) ≡ stoppedCounts handed = λ i. record { dispositions = count i; cents = min (w .cents) centsLimit; records = n } in
+        by-type (Of k) printable e ∙ counts-alike header company k (countsAt w n k) handed rec alike

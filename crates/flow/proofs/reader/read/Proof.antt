@@ -1,0 +1,73 @@
+-- `flow::read` meets its contract. Assumes nothing.
+use mathlib.Core.Bool.{true, false}
+use mathlib.Core.Path.{_≡_, sym, _∙_}
+use native.Mathlib.Omega.{arith}
+use lib.ListN.{length}
+use borrow.Author.Needs.{needs}
+use borrow.Author.Tests.{not-true, not-false}
+use Rattle.flow.specs.Judge.{isLength, judge}
+use Rattle.flow.proofs.Lengths.{length-said}
+use Rattle.flow.proofs.reader.read.Statement.{statement}
+use Rattle.flow.proofs.reader.read.Tie as tie
+
+is-length-requires : tie.Need-is-length-requires
+is-length-requires c κs = search needs
+
+returns : tie.Need-returns
+unfolding judge
+returns c =
+    let wrong : isLength (length (c .before .before .before .args .flow .now)) ≡ false = sym (c .before .is-length .ensures) ∙ not-true _ (c .if1 .taken) in
+    rw wrong
+
+sub-header : tie.Need-sub-header
+sub-header c = search needs
+
+part-header-start : tie.Need-part-header-start
+part-header-start c = search needs
+
+part-header-end : tie.Need-part-header-end
+part-header-end c =
+    let n = length (c .before .before .before .args .flow .now) in
+    let said = length-said n (sym (c .before .is-length .ensures) ∙ not-false _ (c .if1 .left)) in
+    omega arith
+
+field-requires : tie.Need-field-requires
+field-requires c κs = search needs
+
+field-requires-2 : tie.Need-field-requires-2
+field-requires-2 c κs = search needs
+
+field-requires-3 : tie.Need-field-requires-3
+field-requires-3 c κs = search needs
+
+field-requires-4 : tie.Need-field-requires-4
+field-requires-4 c κs = search needs
+
+field-requires-5 : tie.Need-field-requires-5
+field-requires-5 c κs = search needs
+
+read-records-requires : tie.Need-read-records-requires
+read-records-requires c κs = sym (c .before .before .before .before .before .before .before .is-length .ensures) ∙ not-false _ (c .before .before .before .before .before .before .if1 .left)
+
+returns-2 : tie.Need-returns-2
+unfolding judge
+returns-2 c =
+    let right : isLength (length (c .before .before .before .before .before .before .before .before .before .before .args .flow .now)) ≡ true = sym (c .before .before .before .before .before .before .before .before .is-length .ensures) ∙ not-false _ (c .before .before .before .before .before .before .before .if1 .left) in
+    rw (right, ← c .before .before .before .before .before .field .ensures, ← c .before .before .before .before .field2 .ensures, ← c .before .before .before .field3 .ensures, ← c .before .before .field4 .ensures, ← c .before .field5 .ensures) (c .read-records .ensures)
+
+pub read-spec : {M : Type 1} → statement M
+read-spec =
+    tie.close
+    (tie.spec
+    is-length-requires
+    returns
+    sub-header
+    part-header-start
+    part-header-end
+    field-requires
+    field-requires-2
+    field-requires-3
+    field-requires-4
+    field-requires-5
+    read-records-requires
+    returns-2)

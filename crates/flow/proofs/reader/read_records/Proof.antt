@@ -1,0 +1,156 @@
+-- `flow::read_records` meets its contract. Behind each right record, what is left decides as the whole does. Assumes nothing.
+use Prim.Native.Nat.{ℕ, suc, _+_, _-_, _*_, _/_, _≤_}
+use mathlib.Core.List.{List}
+use mathlib.Core.Path.{_≡_, sym, _∙_, ap, ap₂}
+use native.Mathlib.Numerals.{add-one}
+use native.Mathlib.Omega.{arith}
+use lib.ListN.{length}
+use borrow.Author.Needs.{needs}
+use Rattle.sequences.specs.Part.{part}
+use Rattle.records.specs.Context.{headed}
+use Rattle.records.specs.Finding.{finding}
+use Rattle.flow.specs.Judge.{recordAt}
+use Rattle.flow.specs.Steps.{judgeRecord}
+use Rattle.flow.proofs.Lengths.{length-said}
+use Rattle.flow.proofs.Reading.{Reading, begin, go-on, refuse, finish}
+use Rattle.flow.proofs.reader.read_records.Statement.{statement}
+use Rattle.flow.proofs.reader.read_records.Tie as tie
+
+abbrev Inv-loop : tie.InvT-loop
+Inv-loop flow mittente abi date name currency walk₀ company₀ i₀ walk company i = (i ≤ length flow / 120) × (length flow ≤ 1199999880) × Reading (headed mittente abi date name currency) flow (length flow / 120) walk company i
+
+abbrev μ-loop : tie.MeasureT-loop
+μ-loop flow mittente abi date name currency walk₀ company₀ i₀ walk company i = length flow / 120 - i
+
+start-requires : tie.Need-start-requires Inv-loop μ-loop
+start-requires c κs = search needs
+
+sub-company : tie.Need-sub-company Inv-loop μ-loop
+sub-company c = search needs
+
+part-company-start : tie.Need-part-company-start Inv-loop μ-loop
+part-company-start c = search needs
+
+part-company-end : tie.Need-part-company-end Inv-loop μ-loop
+part-company-end c = search needs
+
+loop-holds : tie.Need-loop-holds Inv-loop μ-loop
+loop-holds c = (omega arith, length-said _ (c .before .before .before .before .before .before .before .before .pre) .2, rw (c .before .start .ensures) (begin _ _ _))
+
+mul-rec : tie.Need-mul-rec Inv-loop μ-loop
+mul-rec c = omega arith
+
+mul-rec-2 : tie.Need-mul-rec-2 Inv-loop μ-loop
+mul-rec-2 c = omega arith
+
+add-rec : tie.Need-add-rec Inv-loop μ-loop
+add-rec c = omega arith
+
+sub-rec : tie.Need-sub-rec Inv-loop μ-loop
+sub-rec c = omega arith
+
+part-rec-start : tie.Need-part-rec-start Inv-loop μ-loop
+part-rec-start c = omega arith
+
+part-rec-end : tie.Need-part-rec-end Inv-loop μ-loop
+part-rec-end c = omega arith
+
+add-count : tie.Need-add-count Inv-loop μ-loop
+add-count c = omega arith
+
+count-requires : tie.Need-count-requires Inv-loop μ-loop
+count-requires c κs = search needs
+
+judge-requires : tie.Need-judge-requires Inv-loop μ-loop
+judge-requires c κs = search needs
+
+enum-known-number : tie.Need-enum-known-number Inv-loop μ-loop
+enum-known-number c = search needs
+
+-- the part handed on is the record, and its number is its index + 1
+abbrev flow-of : tie.At-loop Inv-loop μ-loop → List ℕ
+flow-of at = at .before .before .before .before .before .before .before .before .before .args .flow .now
+
+handed : (at : tie.At-loop Inv-loop μ-loop) → let i = at .loop .i in part (120 * i) (120 * i + 120 - 120 * i) (flow-of at) ≡ recordAt i (flow-of at)
+handed at =
+    let i = at .loop .i in
+    let whole : 120 * i + 120 - 120 * i ≡ 120 = omega arith in
+    ap (λ (n : ℕ). part (120 * i) n (flow-of at)) whole
+
+found :
+    (c : tie.After-judge Inv-loop μ-loop) → let at = c .before .before .before .before in let a = at .before .before .before .before .before .before .before .before .before .args in
+    judgeRecord (headed (a .mittente .now) (a .abi .now) (a .date .now) (a .name .now) (a .currency .now)) (at .loop .walk) (at .loop .company .now) (suc (at .loop .i)) (recordAt (at .loop .i) (a .flow .now)) ≡ finding (c .judge .result)
+found c =
+    let at = c .before .before .before .before in
+    let number : c .before .count .result ≡ suc (at .loop .i) = c .before .count .ensures ∙ add-one (at .loop .i) in
+    sym (c .judge .ensures ∙ ap₂ (judgeRecord _ _ _) number (handed at))
+
+returns : tie.Need-returns Inv-loop μ-loop
+returns c =
+    let at = c .before .before .before .before .before .before .before in
+    let told = found (c .before .before .before) ∙ ap finding (c .before .number .given .1) in
+    rw (c .before .before .before .before .count .ensures, add-one) (refuse (at .loop .inv .2) _ _ (c .before .before .before .before .before .before .loop-test .taken) told)
+
+enum-known-right : tie.Need-enum-known-right Inv-loop μ-loop
+enum-known-right c = search needs
+
+latest-company-requires : tie.Need-latest-company-requires Inv-loop μ-loop
+latest-company-requires c κs = search needs
+
+next-requires : tie.Need-next-requires Inv-loop μ-loop
+next-requires c κs = search needs
+
+add-i : tie.Need-add-i Inv-loop μ-loop
+add-i c = omega arith
+
+loop-less : tie.Need-loop-less Inv-loop μ-loop
+loop-less c = omega arith
+
+loop-again : tie.Need-loop-again Inv-loop μ-loop
+loop-again c =
+    let at = c .before .before .before .before .before .before .before .before .before in
+    let told = found (c .before .before .before .before .before) ∙ ap finding (c .before .before .before .right .given .1) in
+    (omega arith, at .loop .inv .1, rw (c .next .ensures, c .before .latest-company .ensures, handed at, add-one) (go-on (at .loop .inv .2) _ _ (c .before .before .before .before .before .before .before .before .loop-test .taken) told))
+
+count-requires-2 : tie.Need-count-requires-2 Inv-loop μ-loop
+count-requires-2 c κs = search needs
+
+end-requires : tie.Need-end-requires Inv-loop μ-loop
+end-requires c κs = omega (arith, c .count2 .ensures)
+
+returns-2 : tie.Need-returns-2 Inv-loop μ-loop
+returns-2 c =
+    let at = c .before .before .before in
+    c .end .ensures ∙ rw (c .before .count2 .ensures) (finish (at .loop .inv .2) (c .before .before .loop-test .left))
+
+pub read-records-spec : {M : Type 1} → statement M
+read-records-spec =
+    tie.close
+    (tie.spec
+    Inv-loop
+    μ-loop
+    start-requires
+    sub-company
+    part-company-start
+    part-company-end
+    loop-holds
+    mul-rec
+    mul-rec-2
+    add-rec
+    sub-rec
+    part-rec-start
+    part-rec-end
+    add-count
+    count-requires
+    judge-requires
+    enum-known-number
+    returns
+    enum-known-right
+    latest-company-requires
+    next-requires
+    add-i
+    loop-less
+    loop-again
+    count-requires-2
+    end-requires
+    returns-2)

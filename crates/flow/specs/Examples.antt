@@ -1,0 +1,69 @@
+-- The two-rent flow of document 01 and what reading answers, as equations that compute. Assumes nothing.
+use Prim.Native.Nat.{ℕ}
+use Prim.Native.String.{String}
+use mathlib.Core.List.{List, [], _∷_, _++_}
+use mathlib.Core.Path.{_≡_}
+use Rattle.sequences.specs.Text.{text}
+use Rattle.flow.specs.Judge.{judge}
+use Rattle.flow.specs.Verdict.{accepted, refused}
+
+-- records, one after the other
+abbrev pub flowOf : List String → List ℕ
+flowOf [] = []
+flowOf (r ∷ rs) = text r ++ flowOf rs
+
+-- the header and the trailer of the two-rent flow
+abbrev pub headerIm : String
+headerIm = " IMAB12301234150326RENT-MARCH                                                                                    E      "
+
+abbrev pub trailerEf : String
+trailerEf = " EFAB12301234150326RENT-MARCH                00000020000000000830500000000000000000000016                        E      "
+
+-- the records of its first disposition that stand before 50
+abbrev pub firstOpened : List String
+firstOpened =
+    " 140000001            310326070000000000045000-0123402400000000123456                      AB1232S0017                 E"
+    ∷ " 200000001RESIDENZA SAN MARTINO   VIA DEI COLLEGI 12      20100 MILANO MI                                               "
+    ∷ " 300000001ROSSI GIULIA                                                RSSGLI05A41F205X                                  "
+    ∷ " 400000001VIA DEI COLLEGI 12            20100MILANO MI                STANZA 17                                         "
+    ∷ []
+
+-- a 59, for the place of the 50
+abbrev pub further59 : String
+further59 = " 590000001RETTA MARZO 2026                                                                                              "
+
+-- the rest of its first disposition, and its second
+abbrev pub firstClosed : List String
+firstClosed =
+    " 500000001RETTA MARZO 2026                                                                                              "
+    ∷ " 5100000010000000017                                                                                                    "
+    ∷ " 700000001                                                                                                              "
+    ∷ []
+
+abbrev pub second : List String
+second =
+    " 140000002            310326070000000000038050-0123402400000000123456                      AB1232S0023                 E"
+    ∷ " 200000002RESIDENZA SAN MARTINO   VIA DEI COLLEGI 12      20100 MILANO MI                                               "
+    ∷ " 300000002BIANCHI MARCO                                               BNCMRC04P12F205Y                                  "
+    ∷ " 400000002VIA DEI COLLEGI 12            20100MILANO MI                STANZA 23                                         "
+    ∷ " 500000002RETTA MARZO 2026                                                                                              "
+    ∷ " 5100000020000000023                                                                                                    "
+    ∷ " 700000002                                                                                                              "
+    ∷ []
+
+abbrev pub twoRents : List ℕ
+twoRents = flowOf ((headerIm ∷ firstOpened) ++ (firstClosed ++ (second ++ (trailerEf ∷ []))))
+
+-- the header and the first records of a disposition, then the records given
+abbrev pub withFurther : List String → List ℕ
+withFurther furthers = flowOf ((headerIm ∷ firstOpened) ++ furthers)
+
+pub record Examples : Type 0 where
+  pub two-rents : judge twoRents ≡ accepted 2 83050 16
+  -- document 01, examples 4, 5, 6 and 8
+  pub empty : judge [] ≡ refused 1 0 0
+  pub header-alone : judge (flowOf (headerIm ∷ [])) ≡ refused 4 2 0
+  pub no-disposition : judge (flowOf (headerIm ∷ trailerEf ∷ [])) ≡ refused 3 2 2
+  pub six-further : judge (withFurther (further59 ∷ further59 ∷ further59 ∷ further59 ∷ further59 ∷ further59 ∷ [])) ≡ refused 3 11 2
+  -- five are not too many: behind them a record is due
+  pub five-further : judge (withFurther (further59 ∷ further59 ∷ further59 ∷ further59 ∷ further59 ∷ [])) ≡ refused 4 11 0

@@ -1,0 +1,7 @@
+pub mod Examples
+pub mod Judge
+pub mod Laws
+pub mod Order
+pub mod Steps
+pub mod Sums
+pub mod Verdict

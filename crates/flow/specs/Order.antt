@@ -1,0 +1,57 @@
+-- The order of records (document 01, "The flow as bytes": IM; then dispositions; then EF, and nothing after it. A disposition is 14,
+-- optionally 16, then 20, 30, 40, then either one 50 or one to five 59, then 51, 70). Assumes nothing.
+use Prim.Native.Nat.{ℕ, suc}
+use mathlib.Core.Bool.{Bool, true, false, cond}
+use mathlib.Core.List.{List, [], _∷_}
+use lib.Dec.{ltb}
+use Rattle.records.specs.Kinds.{hasType}
+use Rattle.records.specs.declared.kind.Kind.{Kind}
+use Rattle.records.specs.declared.kind.Kind.the-variants.{Im, R14, R16, R20, R30, R40, R50, R59, R51, R70, Ef}
+use Rattle.flow.specs.declared.order.Due.{Due}
+use Rattle.flow.specs.declared.order.Due.the-variants.{OnlyIm, OnlyR14, R16OrR20, OnlyR20, OnlyR30, OnlyR40, R50OrR59, R59OrR51, OnlyR51, OnlyR70, R14OrEf, Nothing}
+use Rattle.flow.specs.declared.order.Found.{Found}
+use Rattle.flow.specs.declared.order.Found.the-variants.{Of, Missing}
+use Rattle.flow.specs.declared.order.Place.{Place}
+
+-- the kinds of record that may come next
+abbrev pub permitted : Due → List Kind
+permitted OnlyIm = Im ∷ []
+permitted OnlyR14 = R14 ∷ []
+permitted R16OrR20 = R16 ∷ R20 ∷ []
+permitted OnlyR20 = R20 ∷ []
+permitted OnlyR30 = R30 ∷ []
+permitted OnlyR40 = R40 ∷ []
+permitted R50OrR59 = R50 ∷ R59 ∷ []
+permitted R59OrR51 = R59 ∷ R51 ∷ []
+permitted OnlyR51 = R51 ∷ []
+permitted OnlyR70 = R70 ∷ []
+permitted R14OrEf = R14 ∷ Ef ∷ []
+permitted Nothing = []
+
+-- a record is still due where one may come
+abbrev pub isDue : List Kind → Bool
+isDue [] = false
+isDue (k ∷ ks) = true
+
+-- a place in the flow: what may come next, and, where a further 59 may come, how many stand right before it
+abbrev pub place : Due → Place
+place d = record { due = d; further = 0 }
+
+-- the place behind a record of the kind, with n records 59 right before that one; five are the most
+abbrev pub placeAfter : ℕ → Kind → Place
+placeAfter n Im = place OnlyR14
+placeAfter n R14 = place R16OrR20
+placeAfter n R16 = place OnlyR20
+placeAfter n R20 = place OnlyR30
+placeAfter n R30 = place OnlyR40
+placeAfter n R40 = place R50OrR59
+placeAfter n R50 = place OnlyR51
+placeAfter n R59 = cond (ltb n 4) (record { due = R59OrR51; further = suc n }) (place OnlyR51)
+placeAfter n R51 = place OnlyR70
+placeAfter n R70 = place R14OrEf
+placeAfter n Ef = place Nothing
+
+-- the kind of a record among those permitted
+unfoldable pub among : List Kind → List ℕ → Found
+among [] rec = Missing
+among (k ∷ ks) rec = cond (hasType k rec) (Of k) (among ks rec)

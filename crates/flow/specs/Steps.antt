@@ -1,0 +1,59 @@
+-- The walk over a flow, a record at a time: what is found of a record at its place, and the state behind it. The counts here are exact;
+-- the code's stop where the trailer's digits end. Assumes nothing.
+use Prim.Native.Nat.{ℕ, _+_, min}
+use mathlib.Core.Bool.{cond, _&&_}
+use mathlib.Core.List.{List}
+use lib.Dec.{eqb}
+use lib.ListN.{length}
+use Rattle.records.specs.Bytes.{badByte}
+use Rattle.records.specs.Checks.{isPresent}
+use Rattle.records.specs.Context.{Header, context}
+use Rattle.records.specs.Field.{field}
+use Rattle.records.specs.Finding.{Finding, refused}
+use Rattle.records.specs.Judge.{judge}
+use Rattle.records.specs.Kinds.{opens}
+use Rattle.records.specs.Limits.{countLimit, centsLimit}
+use Rattle.records.specs.declared.judged.Counts.{Counts}
+use Rattle.records.specs.declared.kind.Kind.{Kind}
+use Rattle.flow.specs.Order.{permitted, place, placeAfter, among}
+use Rattle.flow.specs.declared.order.Due.the-variants.{OnlyIm}
+use Rattle.flow.specs.declared.order.Found.{Found}
+use Rattle.flow.specs.declared.order.Found.the-variants.{Of, Missing}
+use Rattle.flow.specs.declared.walk.Walk.{Walk}
+
+abbrev pub start : Walk
+start = record { place = place OnlyIm; dispositions = 0; cents = 0 }
+
+-- the dispositions that a record of the kind opens, and those up to and with it
+abbrev pub opened : Kind → ℕ
+opened k = cond (opens k) 1 0
+
+abbrev pub counted : Walk → Kind → ℕ
+counted w k = w .dispositions + opened k
+
+-- the state behind a right record of the kind that asks for c cents
+abbrev pub step : Walk → Kind → ℕ → Walk
+step w k c = record { place = placeAfter (w .place .further) k; dispositions = counted w k; cents = w .cents + c }
+
+-- the latest company code present, behind a record of the kind
+abbrev pub latest : Kind → List ℕ → List ℕ → List ℕ
+latest k company rec = cond (opens k && isPresent (field 92 96 rec)) (field 92 96 rec) company
+
+abbrev pub countsAt : Walk → ℕ → Kind → Counts
+countsAt w n k = record { dispositions = counted w k; cents = w .cents; records = n }
+
+-- number 3 where no permitted type stands at 2-3, else what the rules of its kind find
+unfoldable pub typed : Header → Walk → List ℕ → ℕ → List ℕ → Found → Finding
+typed header w company n rec Missing = refused 3 2
+typed header w company n rec (Of k) = judge k (context header company (countsAt w n k)) rec
+
+-- the n-th record of a flow, in the order of document 01: 2 at its lowest byte, then 3, then its kind's checks
+unfoldable pub judgeRecord : Header → Walk → List ℕ → ℕ → List ℕ → Finding
+judgeRecord header w company n rec =
+    cond (eqb (length rec) 120)
+    (cond (eqb (badByte rec) 0) (typed header w company n rec (among (permitted (w .place .due)) rec)) (refused 2 (badByte rec)))
+    (refused 1 0)
+
+-- the code's counts stop one above what the trailer's digits hold, where no record can tell them from the exact ones
+abbrev pub stopped : Walk → Walk
+stopped w = record { place = w .place; dispositions = min (w .dispositions) countLimit; cents = min (w .cents) centsLimit }

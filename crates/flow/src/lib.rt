@@ -1,0 +1,15 @@
+// Reading a flow of M.Av. payment requests: the order of its records, the walk over them, and `read`,
+// which accepts a flow exactly where document 01 does and else gives its first fault.
+//
+// The flow is read in place: each record is handed to the record rules as the part of 120 bytes that
+// it is, and nothing of it is copied. No public function has a `requires`, and none changes a byte.
+mod answer;
+mod order;
+mod reader;
+mod walk;
+
+pub use answer::Answer;
+pub use order::Due;
+pub use order::Place;
+pub use reader::read;
+pub use walk::Walk;

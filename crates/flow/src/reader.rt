@@ -1,0 +1,138 @@
+// Reading a flow.
+ghost use Prim.Native.Nat.{_+_, _*_, _/_, _≤_};
+ghost use mathlib.Core.Bool.{true};
+ghost use mathlib.Core.List.{[]};
+ghost use mathlib.Core.Path.{_≡_};
+ghost use lib.ListN.{length};
+ghost use Rattle.records.specs.Context.{headed};
+ghost use Rattle.flow.specs.Judge.{isLength, cut, ended, go};
+ghost use Rattle.flow.specs.Judge.{judge as Judge·judge};
+ghost use Rattle.flow.specs.Steps.{start};
+ghost use Rattle.flow.specs.Steps.{latest as Steps·latest};
+ghost use Rattle.flow.specs.Verdict.{verdict};
+use crate::answer::Answer;
+use crate::walk::Walk;
+use records::Judged;
+use records::Kind;
+use records::WRONG_LENGTH;
+use records::field;
+
+// The most bytes of a flow: the trailer counts its records in seven digits.
+const MOST: usize = 1199999880;
+
+// Document 01, "Numbers a clerk may see".
+const ENDED: u64 = 4;
+
+// The answer to a flow: its counts where it keeps the rules, and else its first fault. Any bytes, of
+// any length.
+pub fn read(flow: &[u8]) -> Answer
+    ensures { λ r. ⌜ verdict r ≡ Judge·judge (now (flow .entry)) ⌝ }
+{
+    if !is_length(flow.len()) {
+        return Answer::Refused {
+            number: WRONG_LENGTH,
+            record: 0,
+            position: 0,
+        };
+    }
+    let header = &flow[0..120];
+    read_records(
+        flow,
+        field(header, 4, 8),
+        field(header, 9, 13),
+        field(header, 14, 19),
+        field(header, 20, 39),
+        field(header, 114, 114),
+    )
+}
+
+fn is_length(n: usize) -> bool
+    ensures { λ r. ⌜ r ≡ isLength n ⌝ }
+{
+    if n == 0 {
+        return false;
+    }
+    if n % 120 != 0 {
+        return false;
+    }
+    n <= MOST
+}
+
+// Each record in turn, with the header's fields.
+fn read_records(
+    flow: &[u8],
+    mittente: &[u8],
+    abi: &[u8],
+    date: &[u8],
+    name: &[u8],
+    currency: &[u8],
+) -> Answer
+    requires { ⌜ isLength (length (now flow)) ≡ true ⌝ }
+    ensures { λ r. ⌜ verdict r ≡ go ended
+        (headed (now (mittente .entry)) (now (abi .entry)) (now (date .entry)) (now (name .entry)) (now (currency .entry)))
+        start [] 0 (cut (length (now (flow .entry)) / 120) (now (flow .entry))) ⌝ }
+{
+    let mut walk = Walk::start();
+    let mut company = &flow[0..0];
+    let mut i = 0;
+    while i < flow.len() / 120 {
+        let rec = &flow[120 * i..120 * i + 120];
+        let n = count(i + 1);
+        match walk.judge(rec, n, mittente, abi, date, name, currency, company) {
+            Judged::Refused(number, position) => {
+                return Answer::Refused {
+                    number,
+                    record: n,
+                    position,
+                };
+            }
+            Judged::Right(right) => {
+                let kind = right.kind;
+                let latest = latest_company(company, rec, kind);
+                company = latest;
+                walk = walk.next(right);
+            }
+        }
+        i += 1;
+    }
+    end(walk, count(i))
+}
+
+// The latest company code present, behind a record of the kind.
+fn latest_company<'a>(company: &'a [u8], rec: &'a [u8], kind: Kind) -> &'a [u8]
+    ensures { λ r. ⌜ now r ≡ Steps·latest kind (now (company .entry)) (now (rec .entry)) ⌝ }
+{
+    if !records::opens(kind) {
+        return company;
+    }
+    let code = field(rec, 92, 96);
+    if fields::all_blank(code) {
+        return company;
+    }
+    code
+}
+
+// The answer behind the last of n records.
+fn end(walk: Walk, n: u64) -> Answer
+    requires { ⌜ n ≤ 9999999 ⌝ }
+    ensures { λ r. ⌜ verdict r ≡ ended walk n ⌝ }
+{
+    if walk.complete() {
+        return Answer::Accepted {
+            dispositions: walk.dispositions,
+            cents: walk.cents,
+            records: n,
+        };
+    }
+    Answer::Refused {
+        number: ENDED,
+        record: n + 1,
+        position: 0,
+    }
+}
+
+fn count(n: usize) -> u64
+    ensures { λ r. ⌜ r ≡ n ⌝ }
+{
+    n as u64
+}

@@ -1,0 +1,152 @@
+// The walk over a flow: its state goes in by value and comes back behind the next record.
+ghost use Prim.Native.Nat.{_+_, min};
+ghost use mathlib.Core.Bool.{not};
+ghost use mathlib.Core.Path.{_≡_};
+ghost use Rattle.records.specs.Context.{headed};
+ghost use Rattle.records.specs.Finding.{finding};
+ghost use Rattle.records.specs.Limits.{countLimit};
+ghost use Rattle.flow.specs.Order.{isDue, permitted};
+ghost use Rattle.flow.specs.Steps.{step, stopped, counted, judgeRecord};
+ghost use Rattle.flow.specs.Steps.{start as Steps·start};
+use crate::order::Due;
+use crate::order::Found;
+use crate::order::Place;
+use crate::order::kind_due;
+use crate::order::place_after;
+use records::Counts;
+use records::Judged;
+use records::Kind;
+use records::Record;
+use records::WRONG_LENGTH;
+
+// What may come next, the dispositions so far and the cents so far. The counts stop one above what
+// the trailer's digits hold, so that every state has a next one; of an accepted flow they are exact.
+pub struct Walk {
+    pub place: Place,
+    pub dispositions: u64,
+    pub cents: u64,
+}
+
+const COUNT_LIMIT: u64 = 10000000;
+
+const CENTS_LIMIT: u64 = 1000000000000000;
+
+// Document 01, "Numbers a clerk may see".
+const BAD_BYTE: u64 = 2;
+
+const WRONG_TYPE: u64 = 3;
+
+impl Walk {
+    // Before the header.
+    pub fn start() -> Walk
+        ensures { λ r. ⌜ r ≡ Steps·start ⌝ }
+    {
+        Walk {
+            place: Place {
+                due: Due::OnlyIm,
+                further: 0,
+            },
+            dispositions: 0,
+            cents: 0,
+        }
+    }
+
+    // The first fault of the flow's n-th record, or its kind and cents. The header's fields are those
+    // of the flow's IM, and `company` is the latest company code present, blank or empty where there
+    // is none.
+    pub fn judge(
+        self,
+        rec: &[u8],
+        n: u64,
+        mittente: &[u8],
+        abi: &[u8],
+        date: &[u8],
+        name: &[u8],
+        currency: &[u8],
+        company: &[u8],
+    ) -> Judged
+        ensures { λ r. ⌜ finding r ≡ judgeRecord
+            (headed (now (mittente .entry)) (now (abi .entry)) (now (date .entry)) (now (name .entry)) (now (currency .entry)))
+            self (now (company .entry)) n (now (rec .entry)) ⌝ }
+    {
+        if rec.len() != 120 {
+            return Judged::Refused(WRONG_LENGTH, 0);
+        }
+        let bad = records::bad_byte(rec);
+        if bad != 0 {
+            return Judged::Refused(BAD_BYTE, bad);
+        }
+        let place = self.place;
+        let due = place.due;
+        match kind_due(due, rec) {
+            Found::Of(kind) => {
+                let counts = Counts {
+                    dispositions: self.counted(kind),
+                    cents: self.cents,
+                    records: n,
+                };
+                records::judge(
+                    rec,
+                    kind,
+                    counts,
+                    mittente,
+                    abi,
+                    date,
+                    name,
+                    currency,
+                    company,
+                )
+            }
+            Found::Missing => Judged::Refused(WRONG_TYPE, 2),
+        }
+    }
+
+    // The state behind a right record.
+    pub fn next(self, right: Record) -> Walk
+        ensures { λ r. ⌜ r ≡ stopped (step self (right .kind) (right .cents)) ⌝ }
+    {
+        let kind = right.kind;
+        let place = self.place;
+        let next = place_after(place.further, kind);
+        Walk {
+            place: next,
+            dispositions: self.counted(kind),
+            cents: sum(self.cents, right.cents, CENTS_LIMIT),
+        }
+    }
+
+    // Whether the flow may end here.
+    pub fn complete(self) -> bool
+        ensures { λ r. ⌜ r ≡ not (isDue (permitted (self .place .due))) ⌝ }
+    {
+        let place = self.place;
+        let due = place.due;
+        if let Due::Nothing = due { true } else { false }
+    }
+
+    // The dispositions up to and with a record of the kind.
+    fn counted(self, kind: Kind) -> u64
+        ensures { λ r. ⌜ r ≡ min (counted self kind) countLimit ⌝ }
+    {
+        if records::opens(kind) {
+            return sum(self.dispositions, 1, COUNT_LIMIT);
+        }
+        sum(self.dispositions, 0, COUNT_LIMIT)
+    }
+}
+
+// a + b, or limit where that is less. Most records add nothing.
+fn sum(a: u64, b: u64, limit: u64) -> u64
+    ensures { λ r. ⌜ r ≡ min (a + b) limit ⌝ }
+{
+    if limit <= a {
+        return limit;
+    }
+    if b == 0 {
+        return a;
+    }
+    if limit - a <= b {
+        return limit;
+    }
+    a + b
+}

@@ -1,0 +1,93 @@
+-- How early returns meet a list of checks: at each place of the code, what the checks still to come decide is what all of them do.
+-- Assumes nothing.
+use Prim.Native.Nat.{ℕ, zero, suc}
+use mathlib.Core.Bool.{Bool, true, false, cond}
+use mathlib.Core.List.{List, [], _∷_}
+use mathlib.Core.Path.{_≡_, refl, sym, _∙_, ap}
+use native.Mathlib.Omega.{arith}
+use lib.ListN.{drop}
+use Rattle.fields.specs.Answer.{accepted, notDigits}
+use Rattle.fields.specs.Answer.{refused as Answer·refused}
+use Rattle.fields.proofs.Answers.{accepted-not-refused, refused-same}
+use Rattle.records.specs.Finding.{Finding, right, refused, Check, check, firstFault}
+use Rattle.records.specs.declared.kind.Kind.{Kind}
+
+-- a place that the code has reached: all checks, those still to come, and what follows them
+pub record Reached : Type 0 where
+  pub all : List Check
+  pub left : List Check
+  pub rest : Finding
+  pub same : firstFault all rest ≡ firstFault left rest
+
+-- whether the first check holds, what it refuses by, and the others
+abbrev pub holds : List Check → Bool
+holds [] = true
+holds (check b n p ∷ cs) = b
+
+abbrev pub refusal : List Check → Finding → Finding
+refusal [] rest = rest
+refusal (check b n p ∷ cs) rest = refused n p
+
+abbrev pub others : List Check → List Check
+others [] = []
+others (c ∷ cs) = cs
+
+abbrev pub enter : List Check → Finding → Reached
+enter cs rest = record { all = cs; left = cs; rest = rest; same = refl }
+
+pub one-held : (cs : List Check) (rest : Finding) → holds cs ≡ true → firstFault cs rest ≡ firstFault (others cs) rest
+unfolding firstFault
+one-held [] rest h = refl
+one-held (check b n p ∷ cs) rest h = rw h
+
+one-failed : (cs : List Check) (rest : Finding) → holds cs ≡ false → firstFault cs rest ≡ refusal cs rest
+unfolding firstFault
+one-failed [] rest h = refl
+one-failed (check b n p ∷ cs) rest h = rw h
+
+-- the first check holds
+abbrev pub pass : (r : Reached) → holds (r .left) ≡ true → Reached
+pass r h = record { all = r .all; left = others (r .left); rest = r .rest; same = r .same ∙ one-held (r .left) (r .rest) h }
+
+-- the first two hold
+abbrev pub pass-row : (r : Reached) → (holds (r .left) ≡ true) × (holds (others (r .left)) ≡ true) → Reached
+pass-row r h = pass (pass r (h .0)) (h .1)
+
+-- the first check fails
+pub stop : (r : Reached) → holds (r .left) ≡ false → refusal (r .left) (r .rest) ≡ firstFault (r .all) (r .rest)
+stop r h = sym (r .same ∙ one-failed (r .left) (r .rest) h)
+
+-- no check is left
+pub done : (r : Reached) → r .left ≡ [] → r .rest ≡ firstFault (r .all) (r .rest)
+unfolding firstFault
+done r e = sym (r .same ∙ rw e)
+
+-- a field that is refused by 5, or else by n
+pub stop-row :
+    {A : Type 0} (r : Reached) (a b : Bool) (y : A) (n p : ℕ) {m : ℕ} {cs : List Check} → r .left ≡ check a notDigits p ∷ check b n p ∷ cs
+    → cond a (cond b (accepted y) (Answer·refused n)) (Answer·refused notDigits) ≡ Answer·refused m → refused m p ≡ firstFault (r .all) (r .rest)
+unfolding firstFault
+stop-row r false b y n p e x = ap (λ (k : ℕ). refused k p) (sym (refused-same x)) ∙ sym (r .same ∙ rw e)
+stop-row r true false y n p e x = ap (λ (k : ℕ). refused k p) (sym (refused-same x)) ∙ sym (r .same ∙ rw e)
+stop-row r true true y n p e x = absurd (accepted-not-refused x)
+
+-- a right record has kept every check
+pub right-not-refused : {k : Kind} {c n p : ℕ} → refused n p ≡ right k c → ⊥
+right-not-refused e = let z : _≡_ {A = ℕ} 0 1 = cc in omega arith
+
+pub kept : (b : Bool) (n p : ℕ) (cs : List Check) (rest : Finding) {k : Kind} {c : ℕ} → firstFault (check b n p ∷ cs) rest ≡ right k c → (b ≡ true) × (firstFault cs rest ≡ right k c)
+unfolding firstFault
+kept true n p cs rest e = (refl, e)
+kept false n p cs rest e = absurd (right-not-refused e)
+
+-- and what is left of them behind the first n
+pub behind : (n : ℕ) (cs : List Check) (rest : Finding) {k : Kind} {c : ℕ} → firstFault cs rest ≡ right k c → firstFault (drop n cs) rest ≡ right k c
+behind zero cs rest e = e
+behind (suc n) [] rest e = e
+behind (suc n) (check b m p ∷ cs) rest e = behind n cs rest (kept b m p cs rest e .1)
+
+-- nor is anything else found than what follows them
+pub kept-all : (cs : List Check) (rest : Finding) {k : Kind} {c : ℕ} → firstFault cs rest ≡ right k c → rest ≡ right k c
+unfolding firstFault
+kept-all [] rest e = e
+kept-all (check b n p ∷ cs) rest e = kept-all cs rest (kept b n p cs rest e .1)

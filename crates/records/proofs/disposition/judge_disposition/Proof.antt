@@ -1,0 +1,200 @@
+-- `records::judge_disposition` meets its contract: each return is the first check that fails, and `past-p` is the place behind the checks of position p. Assumes nothing.
+use mathlib.Core.Bool.{true}
+use mathlib.Core.List.{_++_}
+use mathlib.Core.Path.{_≡_, refl, sym, _∙_, ap}
+use native.Mathlib.Omega.{arith}
+use borrow.Author.Needs.{needs}
+use borrow.Author.Tests.{not-true, not-false}
+use Rattle.fields.specs.Answer.{accepted, numberAnswer, dateAnswer}
+use Rattle.fields.specs.Digits.{isDigits, number}
+use Rattle.fields.proofs.Answers.{passed, failed, accepted-same}
+use Rattle.records.specs.Checks.{agrees, numberChecks, dispositionChecks}
+use Rattle.records.specs.Field.{field}
+use Rattle.records.specs.Finding.{right}
+use Rattle.records.specs.declared.kind.Kind.the-variants.{R14}
+use Rattle.records.proofs.FirstFault.{Reached, enter, pass, pass-row, stop, done}
+use Rattle.records.proofs.Rows.{fits, digits-both, date-both, stop-digits, stop-date}
+use Rattle.records.proofs.disposition.judge_disposition.Statement.{statement}
+use Rattle.records.proofs.disposition.judge_disposition.Tie as tie
+
+digits-equal-to-requires : tie.Need-digits-equal-to-requires
+digits-equal-to-requires c κs = search needs
+
+enum-known-number : tie.Need-enum-known-number
+enum-known-number c = search needs
+
+abbrev entered : tie.After-shared-slice-known → Reached
+entered c = enter (numberChecks (c .before .args .n) (c .before .args .rec .now) ++ dispositionChecks (c .before .args .abi .now) (c .before .args .company .now) (c .before .args .rec .now)) (right R14 (number (field 34 46 (c .before .args .rec .now))))
+
+returns : tie.Need-returns
+returns c = stop-digits (entered (c .before .before .before .before .before .before)) _ 4 _ _ refl (sym (c .before .before .before .digits-equal-to .ensures) ∙ ap numberAnswer (c .before .number .given .1))
+
+enum-told : tie.Need-enum-told
+enum-told c = search needs
+
+date-requires : tie.Need-date-requires
+date-requires c κs = search needs
+
+enum-known-number-2 : tie.Need-enum-known-number-2
+enum-known-number-2 c = search needs
+
+abbrev past-4 : tie.After-enum-told → Reached
+past-4 c = pass-row (entered (c .before .before .before .before .before)) (digits-both _ _ _ (sym (c .before .before .digits-equal-to .ensures) ∙ ap numberAnswer (c .enum-told .given .1)))
+
+returns-2 : tie.Need-returns-2
+returns-2 c = stop-date (past-4 (c .before .before .before .before)) _ 23 refl (sym (c .before .before .before .date .ensures) ∙ ap dateAnswer (c .before .number2 .given .1))
+
+enum-told-2 : tie.Need-enum-told-2
+enum-told-2 c = search needs
+
+slice-aggregate-same : tie.Need-slice-aggregate-same
+slice-aggregate-same c = search needs
+
+same-requires : tie.Need-same-requires
+same-requires c κs = search needs
+
+abbrev past-23 : tie.After-enum-told2 → Reached
+past-23 c = pass-row (past-4 (c .before .before .before)) (date-both _ (sym (c .before .before .date .ensures) ∙ ap dateAnswer (c .enum-told2 .given .1)))
+
+returns-3 : tie.Need-returns-3
+returns-3 c = stop (past-23 (c .before .before .before)) (sym (c .before .same .ensures) ∙ not-true _ (c .if1 .taken))
+
+amount-requires : tie.Need-amount-requires
+amount-requires c κs = search needs
+
+enum-known-cents : tie.Need-enum-known-cents
+enum-known-cents c = search needs
+
+enum-told-3 : tie.Need-enum-told-3
+enum-told-3 c = search needs
+
+abbrev past-29 : tie.Else1 → Reached
+past-29 c = pass (past-23 (c .before .before .before)) (sym (c .before .same .ensures) ∙ not-false _ (c .if1 .left))
+
+returns-4 : tie.Need-returns-4
+returns-4 c = stop (past-29 (c .before .before .before)) (failed _ _ _ _ (sym (c .before .before .amount .ensures) ∙ ap numberAnswer (c .enum-told3 .given .1)))
+
+slice-aggregate-same-2 : tie.Need-slice-aggregate-same-2
+slice-aggregate-same-2 c = search needs
+
+same-requires-2 : tie.Need-same-requires-2
+same-requires-2 c κs = search needs
+
+-- the amount, where its thirteen bytes are digits
+read :
+    (c : tie.After-known-told3) → let bs = field 34 46 (c .before .before .before .before .before .before .before .before .before .before .before .before .before .before .before .before .args .rec .now) in
+    (isDigits bs ≡ true) × (c .before .cents .given .0 .0 ≡ number bs)
+read c =
+    let amount = passed (isDigits _) (accepted (number _)) _ (sym (c .before .before .before .amount .ensures) ∙ ap numberAnswer (c .before .cents .given .1)) in
+    (amount .0, sym (accepted-same (amount .1)))
+
+abbrev past-34 : tie.After-known-told3 → Reached
+past-34 c = pass (past-29 (c .before .before .before .before)) (read c .0)
+
+returns-5 : tie.Need-returns-5
+returns-5 c = stop (past-34 (c .before .before .before)) (sym (c .before .same2 .ensures) ∙ not-true _ (c .if2 .taken))
+
+equal-to-header-requires : tie.Need-equal-to-header-requires
+equal-to-header-requires c κs = search needs
+
+enum-known-number-3 : tie.Need-enum-known-number-3
+enum-known-number-3 c = search needs
+
+abbrev past-47 : tie.Else2 → Reached
+past-47 c = pass (past-34 (c .before .before .before)) (sym (c .before .same2 .ensures) ∙ not-false _ (c .if2 .left))
+
+returns-6 : tie.Need-returns-6
+returns-6 c = stop-digits (past-47 (c .before .before .before .before)) _ 48 _ _ refl (sym (c .before .before .before .equal-to-header .ensures) ∙ ap numberAnswer (c .before .number3 .given .1))
+
+enum-told-4 : tie.Need-enum-told-4
+enum-told-4 c = search needs
+
+blank-or-digits-requires : tie.Need-blank-or-digits-requires
+blank-or-digits-requires c κs = search needs
+
+abbrev past-48 : tie.After-enum-told4 → Reached
+past-48 c = pass-row (past-47 (c .before .before .before)) (digits-both _ _ _ (sym (c .before .before .equal-to-header .ensures) ∙ ap numberAnswer (c .enum-told4 .given .1)))
+
+returns-7 : tie.Need-returns-7
+returns-7 c = stop (past-48 (c .before .before)) (sym (c .before .blank-or-digits .ensures) ∙ not-true _ (c .if3 .taken))
+
+field-requires : tie.Need-field-requires
+field-requires c κs = search needs
+
+agreeing-requires : tie.Need-agreeing-requires
+agreeing-requires c κs = search needs
+
+abbrev past-53 : tie.Else3 → Reached
+past-53 c = pass (past-48 (c .before .before)) (sym (c .before .blank-or-digits .ensures) ∙ not-false _ (c .if3 .left))
+
+returns-8 : tie.Need-returns-8
+returns-8 c = stop (past-53 (c .before .before .before)) (sym (c .before .agreeing .ensures ∙ ap (agrees _) (c .before .before .field .ensures)) ∙ not-true _ (c .if4 .taken))
+
+slice-aggregate-listed : tie.Need-slice-aggregate-listed
+slice-aggregate-listed c = search needs
+
+listed-requires : tie.Need-listed-requires
+listed-requires c κs = fits 97 97 _ (c .before .before .before .before .before .before .before .before .before .before .before .before .before .before .before .before .before .before .before .before .before .before .before .before .before .before .before .before .pre) (omega arith) (omega arith) (omega arith) (omega arith)
+
+abbrev past-92 : tie.Else4 → Reached
+past-92 c = pass (past-53 (c .before .before .before)) (sym (c .before .agreeing .ensures ∙ ap (agrees _) (c .before .before .field .ensures)) ∙ not-false _ (c .if4 .left))
+
+returns-9 : tie.Need-returns-9
+returns-9 c = stop (past-92 (c .before .before .before)) (sym (c .before .listed .ensures) ∙ not-true _ (c .if5 .taken))
+
+slice-aggregate-same-3 : tie.Need-slice-aggregate-same-3
+slice-aggregate-same-3 c = search needs
+
+same-requires-3 : tie.Need-same-requires-3
+same-requires-3 c κs = search needs
+
+abbrev past-97 : tie.Else5 → Reached
+past-97 c = pass (past-92 (c .before .before .before)) (sym (c .before .listed .ensures) ∙ not-false _ (c .if5 .left))
+
+returns-10 : tie.Need-returns-10
+returns-10 c = stop (past-97 (c .before .before .before)) (sym (c .before .same3 .ensures) ∙ not-true _ (c .if6 .taken))
+
+abbrev past-120 : tie.Else6 → Reached
+past-120 c = pass (past-97 (c .before .before .before)) (sym (c .before .same3 .ensures) ∙ not-false _ (c .if6 .left))
+
+returns-11 : tie.Need-returns-11
+returns-11 c = ap (right R14) (read (c .before .before .before .before .before .before .before .before .before .before .before .before .before .before .before .before .before) .1) ∙ done (past-120 c) refl
+
+pub judge-disposition-spec : {M : Type 1} → statement M
+judge-disposition-spec =
+    tie.close
+    (tie.spec
+    digits-equal-to-requires
+    enum-known-number
+    returns
+    enum-told
+    date-requires
+    enum-known-number-2
+    returns-2
+    enum-told-2
+    slice-aggregate-same
+    same-requires
+    returns-3
+    amount-requires
+    enum-known-cents
+    enum-told-3
+    returns-4
+    slice-aggregate-same-2
+    same-requires-2
+    returns-5
+    equal-to-header-requires
+    enum-known-number-3
+    returns-6
+    enum-told-4
+    blank-or-digits-requires
+    returns-7
+    field-requires
+    agreeing-requires
+    returns-8
+    slice-aggregate-listed
+    listed-requires
+    returns-9
+    slice-aggregate-same-3
+    same-requires-3
+    returns-10
+    returns-11)

@@ -1,0 +1,96 @@
+-- `records::field` meets its contract. Assumes nothing.
+use Prim.Native.Nat.{_-_, _≤_}
+use mathlib.Core.Path.{_≡_, sym, _∙_}
+use native.Mathlib.Omega.{arith}
+use lib.ListN.{length, drop, length-drop, drop-of-length-le}
+use lib.Seq.{take-nil, take-all}
+use borrow.Author.Needs.{needs}
+use Rattle.records.proofs.position.field.Statement.{statement}
+use Rattle.records.proofs.position.field.Tie as tie
+
+before-requires : tie.Need-before-requires
+before-requires c κs = search needs
+
+sub-result : tie.Need-sub-result
+sub-result c = search needs
+
+part-result-start : tie.Need-part-result-start
+part-result-start c = search needs
+
+part-result-end : tie.Need-part-result-end
+part-result-end c = search needs
+
+returns : tie.Need-returns
+returns c =
+    let at = c .before .before in
+    let none : at .before .before .args .last - (at .before .before .args .first - 1) ≡ 0 = omega (arith, at .before2 .ensures) in
+    rw none
+
+sub-result-2 : tie.Need-sub-result-2
+sub-result-2 c = search needs
+
+part-result-start-2 : tie.Need-part-result-start-2
+part-result-start-2 c = search needs
+
+part-result-end-2 : tie.Need-part-result-end-2
+part-result-end-2 c = search needs
+
+returns-2 : tie.Need-returns-2
+returns-2 c =
+    let at = c .before .before .before in
+    let past : length (at .before .before .args .rec .now) ≤ at .before .before .args .first - 1 = omega (arith, at .before2 .ensures) in
+    rw (drop-of-length-le _ past, take-nil)
+
+sub-result-3 : tie.Need-sub-result-3
+sub-result-3 c = search needs
+
+part-result-start-3 : tie.Need-part-result-start-3
+part-result-start-3 c = search needs
+
+part-result-end-3 : tie.Need-part-result-end-3
+part-result-end-3 c = search needs
+
+returns-3 : tie.Need-returns-3
+returns-3 c =
+    let at = c .before .before .before .before in
+    let rec = at .before .before .args .rec .now in
+    let from = at .before2 .result in
+    let short : length (drop from rec) ≤ at .before .before .args .last - from = omega (arith, length-drop from rec) in
+    let whole : length (drop from rec) ≤ length rec - from = omega (arith, length-drop from rec) in
+    rw (← at .before2 .ensures) (take-all _ _ whole ∙ sym (take-all _ _ short))
+
+sub-result-4 : tie.Need-sub-result-4
+sub-result-4 c = search needs
+
+part-result-start-4 : tie.Need-part-result-start-4
+part-result-start-4 c = search needs
+
+part-result-end-4 : tie.Need-part-result-end-4
+part-result-end-4 c = search needs
+
+returns-4 : tie.Need-returns-4
+returns-4 c =
+    let at = c .before .before .before .before in
+    rw (at .before2 .ensures)
+
+pub field-spec : {M : Type 1} → statement M
+field-spec =
+    tie.close
+    (tie.spec
+    before-requires
+    sub-result
+    part-result-start
+    part-result-end
+    returns
+    sub-result-2
+    part-result-start-2
+    part-result-end-2
+    returns-2
+    sub-result-3
+    part-result-start-3
+    part-result-end-3
+    returns-3
+    sub-result-4
+    part-result-start-4
+    part-result-end-4
+    returns-4)

@@ -1,0 +1,19 @@
+-- `records::rules::number_at` meets its contract. Assumes nothing.
+use mathlib.Core.Path.{_∙_, ap}
+use borrow.Author.Needs.{needs}
+use Rattle.fields.specs.Digits.{digitField}
+use Rattle.records.proofs.Rows.{field-digits}
+use Rattle.records.proofs.rules.number_at.Statement.{statement}
+use Rattle.records.proofs.rules.number_at.Tie as tie
+
+field-requires : tie.Need-field-requires
+field-requires c κs = search needs
+
+read-digits-requires : tie.Need-read-digits-requires
+read-digits-requires c κs = search needs
+
+returns : tie.Need-returns
+returns c = c .read-digits .ensures ∙ ap digitField (c .before .field .ensures) ∙ field-digits _ _ _ (c .before .before .before .pre)
+
+pub number-at-spec : {M : Type 1} → statement M
+number-at-spec = tie.close (tie.spec field-requires read-digits-requires returns)

@@ -1,0 +1,31 @@
+-- What a record's rules need from elsewhere in the flow. Assumes nothing.
+use Prim.Native.Nat.{ℕ}
+use mathlib.Core.List.{List}
+use Rattle.records.specs.Field.{field}
+use Rattle.records.specs.declared.judged.Counts.{Counts}
+
+-- the header's fields that later records are compared with
+pub record Header : Type 0 where
+  pub mittente : List ℕ
+  pub abi : List ℕ
+  pub date : List ℕ
+  pub name : List ℕ
+  pub currency : List ℕ
+
+-- a header by its fields
+abbrev pub headed : List ℕ → List ℕ → List ℕ → List ℕ → List ℕ → Header
+headed mittente abi date name currency = record { mittente = mittente; abi = abi; date = date; name = name; currency = currency }
+
+-- the fields as they stand in record IM
+abbrev pub headerOf : List ℕ → Header
+headerOf rec = headed (field 4 8 rec) (field 9 13 rec) (field 14 19 rec) (field 20 39 rec) (field 114 114 rec)
+
+-- the header; the latest company code present, blank or empty where there is none; and the counts: dispositions up to and with this
+-- record, the cents of the amounts before it, records up to and with it
+pub record Context : Type 0 where
+  pub header : Header
+  pub company : List ℕ
+  pub counts : Counts
+
+abbrev pub context : Header → List ℕ → Counts → Context
+context header company counts = record { header = header; company = company; counts = counts }

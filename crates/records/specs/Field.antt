@@ -1,0 +1,13 @@
+-- The fields of a record by position (document 01, "The flow as bytes": positions count from 1 to 120). Assumes nothing.
+use Prim.Native.Nat.{ℕ, _-_}
+use mathlib.Core.List.{List}
+use lib.ListN.{getD}
+use Rattle.sequences.specs.Part.{part}
+
+-- positions a to e, both with
+abbrev pub field : ℕ → ℕ → List ℕ → List ℕ
+field a e rec = part (a - 1) (e - (a - 1)) rec
+
+-- the byte at position p
+abbrev pub byteAt : ℕ → List ℕ → ℕ
+byteAt p rec = getD rec (p - 1) 0

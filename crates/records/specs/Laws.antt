@@ -1,0 +1,38 @@
+-- What is proved of the record rules. `proofs/` has its proof under the law's name in small letters. Assumes nothing.
+use Prim.Native.Nat.{ℕ, _<_}
+use mathlib.Core.List.{List}
+use mathlib.Core.Path.{_≡_}
+use lib.ListN.{length}
+use Rattle.records.specs.Context.{Context}
+use Rattle.records.specs.Finding.{right, refused, finding}
+use Rattle.records.specs.Judge.{asked, judge}
+use Rattle.records.specs.Kinds.{typeOf}
+use Rattle.records.specs.Limits.{countLimit, centsLimit, stopped}
+use Rattle.records.specs.declared.judged.Judged.{Judged}
+use Rattle.records.specs.declared.kind.Kind.{Kind}
+use Rattle.records.specs.declared.kind.Kind.the-variants.{Ef}
+
+-- a type tells its kind: the eleven are different
+abbrev pub TypesDiffer : Type 0
+TypesDiffer = (k l : Kind) → typeOf k ≡ typeOf l → k ≡ l
+
+-- a record that is right is of the kind that it was judged as, and asks for that kind's cents
+abbrev pub RightAsked : Type 0
+RightAsked = (k l : Kind) (ctx : Context) (rec : List ℕ) (c : ℕ) → judge k ctx rec ≡ right l c → (k ≡ l) × (c ≡ asked k rec)
+
+-- number 1 is given to a record for its length alone
+abbrev pub OneForLength : Type 0
+OneForLength = (k : Kind) (ctx : Context) (rec : List ℕ) (p : ℕ) → judge k ctx rec ≡ refused 1 p → ¬ (length rec ≡ 120)
+
+-- counts that stop where the digits end are judged as the exact ones are
+abbrev pub LimitsUnseen : Type 0
+LimitsUnseen = (k : Kind) (ctx : Context) (rec : List ℕ) → judge k (stopped ctx) rec ≡ judge k ctx rec
+
+-- and of a right trailer they have not stopped
+abbrev pub TrailerExact : Type 0
+TrailerExact =
+    (ctx : Context) (rec : List ℕ) (k : Kind) (c : ℕ) → judge Ef ctx rec ≡ right k c → (ctx .counts .dispositions < countLimit) × (ctx .counts .cents < centsLimit)
+
+-- what an answer stands for on paper determines it
+abbrev pub JudgedDetermined : Type 0
+JudgedDetermined = (r s : Judged) → finding r ≡ finding s → r ≡ s

@@ -1,0 +1,11 @@
+pub mod Bytes
+pub mod Checks
+pub mod Constants
+pub mod Context
+pub mod Field
+pub mod Finding
+pub mod Judge
+pub mod Kinds
+pub mod Laws
+pub mod Limits
+pub mod Rows

@@ -1,0 +1,55 @@
+// Record 16, the payee's account.
+ghost use mathlib.Core.Path.{_≡_};
+ghost use mathlib.Core.List.{_++_};
+ghost use lib.ListN.{length};
+ghost use Rattle.records.specs.Checks.{numberChecks, coordinatesChecks};
+ghost use Rattle.records.specs.Finding.{right, firstFault, finding};
+ghost use Rattle.records.specs.declared.kind.Kind.the-variants.{R16};
+use crate::constants::ABSENT;
+use crate::constants::NOT_PERMITTED;
+use crate::constants::WRONG_NUMBER;
+use crate::judged::Judged;
+use crate::judged::Record;
+use crate::kind::Kind;
+use crate::rules::above_zero;
+use crate::rules::blank;
+use crate::rules::digits;
+use crate::rules::digits_equal_to;
+use crate::rules::either;
+use crate::rules::equal_to_header;
+use crate::rules::same;
+use fields::NOT_DIGITS;
+use fields::Number;
+
+pub(crate) fn judge_coordinates(rec: &[u8], n: u64, abi: &[u8]) -> Judged
+    requires { ⌜ length (now rec) ≡ 120 ⌝ }
+    ensures { λ r. ⌜ finding r ≡ firstFault
+        (numberChecks n (now (rec .entry)) ++ coordinatesChecks (now (abi .entry)) (now (rec .entry)))
+        (right R16 0) ⌝ }
+{
+    if let Number::Refused(number) = digits_equal_to(rec, 4, 10, n, WRONG_NUMBER) {
+        return Judged::Refused(number, 4);
+    }
+    if !either(same(rec, 11, 12, b"IT"), same(rec, 11, 12, b"SM")) {
+        return Judged::Refused(NOT_PERMITTED, 11);
+    }
+    if !digits(rec, 13, 14) {
+        return Judged::Refused(NOT_DIGITS, 13);
+    }
+    if blank(rec, 15, 15) {
+        return Judged::Refused(ABSENT, 15);
+    }
+    if let Number::Refused(number) = equal_to_header(rec, 16, 20, abi) {
+        return Judged::Refused(number, 16);
+    }
+    if let Number::Refused(number) = above_zero(rec, 21, 25) {
+        return Judged::Refused(number, 21);
+    }
+    if blank(rec, 26, 37) {
+        return Judged::Refused(ABSENT, 26);
+    }
+    Judged::Right(Record {
+        kind: Kind::R16,
+        cents: 0,
+    })
+}

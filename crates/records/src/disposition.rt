@@ -1,0 +1,73 @@
+// Record 14, which opens a disposition.
+ghost use mathlib.Core.Path.{_≡_};
+ghost use mathlib.Core.List.{_++_};
+ghost use lib.ListN.{length};
+ghost use Rattle.fields.specs.Digits.{number};
+ghost use Rattle.records.specs.Checks.{numberChecks, dispositionChecks};
+ghost use Rattle.records.specs.Field.{field as Field·field};
+ghost use Rattle.records.specs.Finding.{right, firstFault, finding};
+ghost use Rattle.records.specs.declared.kind.Kind.the-variants.{R14};
+use crate::constants::CAUSALE;
+use crate::constants::CURRENCY;
+use crate::constants::NOT_PERMITTED;
+use crate::constants::OTHER_COMPANY;
+use crate::constants::SIGN;
+use crate::constants::WRONG_NUMBER;
+use crate::judged::Judged;
+use crate::judged::Record;
+use crate::kind::Kind;
+use crate::position::field;
+use crate::rules::agreeing;
+use crate::rules::amount;
+use crate::rules::blank_or_digits;
+use crate::rules::date;
+use crate::rules::digits_equal_to;
+use crate::rules::equal_to_header;
+use crate::rules::listed;
+use crate::rules::same;
+use fields::Date;
+use fields::NOT_DIGITS;
+use fields::Number;
+
+pub(crate) fn judge_disposition(rec: &[u8], n: u64, abi: &[u8], company: &[u8]) -> Judged
+    requires { ⌜ length (now rec) ≡ 120 ⌝ }
+    ensures { λ r. ⌜ finding r ≡ firstFault
+        (numberChecks n (now (rec .entry))
+        ++ dispositionChecks (now (abi .entry)) (now (company .entry)) (now (rec .entry)))
+        (right R14 (number (Field·field 34 46 (now (rec .entry))))) ⌝ }
+{
+    if let Number::Refused(number) = digits_equal_to(rec, 4, 10, n, WRONG_NUMBER) {
+        return Judged::Refused(number, 4);
+    }
+    if let Date::Refused(number) = date(rec, 23) {
+        return Judged::Refused(number, 23);
+    }
+    if !same(rec, 29, 33, &CAUSALE) {
+        return Judged::Refused(NOT_PERMITTED, 29);
+    }
+    let Number::Value(cents) = amount(rec, 34) else {
+        return Judged::Refused(NOT_DIGITS, 34);
+    };
+    if !same(rec, 47, 47, &SIGN) {
+        return Judged::Refused(NOT_PERMITTED, 47);
+    }
+    if let Number::Refused(number) = equal_to_header(rec, 48, 52, abi) {
+        return Judged::Refused(number, 48);
+    }
+    if !blank_or_digits(rec, 53, 57) {
+        return Judged::Refused(NOT_DIGITS, 53);
+    }
+    if !agreeing(company, field(rec, 92, 96)) {
+        return Judged::Refused(OTHER_COMPANY, 92);
+    }
+    if !listed(rec, 97, b" 1234569") {
+        return Judged::Refused(NOT_PERMITTED, 97);
+    }
+    if !same(rec, 120, 120, &CURRENCY) {
+        return Judged::Refused(NOT_PERMITTED, 120);
+    }
+    Judged::Right(Record {
+        kind: Kind::R14,
+        cents,
+    })
+}

@@ -1,0 +1,53 @@
+// The eleven record types of a request flow.
+ghost use mathlib.Core.Path.{_≡_};
+ghost use Rattle.records.specs.Kinds.{typeOf, hasType};
+ghost use Rattle.records.specs.Kinds.{opens as Kinds·opens};
+use crate::position::field;
+
+pub enum Kind {
+    Im,
+    R14,
+    R16,
+    R20,
+    R30,
+    R40,
+    R50,
+    R59,
+    R51,
+    R70,
+    Ef,
+}
+
+// The type as it stands at 2-3 of a record of the kind.
+pub fn type_of(kind: Kind) -> [u8; 2]
+    ensures { λ r. ⌜ r ≡ typeOf kind ⌝ }
+{
+    match kind {
+        Kind::Im => *b"IM",
+        Kind::R14 => *b"14",
+        Kind::R16 => *b"16",
+        Kind::R20 => *b"20",
+        Kind::R30 => *b"30",
+        Kind::R40 => *b"40",
+        Kind::R50 => *b"50",
+        Kind::R59 => *b"59",
+        Kind::R51 => *b"51",
+        Kind::R70 => *b"70",
+        Kind::Ef => *b"EF",
+    }
+}
+
+// Whether the record is of the kind, by its type alone.
+pub fn has_type(rec: &[u8], kind: Kind) -> bool
+    ensures { λ r. ⌜ r ≡ hasType kind (now (rec .entry)) ⌝ }
+{
+    let code = type_of(kind);
+    fields::equal(field(rec, 2, 3), &code)
+}
+
+// Whether a record of the kind opens a disposition.
+pub fn opens(kind: Kind) -> bool
+    ensures { λ r. ⌜ r ≡ Kinds·opens kind ⌝ }
+{
+    if let Kind::R14 = kind { true } else { false }
+}

@@ -1,0 +1,33 @@
+// The rules of one M.Av. record of 120 bytes (document 01, table of checks): its type, its fields by
+// position, and `judge`, which gives its first fault.
+//
+// A record is judged by its own bytes. What a rule needs from elsewhere in the flow, the header's
+// fields, the company code so far and the counts so far, is handed in as slices and numbers. No
+// public function has a `requires`, and none changes a byte.
+mod bytes;
+mod constants;
+mod coordinates;
+mod detail;
+mod disposition;
+mod header;
+mod judged;
+mod kind;
+mod position;
+mod record;
+mod rules;
+mod trailer;
+
+pub use bytes::bad_byte;
+pub use constants::CAUSALE;
+pub use constants::CURRENCY;
+pub use constants::SIGN;
+pub use constants::WRONG_LENGTH;
+pub use judged::Counts;
+pub use judged::Judged;
+pub use judged::Record;
+pub use kind::Kind;
+pub use kind::has_type;
+pub use kind::opens;
+pub use kind::type_of;
+pub use position::field;
+pub use record::judge;

@@ -1,0 +1,53 @@
+// One record of a known kind, judged.
+ghost use mathlib.Core.Path.{_≡_};
+ghost use Rattle.records.specs.Context.{headed, context};
+ghost use Rattle.records.specs.Finding.{finding};
+ghost use Rattle.records.specs.Judge.{judge as Judge·judge};
+use crate::constants::WRONG_LENGTH;
+use crate::coordinates::judge_coordinates;
+use crate::detail::judge_control;
+use crate::detail::judge_numbered;
+use crate::detail::judge_with_text;
+use crate::disposition::judge_disposition;
+use crate::header::judge_header;
+use crate::judged::Counts;
+use crate::judged::Judged;
+use crate::kind::Kind;
+use crate::trailer::judge_trailer;
+
+// The first fault of a record of the kind, or its cents. The header's fields are those of the flow's
+// IM, and `company` is the latest company code present, blank or empty where there is none.
+pub fn judge(
+    rec: &[u8],
+    kind: Kind,
+    counts: Counts,
+    mittente: &[u8],
+    abi: &[u8],
+    date: &[u8],
+    name: &[u8],
+    currency: &[u8],
+    company: &[u8],
+) -> Judged
+    ensures { λ r. ⌜ finding r ≡ Judge·judge kind
+        (context (headed (now (mittente .entry)) (now (abi .entry)) (now (date .entry)) (now (name .entry)) (now (currency .entry)))
+        (now (company .entry)) counts)
+        (now (rec .entry)) ⌝ }
+{
+    if rec.len() != 120 {
+        return Judged::Refused(WRONG_LENGTH, 0);
+    }
+    let n = counts.dispositions;
+    match kind {
+        Kind::Im => judge_header(rec),
+        Kind::R14 => judge_disposition(rec, n, abi, company),
+        Kind::R16 => judge_coordinates(rec, n, abi),
+        Kind::R20 => judge_with_text(rec, Kind::R20, n, 34),
+        Kind::R30 => judge_with_text(rec, Kind::R30, n, 40),
+        Kind::R40 => judge_numbered(rec, Kind::R40, n),
+        Kind::R50 => judge_numbered(rec, Kind::R50, n),
+        Kind::R59 => judge_with_text(rec, Kind::R59, n, 65),
+        Kind::R51 => judge_numbered(rec, Kind::R51, n),
+        Kind::R70 => judge_control(rec, n),
+        Kind::Ef => judge_trailer(rec, counts, mittente, abi, date, name, currency),
+    }
+}

@@ -1,0 +1,168 @@
+// What the table of checks says of one field: tests, and fields that are digits and then compared.
+ghost use Prim.Native.Nat.{_+_};
+ghost use mathlib.Core.Bool.{not, _||_};
+ghost use mathlib.Core.Path.{_≡_};
+ghost use lib.Dec.{eqb};
+ghost use Rattle.fields.specs.Answer.{numberAnswer, dateAnswer};
+ghost use Rattle.fields.specs.Bytes.{isBlank, isEqual};
+ghost use Rattle.fields.specs.Digits.{isDigits, digitsFrom};
+ghost use Rattle.fields.specs.Digits.{number as Digits·number};
+ghost use Rattle.records.specs.Field.{byteAt};
+ghost use Rattle.records.specs.Field.{field as Field·field};
+ghost use Rattle.records.specs.Checks.{isListed, agrees};
+ghost use Rattle.records.specs.Rows.{Fits, digitsThen, digitsThenDay};
+use crate::constants::NOT_PERMITTED;
+use crate::constants::NOT_THE_HEADERS;
+use crate::position::field;
+use fields::Date;
+use fields::NOT_DIGITS;
+use fields::Number;
+
+pub(crate) fn blank(rec: &[u8], first: usize, last: usize) -> bool
+    ensures { λ r. ⌜ r ≡ isBlank (Field·field first last (now (rec .entry))) ⌝ }
+{
+    fields::all_blank(field(rec, first, last))
+}
+
+pub(crate) fn same(rec: &[u8], first: usize, last: usize, other: &[u8]) -> bool
+    ensures { λ r. ⌜ r ≡ isEqual (Field·field first last (now (rec .entry))) (now (other .entry)) ⌝ }
+{
+    fields::equal(field(rec, first, last), other)
+}
+
+pub(crate) fn either(a: bool, b: bool) -> bool
+    ensures { λ r. ⌜ r ≡ (a || b) ⌝ }
+{
+    if a { true } else { b }
+}
+
+// Whether the byte at the position is one of those listed.
+pub(crate) fn listed(rec: &[u8], position: usize, bytes: &[u8]) -> bool
+    requires { ⌜ Fits position position (now rec) ⌝ }
+    ensures { λ r. ⌜ r ≡ isListed (byteAt position (now (rec .entry))) (now (bytes .entry)) ⌝ }
+{
+    let b = rec[position - 1];
+    let mut i = 0;
+    while i < bytes.len() {
+        if bytes[i] == b {
+            return true;
+        }
+        i += 1;
+    }
+    false
+}
+
+pub(crate) fn digits(rec: &[u8], first: usize, last: usize) -> bool
+    requires { ⌜ Fits first last (now rec) ⌝ }
+    ensures { λ r. ⌜ r ≡ isDigits (Field·field first last (now (rec .entry))) ⌝ }
+{
+    match number_at(rec, first, last) {
+        Number::Value(_) => true,
+        Number::Refused(_) => false,
+    }
+}
+
+// The number that digits give, or else the refusal: 5.
+fn number_at(rec: &[u8], first: usize, last: usize) -> Number
+    requires { ⌜ Fits first last (now rec) ⌝ }
+    ensures { λ r. ⌜ numberAnswer r ≡ digitsFrom 0 (Field·field first last (now (rec .entry))) ⌝ }
+{
+    fields::read_digits(field(rec, first, last))
+}
+
+pub(crate) fn blank_or_digits(rec: &[u8], first: usize, last: usize) -> bool
+    requires { ⌜ Fits first last (now rec) ⌝ }
+    ensures { λ r. ⌜ r ≡
+        (isBlank (Field·field first last (now (rec .entry))) || isDigits (Field·field first last (now (rec .entry)))) ⌝ }
+{
+    if blank(rec, first, last) {
+        return true;
+    }
+    digits(rec, first, last)
+}
+
+// Whether a company code agrees with the latest one present: either may be blank.
+pub(crate) fn agreeing(company: &[u8], found: &[u8]) -> bool
+    ensures { λ r. ⌜ r ≡ agrees (now (company .entry)) (now (found .entry)) ⌝ }
+{
+    if fields::equal(found, company) {
+        return true;
+    }
+    if fields::all_blank(found) {
+        return true;
+    }
+    fields::all_blank(company)
+}
+
+// The date in the six bytes from first on, or else the refusal: 5, then 8.
+pub(crate) fn date(rec: &[u8], first: usize) -> Date
+    requires { ⌜ Fits first (first + 5) (now rec) ⌝ }
+    ensures { λ r. ⌜ dateAnswer r ≡ digitsThenDay (Field·field first (first + 5) (now (rec .entry))) ⌝ }
+{
+    fields::read_date(field(rec, first, first + 5))
+}
+
+// The amount in the thirteen bytes from first on, or else the refusal: 5.
+pub(crate) fn amount(rec: &[u8], first: usize) -> Number
+    requires { ⌜ Fits first (first + 12) (now rec) ⌝ }
+    ensures { λ r. ⌜ numberAnswer r ≡ digitsFrom 0 (Field·field first (first + 12) (now (rec .entry))) ⌝ }
+{
+    fields::read_amount(field(rec, first, first + 12))
+}
+
+// Digits that give the value due, or else the refusal: 5, then the number handed in.
+pub(crate) fn digits_equal_to(
+    rec: &[u8],
+    first: usize,
+    last: usize,
+    value: u64,
+    number: u64,
+) -> Number
+    requires { ⌜ Fits first last (now rec) ⌝ }
+    ensures { λ r. ⌜ numberAnswer r ≡ digitsThen
+        (Field·field first last (now (rec .entry)))
+        (eqb (Digits·number (Field·field first last (now (rec .entry)))) value)
+        number ⌝ }
+{
+    let Number::Value(found) = number_at(rec, first, last) else {
+        return Number::Refused(NOT_DIGITS);
+    };
+    if found == value {
+        return Number::Value(found);
+    }
+    Number::Refused(number)
+}
+
+// Digits that are the header's, or else the refusal: 5, then 10.
+pub(crate) fn equal_to_header(rec: &[u8], first: usize, last: usize, header: &[u8]) -> Number
+    requires { ⌜ Fits first last (now rec) ⌝ }
+    ensures { λ r. ⌜ numberAnswer r ≡ digitsThen
+        (Field·field first last (now (rec .entry)))
+        (isEqual (Field·field first last (now (rec .entry))) (now (header .entry)))
+        10 ⌝ }
+{
+    let Number::Value(found) = number_at(rec, first, last) else {
+        return Number::Refused(NOT_DIGITS);
+    };
+    if same(rec, first, last, header) {
+        return Number::Value(found);
+    }
+    Number::Refused(NOT_THE_HEADERS)
+}
+
+// Digits above zero, or else the refusal: 5, then 6.
+pub(crate) fn above_zero(rec: &[u8], first: usize, last: usize) -> Number
+    requires { ⌜ Fits first last (now rec) ⌝ }
+    ensures { λ r. ⌜ numberAnswer r ≡ digitsThen
+        (Field·field first last (now (rec .entry)))
+        (not (eqb (Digits·number (Field·field first last (now (rec .entry)))) 0))
+        6 ⌝ }
+{
+    let Number::Value(found) = number_at(rec, first, last) else {
+        return Number::Refused(NOT_DIGITS);
+    };
+    if found == 0 {
+        return Number::Refused(NOT_PERMITTED);
+    }
+    Number::Value(found)
+}

@@ -1,0 +1,72 @@
+// Record EF, the trailer.
+ghost use mathlib.Core.Path.{_≡_};
+ghost use lib.ListN.{length};
+ghost use Rattle.records.specs.Checks.{trailerChecks};
+ghost use Rattle.records.specs.Context.{headed};
+ghost use Rattle.records.specs.Finding.{right, firstFault, finding};
+ghost use Rattle.records.specs.declared.kind.Kind.the-variants.{Ef};
+use crate::constants::NOT_THE_HEADERS;
+use crate::constants::WRONG_COUNT;
+use crate::constants::WRONG_RECORDS;
+use crate::constants::WRONG_TOTAL;
+use crate::judged::Counts;
+use crate::judged::Judged;
+use crate::judged::Record;
+use crate::kind::Kind;
+use crate::rules::digits_equal_to;
+use crate::rules::same;
+use fields::Number;
+
+pub(crate) fn judge_trailer(
+    rec: &[u8],
+    counts: Counts,
+    mittente: &[u8],
+    abi: &[u8],
+    date: &[u8],
+    name: &[u8],
+    currency: &[u8],
+) -> Judged
+    requires { ⌜ length (now rec) ≡ 120 ⌝ }
+    ensures { λ r. ⌜ finding r ≡ firstFault
+        (trailerChecks (headed (now (mittente .entry)) (now (abi .entry)) (now (date .entry)) (now (name .entry)) (now (currency .entry)))
+        counts (now (rec .entry)))
+        (right Ef 0) ⌝ }
+{
+    if !same(rec, 4, 8, mittente) {
+        return Judged::Refused(NOT_THE_HEADERS, 4);
+    }
+    if !same(rec, 9, 13, abi) {
+        return Judged::Refused(NOT_THE_HEADERS, 9);
+    }
+    if !same(rec, 14, 19, date) {
+        return Judged::Refused(NOT_THE_HEADERS, 14);
+    }
+    if !same(rec, 20, 39, name) {
+        return Judged::Refused(NOT_THE_HEADERS, 20);
+    }
+    if let Number::Refused(number) = digits_equal_to(
+        rec,
+        46,
+        52,
+        counts.dispositions,
+        WRONG_COUNT,
+    ) {
+        return Judged::Refused(number, 46);
+    }
+    if let Number::Refused(number) = digits_equal_to(rec, 53, 67, counts.cents, WRONG_TOTAL) {
+        return Judged::Refused(number, 53);
+    }
+    if let Number::Refused(number) = digits_equal_to(rec, 68, 82, 0, WRONG_TOTAL) {
+        return Judged::Refused(number, 68);
+    }
+    if let Number::Refused(number) = digits_equal_to(rec, 83, 89, counts.records, WRONG_RECORDS) {
+        return Judged::Refused(number, 83);
+    }
+    if !same(rec, 114, 114, currency) {
+        return Judged::Refused(NOT_THE_HEADERS, 114);
+    }
+    Judged::Right(Record {
+        kind: Kind::Ef,
+        cents: 0,
+    })
+}
