@@ -1,6 +1,29 @@
 // The fixed contents of records, compared when a record is read (document 01, "Language forms in the
 // code"), and the numbers of the refusals that the rules of a record give.
 
+// The types, as they stand at 2-3; `type_of` gives them to other crates.
+pub(crate) const TYPE_IM: [u8; 2] = *b"IM";
+
+pub(crate) const TYPE_14: [u8; 2] = *b"14";
+
+pub(crate) const TYPE_16: [u8; 2] = *b"16";
+
+pub(crate) const TYPE_20: [u8; 2] = *b"20";
+
+pub(crate) const TYPE_30: [u8; 2] = *b"30";
+
+pub(crate) const TYPE_40: [u8; 2] = *b"40";
+
+pub(crate) const TYPE_50: [u8; 2] = *b"50";
+
+pub(crate) const TYPE_59: [u8; 2] = *b"59";
+
+pub(crate) const TYPE_51: [u8; 2] = *b"51";
+
+pub(crate) const TYPE_70: [u8; 2] = *b"70";
+
+pub(crate) const TYPE_EF: [u8; 2] = *b"EF";
+
 pub const CAUSALE: [u8; 5] = *b"07000";
 
 pub const SIGN: [u8; 1] = *b"-";

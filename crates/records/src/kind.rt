@@ -2,6 +2,7 @@
 ghost use mathlib.Core.Path.{_≡_};
 ghost use Rattle.records.specs.Kinds.{typeOf, hasType};
 ghost use Rattle.records.specs.Kinds.{opens as Kinds·opens};
+use crate::constants;
 use crate::position::field;
 
 pub enum Kind {
@@ -23,17 +24,17 @@ pub fn type_of(kind: Kind) -> [u8; 2]
     ensures { λ r. ⌜ r ≡ typeOf kind ⌝ }
 {
     match kind {
-        Kind::Im => *b"IM",
-        Kind::R14 => *b"14",
-        Kind::R16 => *b"16",
-        Kind::R20 => *b"20",
-        Kind::R30 => *b"30",
-        Kind::R40 => *b"40",
-        Kind::R50 => *b"50",
-        Kind::R59 => *b"59",
-        Kind::R51 => *b"51",
-        Kind::R70 => *b"70",
-        Kind::Ef => *b"EF",
+        Kind::Im => constants::TYPE_IM,
+        Kind::R14 => constants::TYPE_14,
+        Kind::R16 => constants::TYPE_16,
+        Kind::R20 => constants::TYPE_20,
+        Kind::R30 => constants::TYPE_30,
+        Kind::R40 => constants::TYPE_40,
+        Kind::R50 => constants::TYPE_50,
+        Kind::R59 => constants::TYPE_59,
+        Kind::R51 => constants::TYPE_51,
+        Kind::R70 => constants::TYPE_70,
+        Kind::Ef => constants::TYPE_EF,
     }
 }
 

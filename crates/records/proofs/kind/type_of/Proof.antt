@@ -39,37 +39,37 @@ enum-told-11 : tie.Need-enum-told-11
 enum-told-11 c = search needs
 
 returns : tie.Need-returns
-returns c = sym (ap typeOf (c .before .before .enum-told .given .1))
+returns c = sym (ap typeOf (c .enum-told .given .1))
 
 returns-2 : tie.Need-returns-2
-returns-2 c = sym (ap typeOf (c .before .before .enum-told2 .given .1))
+returns-2 c = sym (ap typeOf (c .enum-told2 .given .1))
 
 returns-3 : tie.Need-returns-3
-returns-3 c = sym (ap typeOf (c .before .before .enum-told3 .given .1))
+returns-3 c = sym (ap typeOf (c .enum-told3 .given .1))
 
 returns-4 : tie.Need-returns-4
-returns-4 c = sym (ap typeOf (c .before .before .enum-told4 .given .1))
+returns-4 c = sym (ap typeOf (c .enum-told4 .given .1))
 
 returns-5 : tie.Need-returns-5
-returns-5 c = sym (ap typeOf (c .before .before .enum-told5 .given .1))
+returns-5 c = sym (ap typeOf (c .enum-told5 .given .1))
 
 returns-6 : tie.Need-returns-6
-returns-6 c = sym (ap typeOf (c .before .before .enum-told6 .given .1))
+returns-6 c = sym (ap typeOf (c .enum-told6 .given .1))
 
 returns-7 : tie.Need-returns-7
-returns-7 c = sym (ap typeOf (c .before .before .enum-told7 .given .1))
+returns-7 c = sym (ap typeOf (c .enum-told7 .given .1))
 
 returns-8 : tie.Need-returns-8
-returns-8 c = sym (ap typeOf (c .before .before .enum-told8 .given .1))
+returns-8 c = sym (ap typeOf (c .enum-told8 .given .1))
 
 returns-9 : tie.Need-returns-9
-returns-9 c = sym (ap typeOf (c .before .before .enum-told9 .given .1))
+returns-9 c = sym (ap typeOf (c .enum-told9 .given .1))
 
 returns-10 : tie.Need-returns-10
-returns-10 c = sym (ap typeOf (c .before .before .enum-told10 .given .1))
+returns-10 c = sym (ap typeOf (c .enum-told10 .given .1))
 
 returns-11 : tie.Need-returns-11
-returns-11 c = sym (ap typeOf (c .before .before .enum-told11 .given .1))
+returns-11 c = sym (ap typeOf (c .enum-told11 .given .1))
 
 pub type-of-spec : {M : Type 1} → statement M
 type-of-spec =
