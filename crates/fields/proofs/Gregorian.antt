@@ -43,7 +43,7 @@ leap-tested y (inl h) = rw (eq-eqb (y % 4) 0 (h .0), ne-eqb (y % 100) 0 (h .1))
 leap-tested y (inr h) = rw (eq-eqb (y % 400) 0 h, or-true)
 
 -- a day as a test and as it is said
-day-said : (t : Day) → isDay (t .day) (t .month) (t .year) ≡ true → Gregorian t
+pub day-said : (t : Day) → isDay (t .day) (t .month) (t .year) ≡ true → Gregorian t
 unfolding isDay daysIn
 day-said t e =
     let both = and-eq-true-iff (leb 1 (t .day)) (leb (t .day) (daysIn (t .month) (t .year))) .0 e in
@@ -57,7 +57,7 @@ day-said t e =
         ⊎-elim (λ e. inr (e, february, leap-said (t .year) (both .1))) (λ l. inl (first, rw february (le-of-suc-le-suc l))) (eq-or-lt-of-le within)
     go false h first last = inl (first, omega arith)
 
-day-tested : (t : Day) → Gregorian t → isDay (t .day) (t .month) (t .year) ≡ true
+pub day-tested : (t : Day) → Gregorian t → isDay (t .day) (t .month) (t .year) ≡ true
 unfolding isDay daysIn
 day-tested t (inl h) =
     let within : t .day ≤ daysIn (t .month) (t .year) = omega arith in

@@ -1,12 +1,11 @@
 -- What an accepted flow is answered, and which flows are refused by 1. Assumes nothing.
-use Prim.Native.Nat.{ℕ, zero, suc, _+_, _*_, _/_, _%_, _≤_}
+use Prim.Native.Nat.{ℕ, suc, _+_, _*_, _/_, _%_, _≤_}
 use mathlib.Core.Bool.{Bool, true, false, cond, true≢false}
 use mathlib.Core.List.{List, [], _∷_}
 use mathlib.Core.Path.{_≡_, refl, sym, _∙_, ap}
 use native.Mathlib.Omega.{arith}
 use lib.Dec.{eqb}
-use lib.ListN.{length, take, drop, length-drop}
-use lib.Seq.{length-take-le}
+use lib.ListN.{length, take}
 use borrow.Author.Tests.{le-leb, eq-eqb}
 use Rattle.fields.specs.Digits.{number}
 use Rattle.records.specs.Bytes.{badByte}
@@ -29,6 +28,7 @@ use Rattle.flow.specs.declared.answer.Answer.the-variants.{Accepted, Ref
 use Rattle.flow.specs.declared.order.Found.{Found}
 use Rattle.flow.specs.declared.order.Found.the-variants.{Of, Missing}
 use Rattle.flow.specs.declared.walk.Walk.{Walk}
+use Rattle.flow.proofs.Cut.{cut-count, Whole, cut-whole}
 use Rattle.flow.proofs.Exact.{right-typed}
 use Rattle.flow.proofs.Lengths.{length-said}
 
@@ -72,12 +72,6 @@ exact-from header w company i (rec ∷ recs) d c n = next (judgeRecord header w 
         (omega arith, omega arith, omega arith)
     next (Finding·refused m p) found rest e = absurd (accepted-not-refused e)
 
--- n records are cut
-cut-count : (n : ℕ) (f : List ℕ) → length (cut n f) ≡ n
-unfolding cut
-cut-count zero f = refl
-cut-count (suc n) f = ap suc (cut-count n (drop 120 f))
-
 pub accepted-exact : AcceptedExact
 unfolding judge
 accepted-exact f d c n = go-on (isLength (length f)) refl
@@ -91,17 +85,6 @@ accepted-exact f d c n = go-on (isLength (length f)) refl
         let said = length-said (length f) h in
         (omega arith, omega arith, omega (arith, cut-count (length f / 120) f))
     go-on false h e = absurd (accepted-not-refused e)
-
--- records of 120 bytes each
-abbrev Whole : List (List ℕ) → Type 0
-Whole [] = Unit {0}
-Whole (rec ∷ recs) = (length rec ≡ 120) × Whole recs
-
-cut-whole : (n : ℕ) (f : List ℕ) → 120 * n ≤ length f → Whole (cut n f)
-unfolding cut
-cut-whole zero f h = tt
-cut-whole (suc n) f h =
-    (length-take-le 120 f (omega arith), cut-whole n (drop 120 f) (omega (arith, length-drop 120 f)))
 
 -- a record of 120 bytes is not refused by 1
 record-not-one : (header : Header) (w : Walk) (company : List ℕ) (n : ℕ) (rec : List ℕ) (p : ℕ) → length rec ≡ 120 → ¬ (judgeRecord header w company n rec ≡ Finding·refused 1 p)
@@ -132,7 +115,7 @@ refused-later header w company i (rec ∷ recs) r p whole =
         let one : m ≡ 1 = cc in
         record-not-one header w company (suc i) rec q (whole .0) (found ∙ ap (λ (e : ℕ). Finding·refused e q) one)
 
-length-tested : (n : ℕ) → (1 ≤ n) × (n % 120 ≡ 0) × (n ≤ 1199999880) → isLength n ≡ true
+pub length-tested : (n : ℕ) → (1 ≤ n) × (n % 120 ≡ 0) × (n ≤ 1199999880) → isLength n ≡ true
 length-tested n h = rw (le-leb 1 n (h .0), eq-eqb (n % 120) 0 (h .1), le-leb n 1199999880 (h .2))
 
 pub length-refused : LengthRefused

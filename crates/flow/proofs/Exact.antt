@@ -2,7 +2,7 @@
 -- Assumes nothing.
 use Prim.Native.Nat.{ℕ, suc, _+_, min}
 use mathlib.Core.Bool.{Bool, true, false, cond, true≢false}
-use mathlib.Core.List.{List, [], _∷_}
+use mathlib.Core.List.{List}
 use mathlib.Core.Path.{_≡_, refl, sym, _∙_, ap, subst}
 use native.Mathlib.Omega.{arith}
 use lib.Dec.{eqb, ltb}
@@ -25,6 +25,7 @@ use Rattle.flow.specs.declared.order.Due.the-variants.{R59OrR51, OnlyR51
 use Rattle.flow.specs.declared.order.Found.{Found}
 use Rattle.flow.specs.declared.order.Found.the-variants.{Of, Missing}
 use Rattle.flow.specs.declared.walk.Walk.{Walk}
+use Rattle.flow.proofs.Among.{In, among-said}
 
 -- counts that stop alike are judged alike
 pub counts-alike : (header : Header) (company : List ℕ) (k : Kind) (a b : Counts) (rec : List ℕ) → stoppedCounts a ≡ stoppedCounts b → judge k (context header company a) rec ≡ judge k (context header company b) rec
@@ -60,7 +61,7 @@ stopped-step w k c =
     λ i. record { place = placeAfter (w .place .further) k; dispositions = count i; cents = cents i }
 
 -- only behind a trailer nothing is due
-last-kind : (n : ℕ) (k : Kind) → isDue (permitted (placeAfter n k .due)) ≡ false → k ≡ Ef
+pub last-kind : (n : ℕ) (k : Kind) → isDue (permitted (placeAfter n k .due)) ≡ false → k ≡ Ef
 last-kind n Im e = absurd (true≢false e)
 last-kind n R14 e = absurd (true≢false e)
 last-kind n R16 e = absurd (true≢false e)
@@ -77,36 +78,21 @@ last-kind n R51 e = absurd (true≢false e)
 last-kind n R70 e = absurd (true≢false e)
 last-kind n Ef e = refl
 
--- a kind found among those permitted is the record's type
-among-type : (ks : List Kind) (rec : List ℕ) (k : Kind) → among ks rec ≡ Of k → hasType k rec ≡ true
-unfolding among
-among-type [] rec k e = absurd (missing-not-of e)
-  where
-    missing-not-of : Missing ≡ Of k → ⊥
-    missing-not-of e = let z : _≡_ {A = ℕ} 0 1 = cc in omega arith
-among-type (l ∷ ks) rec k e = go (among-type ks rec k) (hasType l rec) refl e
-  where
-    go : (among ks rec ≡ Of k → hasType k rec ≡ true) → (b : Bool) → hasType l rec ≡ b → cond b (Of l) (among ks rec) ≡ Of k → hasType k rec ≡ true
-    go rest true t e =
-        let same : l ≡ k = cc in
-        subst (λ (m : Kind). hasType m rec ≡ true) same t
-    go rest false t e = rest e
-
--- what was found right was found so by its type and by the rules of its kind
+-- what was found right was found so by its type, by the rules of its kind, and among the kinds permitted
 pub right-typed :
     (header : Header) (w : Walk) (company : List ℕ) (n : ℕ) (rec : List ℕ) (k : Kind) (c : ℕ)
-    → judgeRecord header w company n rec ≡ right k c → (hasType k rec ≡ true) × (judge k (context header company (countsAt w n k)) rec ≡ right k c)
+    → judgeRecord header w company n rec ≡ right k c → (hasType k rec ≡ true) × (judge k (context header company (countsAt w n k)) rec ≡ right k c) × In k (permitted (w .place .due))
 unfolding judgeRecord typed
 right-typed header w company n rec k c = sized (eqb (length rec) 120) (eqb (badByte rec) 0) (among (permitted (w .place .due)) rec) refl
   where
-    of : (x : Found) → among (permitted (w .place .due)) rec ≡ x → typed header w company n rec x ≡ right k c → (hasType k rec ≡ true) × (judge k (context header company (countsAt w n k)) rec ≡ right k c)
+    of : (x : Found) → among (permitted (w .place .due)) rec ≡ x → typed header w company n rec x ≡ right k c → (hasType k rec ≡ true) × (judge k (context header company (countsAt w n k)) rec ≡ right k c) × In k (permitted (w .place .due))
     of Missing t e = absurd (right-not-refused e)
     of (Of l) t e =
         let same = right-asked l k (context header company (countsAt w n l)) rec c e .0 in
-        let kind = among-type (permitted (w .place .due)) rec l t in
-        subst (λ (m : Kind). (hasType m rec ≡ true) × (judge m (context header company (countsAt w n m)) rec ≡ right k c)) same (kind, e)
+        let said = among-said (permitted (w .place .due)) rec l t in
+        subst (λ (m : Kind). (hasType m rec ≡ true) × (judge m (context header company (countsAt w n m)) rec ≡ right k c) × In m (permitted (w .place .due))) same (said .1, e, said .0)
 
-    sized : (a b : Bool) (x : Found) → among (permitted (w .place .due)) rec ≡ x → cond a (cond b (typed header w company n rec x) (refused 2 (badByte rec))) (refused 1 0) ≡ right k c → (hasType k rec ≡ true) × (judge k (context header company (countsAt w n k)) rec ≡ right k c)
+    sized : (a b : Bool) (x : Found) → among (permitted (w .place .due)) rec ≡ x → cond a (cond b (typed header w company n rec x) (refused 2 (badByte rec))) (refused 1 0) ≡ right k c → (hasType k rec ≡ true) × (judge k (context header company (countsAt w n k)) rec ≡ right k c) × In k (permitted (w .place .due))
     sized true true x t e = of x t e
     sized true false x t e = absurd (right-not-refused e)
     sized false b x t e = absurd (right-not-refused e)

@@ -1,6 +1,8 @@
 -- The worked examples, by computation. Assumes nothing.
+use mathlib.Core.List.{flatten}
 use mathlib.Core.Path.{refl}
 use Rattle.sequences.specs.Every.{every}
+use Rattle.sequences.specs.Groups.{lead, groups}
 use Rattle.fields.specs.Bytes.{isEqual}
 use Rattle.fields.specs.Calendar.{isLeap, daysIn, isDay}
 use Rattle.fields.specs.Digits.{numberFrom}
@@ -9,10 +11,25 @@ use Rattle.records.specs.Checks.{isListed, checks}
 use Rattle.records.specs.Finding.{firstFault}
 use Rattle.records.specs.Judge.{judge as Record·judge}
 use Rattle.flow.specs.Examples.{Examples}
+use Rattle.flow.specs.Find.{find}
 use Rattle.flow.specs.Judge.{cut, go, judge}
 use Rattle.flow.specs.Order.{among}
 use Rattle.flow.specs.Steps.{typed, judgeRecord}
 
 pub examples : Examples
-unfolding judge go cut judgeRecord typed among Record·judge firstFault checks isListed badFrom isEqual numberFrom every isDay daysIn isLeap
-examples = record { two-rents = refl; empty = refl; header-alone = refl; no-disposition = refl; five-further = refl; six-further = refl }
+unfolding judge go cut judgeRecord typed among Record·judge firstFault checks isListed badFrom isEqual numberFrom every isDay daysIn isLeap find groups lead flatten
+examples =
+    record {
+      two-rents = refl;
+      empty = refl;
+      header-alone = refl;
+      no-disposition = refl;
+      five-further = refl;
+      six-further = refl;
+      first-rent = refl;
+      second-rent = refl;
+      no-rent-0 = refl;
+      no-rent-3 = refl;
+      none-in-empty = refl;
+      second-part = refl;
+    }

@@ -1,4 +1,7 @@
 pub mod Accepted
+pub mod Among
+pub mod Cut
+pub mod Dispositions
 pub mod Exact
 pub mod Examples
 pub mod Lengths

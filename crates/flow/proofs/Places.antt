@@ -1,5 +1,6 @@
 -- A record at its place in the flow: which law finds what. Assumes nothing.
 use Prim.Native.Nat.{ℕ, min}
+use mathlib.Core.Bool.{true}
 use mathlib.Core.List.{List}
 use mathlib.Core.Path.{_≡_, _∙_}
 use native.Mathlib.Omega.{arith}
@@ -9,6 +10,7 @@ use Rattle.records.specs.Bytes.{badByte}
 use Rattle.records.specs.Context.{Header, context}
 use Rattle.records.specs.Finding.{refused}
 use Rattle.records.specs.Judge.{judge}
+use Rattle.records.specs.Kinds.{hasType}
 use Rattle.records.specs.Limits.{countLimit, centsLimit, stoppedCounts}
 use Rattle.records.specs.declared.judged.Counts.{Counts}
 use Rattle.records.specs.declared.kind.Kind.{Kind}
@@ -17,6 +19,7 @@ use Rattle.flow.specs.Steps.{counted, typed, judgeRecord, countsAt}
 use Rattle.flow.specs.declared.order.Found.{Found}
 use Rattle.flow.specs.declared.order.Found.the-variants.{Of, Missing}
 use Rattle.flow.specs.declared.walk.Walk.{Walk}
+use Rattle.flow.proofs.Among.{In, HasNone, among-tested, none-missing}
 use Rattle.flow.proofs.Exact.{counts-alike}
 
 module _ (header : Header) (w : Walk) (company : List ℕ) (n : ℕ) (rec : List ℕ) where
@@ -47,3 +50,12 @@ module _ (header : Header) (w : Walk) (company : List ℕ) (n : ℕ) (rec : List
         let count : min (counted w k) countLimit ≡ min (min (counted w k) countLimit) countLimit = omega arith in
         let alike : stoppedCounts (countsAt w n k) ≡ stoppedCounts handed = λ i. record { dispositions = count i; cents = min (w .cents) centsLimit; records = n } in
         by-type (Of k) printable e ∙ counts-alike header company k (countsAt w n k) handed rec alike
+
+    -- a record of a permitted type is judged by the rules of its kind
+    pub judged-of : (k : Kind) → badByte rec ≡ 0 → In k (permitted (w .place .due)) → hasType k rec ≡ true → judgeRecord header w company n rec ≡ judge k (context header company (countsAt w n k)) rec
+    unfolding typed
+    judged-of k printable i t = by-type (Of k) printable (among-tested (permitted (w .place .due)) rec k i t)
+
+    -- one of none of them by 3
+    pub judged-none : badByte rec ≡ 0 → HasNone (permitted (w .place .due)) rec → judgeRecord header w company n rec ≡ refused 3 2
+    judged-none printable none = no-type printable (none-missing (permitted (w .place .due)) rec none)

@@ -1,11 +1,10 @@
 -- The loop over the records of a flow: behind each right record, what is left decides as the whole does. Assumes nothing.
-use Prim.Native.Nat.{ℕ, suc, _+_, _-_, _*_, _≤_, _<_}
+use Prim.Native.Nat.{ℕ, suc, _-_, _*_, _≤_, _<_}
 use mathlib.Core.Bool.{Bool, true, false}
-use mathlib.Core.List.{List, [], _∷_}
+use mathlib.Core.List.{List, []}
 use mathlib.Core.Path.{_≡_, refl, sym, _∙_, ap}
 use native.Mathlib.Omega.{arith}
 use lib.ListN.{drop}
-use lib.Seq.{drop-drop}
 use Rattle.records.specs.Context.{Header}
 use Rattle.records.specs.Finding.{right}
 use Rattle.records.specs.Finding.{refused as Finding·refused}
@@ -15,18 +14,8 @@ use Rattle.flow.specs.Order.{permitted, isDue}
 use Rattle.flow.specs.Steps.{start, step, latest, judgeRecord, stopped}
 use Rattle.flow.specs.Verdict.{refused}
 use Rattle.flow.specs.declared.walk.Walk.{Walk}
+use Rattle.flow.proofs.Cut.{cut-next, cut-end}
 use Rattle.flow.proofs.Exact.{record-alike, stopped-step, exact-at-end}
-
-cut-next : (n i : ℕ) (f : List ℕ) → i < n → cut (n - i) (drop (120 * i) f) ≡ recordAt i f ∷ cut (n - suc i) (drop (120 * suc i) f)
-unfolding cut
-cut-next n i f h =
-    let one : n - i ≡ suc (n - suc i) = omega arith in
-    let on : 120 * i + 120 ≡ 120 * suc i = omega arith in
-    rw one (rw (drop-drop, on))
-
-cut-end : (n i : ℕ) (f : List ℕ) → n ≤ i → cut (n - i) f ≡ []
-unfolding cut
-cut-end n i f h = let none : n - i ≡ 0 = omega arith in rw none
 
 -- behind i right records: the state w is the exact one, stopped, and is exact where nothing is due
 pub record Reading (header : Header) (f : List ℕ) (n : ℕ) (w : Walk) (company : List ℕ) (i : ℕ) : Type 0 where

@@ -4,6 +4,8 @@ use Prim.Native.String.{String}
 use mathlib.Core.List.{List, [], _∷_, _++_}
 use mathlib.Core.Path.{_≡_}
 use Rattle.sequences.specs.Text.{text}
+use Rattle.flow.specs.Find.{standing, find, partOf}
+use Rattle.flow.specs.Find.{refused as Located·refused}
 use Rattle.flow.specs.Judge.{judge}
 use Rattle.flow.specs.Verdict.{accepted, refused}
 
@@ -67,3 +69,11 @@ pub record Examples : Type 0 where
   pub six-further : judge (withFurther (further59 ∷ further59 ∷ further59 ∷ further59 ∷ further59 ∷ further59 ∷ [])) ≡ refused 3 11 2
   -- five are not too many: behind them a record is due
   pub five-further : judge (withFurther (further59 ∷ further59 ∷ further59 ∷ further59 ∷ further59 ∷ [])) ≡ refused 4 11 0
+  -- where the two rents stand: their records are 2 to 8 and 9 to 15
+  pub first-rent : find twoRents 1 ≡ standing 2 7 45000
+  pub second-rent : find twoRents 2 ≡ standing 9 7 38050
+  pub no-rent-0 : find twoRents 0 ≡ Located·refused 15 0 0
+  pub no-rent-3 : find twoRents 3 ≡ Located·refused 15 0 0
+  pub none-in-empty : find [] 1 ≡ Located·refused 1 0 0
+  -- the part is the second rent's seven records
+  pub second-part : partOf twoRents 2 ≡ flowOf second

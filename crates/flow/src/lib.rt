@@ -1,14 +1,19 @@
 // Reading a flow of M.Av. payment requests: the order of its records, the walk over them, and `read`,
-// which accepts a flow exactly where document 01 does and else gives its first fault.
+// which accepts a flow exactly where document 01 does and else gives its first fault; and `find` and
+// `disposition`, which say where disposition k stands in an accepted flow.
 //
 // The flow is read in place: each record is handed to the record rules as the part of 120 bytes that
 // it is, and nothing of it is copied. No public function has a `requires`, and none changes a byte.
 mod answer;
+mod location;
 mod order;
 mod reader;
 mod walk;
 
 pub use answer::Answer;
+pub use location::Location;
+pub use location::disposition;
+pub use location::find;
 pub use order::Due;
 pub use order::Place;
 pub use reader::read;

@@ -131,7 +131,7 @@ fn end(walk: Walk, n: u64) -> Answer
     }
 }
 
-fn count(n: usize) -> u64
+pub(crate) fn count(n: usize) -> u64
     ensures { λ r. ⌜ r ≡ n ⌝ }
 {
     n as u64

@@ -1,19 +1,37 @@
 // The line that each line of the vectors is answered by.
 use crate::escape;
+use crate::location;
 use libc::STDOUT_FILENO;
 use printing::line_feed;
+ghost use Prim.Native.Nat.{_≤_};
+ghost use lib.ListN.{length};
 
-// `#` and a name, `=` and a flow, or neither. A flow longer than `space` is cut to it.
-pub(crate) fn answer(line: &[u8], space: &mut [u8]) {
+// `#` and a name, `=` and a flow, `?` and a number, or none of these. The latest flow is the first n
+// bytes of `space`; the answer is how many are the latest one then. A flow longer than `space` is cut
+// to it.
+pub(crate) fn answer(line: &[u8], space: &mut [u8], n: usize) -> usize
+    requires { ⌜ n ≤ length (now space) ⌝ }
+    ensures { λ r. ⌜ r ≤ length (now (space .exit)) ⌝ }
+{
     if line.len() == 0 {
         unknown();
-        return;
+        return n;
     }
     let kind = line[0];
     match kind {
-        b'#' => name(line),
+        b'#' => {
+            name(line);
+            n
+        }
         b'=' => judged(&line[1..], space),
-        _ => unknown(),
+        b'?' => {
+            location::print(&space[0..n], vector_lines::decimal(&line[1..]));
+            n
+        }
+        _ => {
+            unknown();
+            n
+        }
     }
 }
 
@@ -22,9 +40,13 @@ fn name(line: &[u8]) {
     line_feed();
 }
 
-fn judged(text: &[u8], space: &mut [u8]) {
+// Decodes the flow into `space`, and answers its length.
+fn judged(text: &[u8], space: &mut [u8]) -> usize
+    ensures { λ r. ⌜ r ≤ length (now (space .exit)) ⌝ }
+{
     let n = escape::decode(text, space);
     report::print_answer(flow::read(&space[0..n]));
+    n
 }
 
 fn unknown() {

@@ -22,11 +22,15 @@ pub fn print_answer(answer: Answer) {
             number,
             record,
             position,
-        } => {
-            labelled(b"refused ", number);
-            labelled(b" record ", record);
-            labelled(b" position ", position);
-        }
+        } => print_refusal(number, record, position),
     }
     line_feed();
+}
+
+// Writes a refusal to standard output, as `refused 9 record 10 position 4` with no line feed. A write
+// that fails is not told.
+pub fn print_refusal(number: u64, record: u64, position: u64) {
+    labelled(b"refused ", number);
+    labelled(b" record ", record);
+    labelled(b" position ", position);
 }

@@ -1,4 +1,9 @@
+pub mod All
 pub mod Below
 pub mod Drop
+pub mod DropLast
 pub mod Every
+pub mod Flatten
+pub mod Groups
+pub mod Map
 pub mod Part

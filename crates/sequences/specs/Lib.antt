@@ -1,3 +1,6 @@
+pub mod All
 pub mod Every
+pub mod Groups
 pub mod Part
+pub mod Sum
 pub mod Text

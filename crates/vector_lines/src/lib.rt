@@ -1,10 +1,13 @@
-// Lines and hexadecimal digits of the vector files, for the programs that run them.
+// Lines, hexadecimal digits and decimal numbers of the vector files, for the programs that run them.
 //
 // No public function has a `requires`, and none changes a byte.
-ghost use Prim.Native.Nat.{_≤_};
+ghost use Prim.Native.Nat.{_+_, _*_, _≤_, min};
 ghost use mathlib.Core.Path.{_≡_};
 ghost use lib.ListN.{length};
 ghost use Rattle.vector_lines.specs.Lines.{lineEnd, hexDigit};
+ghost use Rattle.vector_lines.specs.Numbers.{decimalDigit, decimalNumber, largest};
+
+const LARGEST: u64 = 18446744073709551615;
 
 // Where the first line of text ends: at its line feed, or at the end of the text.
 pub fn line_end(text: &[u8]) -> usize
@@ -29,6 +32,42 @@ pub fn hex_digit(b: u8) -> u8
     match b {
         b'0'..=b'9' => b - b'0',
         b'a'..=b'f' => b - b'a' + 10,
+        _ => 0,
+    }
+}
+
+// The number that the decimal digits of text say. A byte that is no digit counts as 0, and what is
+// above 64 bits stops at the largest number that they hold.
+pub fn decimal(text: &[u8]) -> u64
+    ensures { λ r. ⌜ r ≡ decimalNumber (now (text .entry)) ⌝ }
+{
+    let mut n = 0;
+    let mut at = 0;
+    while at < text.len() {
+        n = with_digit(n, decimal_digit(text[at]));
+        at += 1;
+    }
+    n
+}
+
+// n with one digit more behind it, or the largest number.
+fn with_digit(n: u64, digit: u64) -> u64
+    ensures { λ r. ⌜ r ≡ min largest (10 * n + digit) ⌝ }
+{
+    if LARGEST / 10 < n {
+        return LARGEST;
+    }
+    if LARGEST - 10 * n < digit {
+        return LARGEST;
+    }
+    10 * n + digit
+}
+
+fn decimal_digit(b: u8) -> u64
+    ensures { λ r. ⌜ r ≡ decimalDigit b ⌝ }
+{
+    match b {
+        b'0'..=b'9' => (b - b'0') as u64,
         _ => 0,
     }
 }

@@ -13,6 +13,7 @@ pub mod answer;
 pub mod damage;
 pub mod fields;
 pub mod find;
+pub mod find_cases;
 pub mod generate;
 pub mod ledger;
 pub mod list;

@@ -10,7 +10,7 @@ use std::process::ExitCode;
 use oracle::{program, samples, tally, vectors};
 
 const USAGE: &str = "usage: oracle judge < FLOW, oracle sample DIR, \
-    oracle vectors fields INPUT OUTPUT, oracle vectors reader INPUT OUTPUT, \
+    oracle vectors fields INPUT OUTPUT, oracle vectors flow INPUT OUTPUT, \
     oracle vectors flows SEED COUNT DIR, \
     or oracle tally SEED COUNT.";
 
@@ -40,8 +40,8 @@ fn run(args: &[OsString]) -> io::Result<bool> {
         [vectors, fields, input, output] if vectors == "vectors" && fields == "fields" => {
             vectors::write_fields(Path::new(input), Path::new(output))?;
         }
-        [vectors, reader, input, output] if vectors == "vectors" && reader == "reader" => {
-            vectors::write_reader(Path::new(input), Path::new(output))?;
+        [vectors, flow, input, output] if vectors == "vectors" && flow == "flow" => {
+            vectors::write_flow(Path::new(input), Path::new(output))?;
         }
         [vectors, flows, seed, count, dir] if vectors == "vectors" && flows == "flows" => {
             let (Some(seed), Some(count)) = (number(seed), number(count)) else {

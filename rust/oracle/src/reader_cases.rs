@@ -37,31 +37,31 @@ pub fn cases() -> Vec<Case> {
 }
 
 /// One disposition of 45000 cents in 9 records.
-const ONE: &str = "IM 14 20 30 40 50 51 70 EF";
+pub(crate) const ONE: &str = "IM 14 20 30 40 50 51 70 EF";
 /// One disposition of 45000 cents in 10 records, with 16 and 59.
 const FULL: &str = "IM 14 16 20 30 40 59 51 70 EF";
 /// Two dispositions of 45000 and 38050 cents in 16 records.
-const TWO: &str = "IM 14 20 30 40 50 51 70 14 20 30 40 50 51 70 EF";
+pub(crate) const TWO: &str = "IM 14 20 30 40 50 51 70 14 20 30 40 50 51 70 EF";
 /// Three dispositions of 45000, 38050 and 45000 cents in 23 records.
 const THREE: &str = "IM 14 20 30 40 50 51 70 14 20 30 40 50 51 70 14 20 30 40 50 51 70 EF";
 /// Two dispositions in 17 records of every type.
-const EVERY: &str = "IM 14 16 20 30 40 59 51 70 14 20 30 40 50 51 70 EF";
+pub(crate) const EVERY: &str = "IM 14 16 20 30 40 59 51 70 14 20 30 40 50 51 70 EF";
 /// A flow that ends with the second 14, record 9.
 const UP_TO_9: &str = "IM 14 20 30 40 50 51 70 14";
 /// A flow that ends with the third 14, record 16.
 const UP_TO_16: &str = "IM 14 20 30 40 50 51 70 14 20 30 40 50 51 70 14";
 /// One disposition, and a further 14 after EF, record 10.
-const AND_14: &str = "IM 14 20 30 40 50 51 70 EF 14";
+pub(crate) const AND_14: &str = "IM 14 20 30 40 50 51 70 EF 14";
 /// One disposition, and a record of an unknown type after EF.
 const AND_XX: &str = "IM 14 20 30 40 50 51 70 EF XX";
 
 /// The records of a flow, to be changed by record and position from 1.
-struct Flow(Vec<Record>);
+pub(crate) struct Flow(pub(crate) Vec<Record>);
 
 impl Flow {
     /// Records of these types. Each has the number due after the 14s so far,
     /// and EF agrees with the records before it.
-    fn of(types: &str) -> Flow {
+    pub(crate) fn of(types: &str) -> Flow {
         let mut flow = Flow(Vec::new());
         for kind in types.split(' ') {
             let record = flow.next(kind);
@@ -71,7 +71,7 @@ impl Flow {
     }
 
     /// The next record, of this type.
-    fn next(&self, kind: &str) -> Record {
+    pub(crate) fn next(&self, kind: &str) -> Record {
         let mut kind_bytes = [b' '; 2];
         kind_bytes.copy_from_slice(kind.as_bytes());
         let openings = self.0.iter().filter(|r| record_type(r) == *b"14").count();
@@ -98,7 +98,7 @@ impl Flow {
     }
 
     /// The flow with all these bytes put into it.
-    fn with_all(self, changes: &[Change]) -> Flow {
+    pub(crate) fn with_all(self, changes: &[Change]) -> Flow {
         changes
             .iter()
             .fold(self, |flow, &(record, position, bytes)| {
@@ -107,7 +107,7 @@ impl Flow {
     }
 
     /// The flow with the header's fields copied to EF, if it ends with that.
-    fn with_header_copied(mut self) -> Flow {
+    pub(crate) fn with_header_copied(mut self) -> Flow {
         let header = self.0[0];
         if let Some(trailer) = self.0.last_mut() {
             if record_type(trailer) == *b"EF" {
@@ -125,7 +125,7 @@ impl Flow {
     }
 
     /// The flow as its bytes.
-    fn bytes(&self) -> Vec<u8> {
+    pub(crate) fn bytes(&self) -> Vec<u8> {
         self.0.concat()
     }
 }
@@ -140,7 +140,7 @@ fn of_rent(kind: [u8; 2], number: usize) -> Record {
 }
 
 /// Bytes put into a flow: record, position, bytes.
-type Change = (usize, usize, &'static [u8]);
+pub(crate) type Change = (usize, usize, &'static [u8]);
 
 /// The cases so far.
 struct Cases(Vec<Case>);

@@ -6,18 +6,27 @@
 //! the line of OUT with the same number its answer; see [`FieldCase`]. One
 //! line more ends OUT.
 //!
-//! The reader (`oracle vectors reader IN OUT`): OUT has as many lines as IN.
+//! The flow rules (`oracle vectors flow IN OUT`), which are the reader's cases
+//! and then those of where a disposition is: OUT has as many lines as IN.
 //!
 //! | line of IN | the same line of OUT |
 //! |---|---|
 //! | `# six 59s`, the name of the case whose flow comes next | as it is |
 //! | `=` and the bytes of one flow | the reader's answer |
+//! | `?` and a number k of 64 bits, in decimal | where disposition k of the latest flow is |
 //!
 //! After the `=` each byte of the flow stands as it is, but every byte outside
 //! 32 to 126 and the backslash as a backslash and two lower-case hex digits,
-//! `\0a` and `\5c`. An empty flow is the line `=` alone. An answer is
+//! `\0a` and `\5c`. An empty flow is the line `=` alone. The reader's answer is
 //! `accepted dispositions 2 cents 83050 records 16` or
 //! `refused 9 record 10 position 4`; there is no limit of 65,520 bytes.
+//!
+//! Where a disposition is:
+//! `found first 2 records 7 cents 45000 part 840 " 140000001" " 700000001"` or
+//! `refused 15 record 0 position 0 part 0`. After `part` stands the length of
+//! its part of the flow, and of a found one in quotes the first 10 bytes of
+//! the part and of its last record: type and number, which tell a part that
+//! begins or ends at another record.
 //!
 //! Generated flows (`oracle vectors flows SEED COUNT DIR`): a file for each
 //! flow, and `expected` with the small program's line for each.
@@ -26,8 +35,11 @@ use std::fmt::Write;
 use std::path::Path;
 use std::{fs, io};
 
+use crate::answer::Answer;
+use crate::find::find;
 use crate::reader::read;
-use crate::{fields, generate, program, reader_cases};
+use crate::record::RECORD_LEN;
+use crate::{fields, find_cases, generate, program, reader_cases};
 
 /// Writes the input and the output file of the field rules.
 pub fn write_fields(input: &Path, output: &Path) -> io::Result<()> {
@@ -36,14 +48,20 @@ pub fn write_fields(input: &Path, output: &Path) -> io::Result<()> {
     fs::write(output, answers)
 }
 
-/// Writes the input and the output file of the reader.
-pub fn write_reader(input: &Path, output: &Path) -> io::Result<()> {
-    let (cases, answers) = reader_files();
+/// Writes the input and the output file of the flow rules.
+pub fn write_flow(input: &Path, output: &Path) -> io::Result<()> {
+    let (cases, answers) = flow_files();
     fs::write(input, cases)?;
     fs::write(output, answers)
 }
 
-/// The input and the output file of the reader.
+/// The input and the output file of the flow rules.
+pub fn flow_files() -> (String, String) {
+    let (reader, find) = (reader_files(), find_files());
+    (reader.0 + &find.0, reader.1 + &find.1)
+}
+
+/// The reader's cases and their answers.
 pub fn reader_files() -> (String, String) {
     let (mut input, mut output) = (String::new(), String::new());
     for reader_cases::Case { name, flow } in reader_cases::cases() {
@@ -53,7 +71,46 @@ pub fn reader_files() -> (String, String) {
     (input, output)
 }
 
-/// The bytes of a flow as the reader's input file has them.
+/// The cases of where a disposition is and their answers.
+pub fn find_files() -> (String, String) {
+    let (mut input, mut output) = (String::new(), String::new());
+    for find_cases::Case { name, flow, asked } in find_cases::cases() {
+        let _ = writeln!(input, "# {name}\n={}", escaped(&flow));
+        let _ = writeln!(output, "# {name}\n{}", read(&flow));
+        for k in asked {
+            let _ = writeln!(input, "?{k}");
+            let _ = writeln!(output, "{}", find_line(&flow, k));
+        }
+    }
+    (input, output)
+}
+
+/// The line of where disposition `k` is.
+fn find_line(flow: &[u8], k: u64) -> String {
+    let found = match find(flow, k) {
+        Ok(found) => found,
+        Err(refusal) => return format!("{} part 0", Answer::from(refusal)),
+    };
+    let part = &flow[found.bytes];
+    let last = &part[part.len() - RECORD_LEN..];
+    format!(
+        "found first {} records {} cents {} part {} {} {}",
+        found.first,
+        found.records,
+        found.cents,
+        part.len(),
+        quoted(&part[..10]),
+        quoted(&last[..10]),
+    )
+}
+
+/// Bytes of an accepted flow in quotes.
+fn quoted(bytes: &[u8]) -> String {
+    let text: String = bytes.iter().copied().map(char::from).collect();
+    format!("\"{text}\"")
+}
+
+/// The bytes of a flow as the input file has them.
 fn escaped(flow: &[u8]) -> String {
     let mut text = String::new();
     for &byte in flow {

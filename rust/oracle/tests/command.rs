@@ -65,7 +65,7 @@ fn bad_usage_is_one_sentence_and_status_2() {
         &["sample"],
         &["vectors"],
         &["vectors", "fields", "a"],
-        &["vectors", "reader", "a"],
+        &["vectors", "flow", "a"],
         &["vectors", "flows", "one", "2", "dir"],
         &["tally", "1"],
         &["tally", "1", "-5"],
@@ -101,14 +101,14 @@ fn samples_are_written() {
 }
 
 #[test]
-fn reader_vectors_are_written() {
-    let dir = scratch("reader");
+fn vectors_of_the_flow_rules_are_written() {
+    let dir = scratch("flow");
     fs::create_dir_all(&dir).unwrap();
     let (input, output) = (dir.join("in"), dir.join("out"));
     let paths = [&input, &output].map(|path| path.to_str().unwrap());
-    let run = oracle(&["vectors", "reader", paths[0], paths[1]], b"");
+    let run = oracle(&["vectors", "flow", paths[0], paths[1]], b"");
     assert!(run.status.success());
-    let (input_due, output_due) = vectors::reader_files();
+    let (input_due, output_due) = vectors::flow_files();
     assert_eq!(fs::read_to_string(input).unwrap(), input_due);
     assert_eq!(fs::read_to_string(output).unwrap(), output_due);
 }

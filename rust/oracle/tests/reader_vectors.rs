@@ -1,5 +1,5 @@
-//! The files of `oracle vectors reader`, against answers written by hand from
-//! document 01, and the flows of edge sizes of `oracle vectors flows`.
+//! The reader's cases of `oracle vectors flow`, against answers written by hand
+//! from document 01, and the flows of edge sizes of `oracle vectors flows`.
 
 mod common;
 

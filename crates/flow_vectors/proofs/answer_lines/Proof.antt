@@ -1,5 +1,5 @@
--- `flow_vectors::answer_lines` is safe and ends: each line ends behind its start. Assumes nothing.
-use Prim.Native.Nat.{_-_}
+-- `flow_vectors::answer_lines` is safe and ends: each line ends behind its start, and the latest flow lies in `space`. Assumes nothing.
+use Prim.Native.Nat.{_-_, _≤_}
 use mathlib.Core.Path.{_≡_}
 use lib.ListN.{length}
 use borrow.Author.Needs.{needs}
@@ -7,10 +7,10 @@ use Rattle.flow_vectors.proofs.answer_lines.Statement.{statement}
 use Rattle.flow_vectors.proofs.answer_lines.Tie as tie
 
 abbrev Inv-loop : tie.InvT-loop
-Inv-loop text space₀ at₀ space at = length space ≡ length space₀
+Inv-loop text space₀ at₀ held₀ space at held = (held ≤ length space) × (length space ≡ length space₀)
 
 abbrev μ-loop : tie.MeasureT-loop
-μ-loop text space₀ at₀ space at = length text - at
+μ-loop text space₀ at₀ held₀ space at held = length text - at
 
 loop-holds : tie.Need-loop-holds Inv-loop μ-loop
 loop-holds c = search needs

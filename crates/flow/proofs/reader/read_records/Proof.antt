@@ -12,6 +12,7 @@ use Rattle.records.specs.Finding.{finding}
 use Rattle.flow.specs.Judge.{recordAt}
 use Rattle.flow.specs.Steps.{judgeRecord}
 use Rattle.flow.proofs.Lengths.{length-said}
+use Rattle.flow.proofs.Cut.{record-part}
 use Rattle.flow.proofs.Reading.{Reading, begin, go-on, refuse, finish}
 use Rattle.flow.proofs.reader.read_records.Statement.{statement}
 use Rattle.flow.proofs.reader.read_records.Tie as tie
@@ -72,10 +73,7 @@ abbrev flow-of : tie.At-loop Inv-loop μ-loop → List ℕ
 flow-of at = at .before .before .before .before .before .before .before .before .before .args .flow .now
 
 handed : (at : tie.At-loop Inv-loop μ-loop) → let i = at .loop .i in part (120 * i) (120 * i + 120 - 120 * i) (flow-of at) ≡ recordAt i (flow-of at)
-handed at =
-    let i = at .loop .i in
-    let whole : 120 * i + 120 - 120 * i ≡ 120 = omega arith in
-    ap (λ (n : ℕ). part (120 * i) n (flow-of at)) whole
+handed at = record-part (at .loop .i) (flow-of at)
 
 found :
     (c : tie.After-judge Inv-loop μ-loop) → let at = c .before .before .before .before in let a = at .before .before .before .before .before .before .before .before .before .args in

@@ -1,0 +1,293 @@
+-- The dispositions of an accepted flow: the header stands before them and the trailer behind, they are as many as is answered, and the
+-- record that opens one has its amount in digits. Assumes nothing.
+use Prim.Native.Nat.{ℕ, zero, suc, _+_, _-_, _*_, _/_, _%_, _≤_, _<_}
+use mathlib.Core.Bool.{Bool, true, false, cond, _&&_, and-eq-true-iff, true≢false}
+use mathlib.Core.List.{List, [], _∷_, _++_, dropLast, flatten}
+use mathlib.Core.Logic.{inl}
+use mathlib.Core.Path.{_≡_, refl, sym, _∙_, ap, subst}
+use native.Mathlib.Nat.{le-of-suc-le-suc, not-suc-le-zero}
+use native.Mathlib.Numerals.{add-one}
+use native.Mathlib.Omega.{arith}
+use lib.Dec.{leb, eqb}
+use lib.ListN.{length, take, drop, getD}
+use borrow.Author.Tests.{leb-true}
+use Rattle.sequences.specs.Groups.{lead, groups}
+use Rattle.sequences.proofs.DropLast.{dropLast-length, dropLast-getD}
+use Rattle.sequences.proofs.Groups.{lead-next, lead-end, lead-groups, startOf, Group, group-at, start-next, start-within}
+use Rattle.fields.specs.Digits.{isDigits}
+use Rattle.records.specs.Checks.{checks}
+use Rattle.records.specs.Context.{Header, Context, context, headerOf}
+use Rattle.records.specs.Field.{field}
+use Rattle.records.specs.Finding.{Finding, right, firstFault}
+use Rattle.records.specs.Finding.{refused as Finding·refused}
+use Rattle.records.specs.Judge.{asked}
+use Rattle.records.specs.Judge.{judge as Record·judge}
+use Rattle.records.specs.Kinds.{hasType}
+use Rattle.records.specs.declared.kind.Kind.{Kind}
+use Rattle.records.specs.declared.kind.Kind.the-variants.{Im, R14, Ef}
+use Rattle.records.proofs.ByKind.{opens-type}
+use Rattle.records.proofs.FirstFault.{right-not-refused, kept, behind}
+use Rattle.flow.specs.Find.{standing, recordsOf, dispositionsIn, startsAt, standsAt, behindReading, find, Stands, openingFrom}
+use Rattle.flow.specs.Find.{refused as Located·refused}
+use Rattle.flow.specs.Judge.{isLength, recordAt, after, ended, go, judge}
+use Rattle.flow.specs.Order.{permitted, isDue}
+use Rattle.flow.specs.Steps.{start, countsAt, step, latest, judgeRecord}
+use Rattle.flow.specs.Sums.{dispositionsOf}
+use Rattle.flow.specs.Verdict.{Verdict, accepted, refused}
+use Rattle.flow.specs.declared.walk.Walk.{Walk}
+use Rattle.flow.proofs.Accepted.{accepted-not-refused, accepted-exact}
+use Rattle.flow.proofs.Among.{In, one-type}
+use Rattle.flow.proofs.Cut.{cut-count, cut-at}
+use Rattle.flow.proofs.Exact.{last-kind, right-typed}
+use Rattle.flow.proofs.Lengths.{length-said}
+
+-- a record passed on the way to acceptance: it is right, and behind it the rest is accepted
+pub record Passed (header : Header) (w : Walk) (company : List ℕ) (i : ℕ) (rec : List ℕ) (recs : List (List ℕ)) (v : Verdict) : Type 0 where
+  pub kind : Kind
+  pub cents : ℕ
+  pub found : judgeRecord header w company (suc i) rec ≡ right kind cents
+  pub rest : go ended header (step w kind cents) (latest kind company rec) (suc i) recs ≡ v
+
+module _ (header : Header) (w : Walk) (company : List ℕ) (i : ℕ) {d c n : ℕ} where
+  pub passed : (rec : List ℕ) (recs : List (List ℕ)) → go ended header w company i (rec ∷ recs) ≡ accepted d c n → Passed header w company i rec recs (accepted d c n)
+  unfolding go
+  passed rec recs = by (judgeRecord header w company (suc i) rec) refl
+    where
+      by :
+          (x : Finding) → judgeRecord header w company (suc i) rec ≡ x
+          → after (suc i) x (λ k a. go ended header (step w k a) (latest k company rec) (suc i) recs) ≡ accepted d c n → Passed header w company i rec recs (accepted d c n)
+      by (right k a) found e = record { kind = k; cents = a; found = found; rest = e }
+      by (Finding·refused m p) found e = absurd (accepted-not-refused e)
+
+  -- behind the last record nothing is due
+  pub none-due : go ended header w company i [] ≡ accepted d c n → isDue (permitted (w .place .due)) ≡ false
+  unfolding go
+  none-due = by (isDue (permitted (w .place .due)))
+    where
+      by : (b : Bool) → cond b (refused 4 (suc i) 0) (accepted (w .dispositions) (w .cents) i) ≡ accepted d c n → b ≡ false
+      by true e = absurd (accepted-not-refused e)
+      by false e = refl
+
+-- so the last record of an accepted flow is the trailer, which opens no disposition
+without-trailer :
+    (header : Header) (w : Walk) (company : List ℕ) (i : ℕ) (rec : List ℕ) (recs : List (List ℕ)) {d c n : ℕ} → go ended header w company i (rec ∷ recs) ≡ accepted d c n
+    → dispositionsOf (dropLast (rec ∷ recs)) ≡ dispositionsOf (rec ∷ recs)
+unfolding dispositionsOf
+without-trailer header w company i rec [] e =
+    let p = passed header w company i rec [] e in
+    let k = p .kind in
+    let last : k ≡ Ef = last-kind (w .place .further) k (none-due header (step w k (p .cents)) (latest k company rec) (suc i) (p .rest)) in
+    let trailer : hasType Ef rec ≡ true = subst (λ (l : Kind). hasType l rec ≡ true) last (right-typed header w company (suc i) rec k (p .cents) (p .found) .0) in
+    rw (← opens-type Ef rec trailer)
+without-trailer header w company i rec (next ∷ recs) e =
+    let p = passed header w company i rec (next ∷ recs) e in
+    ap (λ (m : ℕ). cond (hasType R14 rec) 1 0 + m) (without-trailer header (step w (p .kind) (p .cents)) (latest (p .kind) company rec) (suc i) next recs (p .rest))
+
+-- the records 14, each with its group
+groups-counted : (recs : List (List ℕ)) → length (groups (hasType R14) recs) ≡ dispositionsOf recs
+unfolding groups dispositionsOf
+groups-counted [] = refl
+groups-counted (rec ∷ recs) = by (hasType R14 rec) (groups-counted recs)
+  where
+    by :
+        (b : Bool) → length (groups (hasType R14) recs) ≡ dispositionsOf recs
+        → length (cond b ((rec ∷ lead (hasType R14) recs) ∷ groups (hasType R14) recs) (groups (hasType R14) recs)) ≡ cond b 1 0 + dispositionsOf recs
+    by true e = omega arith
+    by false e = omega arith
+
+-- where one kind is permitted, a right record is of it
+only-kind : {k l : Kind} → In k (l ∷ []) → k ≡ l
+only-kind (inl e) = e
+
+-- the header stands before the first 14, and no other record does
+header-leads-all :
+    (header : Header) (recs : List (List ℕ)) {d c n : ℕ} → go ended header start [] 0 recs ≡ accepted d c n → lead (hasType R14) (dropLast recs) ≡ getD recs 0 [] ∷ []
+unfolding lead
+header-leads-all header [] e = absurd (true≢false (none-due header start [] 0 e))
+header-leads-all header (rec ∷ recs) {d} {c} {n} e = by recs (subst (λ (l : Kind). go ended header (step start l (p .cents)) (latest l [] rec) 1 recs ≡ accepted d c n) im (p .rest))
+  where
+    p : Passed header start [] 0 rec recs (accepted d c n)
+    p = passed header start [] 0 rec recs e
+
+    im : p .kind ≡ Im
+    im = only-kind (right-typed header start [] 1 rec (p .kind) (p .cents) (p .found) .2)
+
+    other : hasType R14 rec ≡ false
+    other = sym (opens-type Im rec (subst (λ (l : Kind). hasType l rec ≡ true) im (right-typed header start [] 1 rec (p .kind) (p .cents) (p .found) .0)))
+
+    by : (recs : List (List ℕ)) → go ended header (step start Im (p .cents)) (latest Im [] rec) 1 recs ≡ accepted d c n → lead (hasType R14) (dropLast (rec ∷ recs)) ≡ rec ∷ []
+    by [] e = absurd (true≢false (none-due header (step start Im (p .cents)) (latest Im [] rec) 1 e))
+    by (next ∷ []) e = rw other
+    by (next ∷ third ∷ recs) e =
+        let w = step start Im (p .cents) in
+        let q = passed header w (latest Im [] rec) 1 next (third ∷ recs) e in
+        let typed = right-typed header w (latest Im [] rec) 2 next (q .kind) (q .cents) (q .found) in
+        let first : hasType R14 next ≡ true = subst (λ (l : Kind). hasType l next ≡ true) (only-kind (typed .2)) (typed .0) in
+        rw (other, first)
+
+-- the amount of a right record 14 is digits
+right-amount : (ctx : Context) (rec : List ℕ) (k : Kind) (c : ℕ) → Record·judge R14 ctx rec ≡ right k c → isDigits (field 34 46 rec) ≡ true
+unfolding Record·judge checks
+right-amount ctx rec k c = by (eqb (length rec) 120)
+  where
+    by : (b : Bool) → cond b (firstFault (checks R14 ctx rec) (right R14 (asked R14 rec))) (Finding·refused 1 0) ≡ right k c → isDigits (field 34 46 rec) ≡ true
+    by true e = kept _ _ _ _ _ (behind 5 (checks R14 ctx rec) (right R14 (asked R14 rec)) e) .0
+    by false e = absurd (right-not-refused e)
+
+-- so is that of each record 14 of an accepted flow
+amounts-all :
+    (header : Header) (w : Walk) (company : List ℕ) (i : ℕ) (recs : List (List ℕ)) {d c n : ℕ} → go ended header w company i recs ≡ accepted d c n
+    → (j : ℕ) → j < length recs → hasType R14 (getD recs j []) ≡ true → isDigits (field 34 46 (getD recs j [])) ≡ true
+amounts-all header w company i [] e j h t = absurd (not-suc-le-zero h)
+amounts-all header w company i (rec ∷ recs) e zero h t =
+    let p = passed header w company i rec recs e in
+    let k = p .kind in
+    let typed = right-typed header w company (suc i) rec k (p .cents) (p .found) in
+    let same = one-type k R14 rec (typed .0) t in
+    right-amount (context header company (countsAt w (suc i) R14)) rec k (p .cents) (subst (λ (l : Kind). Record·judge l (context header company (countsAt w (suc i) l)) rec ≡ right k (p .cents)) same (typed .1))
+amounts-all header w company i (rec ∷ recs) e (suc j) h t =
+    let p = passed header w company i rec recs e in
+    amounts-all header (step w (p .kind) (p .cents)) (latest (p .kind) company rec) (suc i) recs (p .rest) j (le-of-suc-le-suc h) t
+
+-- every record but the last
+abbrev pub untilTrailer : List ℕ → List (List ℕ)
+untilTrailer f = dropLast (recordsOf f)
+
+until-length : (f : List ℕ) → length (untilTrailer f) ≡ length f / 120 - 1
+until-length f = rw (dropLast-length, cut-count)
+
+until-at : (f : List ℕ) (i : ℕ) → suc i < length f / 120 → getD (untilTrailer f) i [] ≡ recordAt i f
+until-at f i h = dropLast-getD (recordsOf f) i [] (rw cut-count h) ∙ cut-at (length f / 120) i f (omega arith)
+
+-- for a loop over i: a 14 at i is the first from i on, else the first from i + 1 on is; and from the trailer on there is none
+pub opening-next : (f : List ℕ) (i : ℕ) → suc i < length f / 120 → openingFrom f i ≡ cond (hasType R14 (recordAt i f)) i (openingFrom f (suc i))
+opening-next f i h =
+    let far : i < length (untilTrailer f) = rw until-length (omega arith) in
+    rw (lead-next (hasType R14) (untilTrailer f) i [] far, until-at f i h) (by (hasType R14 (recordAt i f)))
+  where
+    by :
+        (b : Bool) → i + length (cond b [] (recordAt i f ∷ lead (hasType R14) (drop (suc i) (untilTrailer f)))) ≡ cond b i (openingFrom f (suc i))
+    by true = omega arith
+    by false = omega arith
+
+pub opening-end : (f : List ℕ) (i : ℕ) → length f / 120 ≤ suc i → openingFrom f i ≡ i
+opening-end f i h =
+    let past : length (untilTrailer f) ≤ i = rw until-length (omega arith) in
+    rw (lead-end (hasType R14) (untilTrailer f) i past) (omega arith)
+
+-- an accepted flow has whole records, and they are accepted
+pub accepted-records : (f : List ℕ) {d c n : ℕ} → judge f ≡ accepted d c n → (isLength (length f) ≡ true) × (go ended (headerOf (take 120 f)) start [] 0 (recordsOf f) ≡ accepted d c n)
+unfolding judge
+accepted-records f {d} {c} {n} = by (isLength (length f))
+  where
+    by : (b : Bool) → cond b (go ended (headerOf (take 120 f)) start [] 0 (recordsOf f)) (refused 1 0 0) ≡ accepted d c n → (b ≡ true) × (go ended (headerOf (take 120 f)) start [] 0 (recordsOf f) ≡ accepted d c n)
+    by true e = (refl, e)
+    by false e = absurd (accepted-not-refused e)
+
+module _ (f : List ℕ) {d c n : ℕ} (e : judge f ≡ accepted d c n) where
+  pub accepted-length : (120 ≤ length f) × (length f % 120 ≡ 0) × (length f ≤ 1199999880)
+  accepted-length =
+      let said = length-said (length f) (accepted-records f e .0) in
+      (omega arith, said .1, said .2)
+
+  -- the header stands before the first disposition
+  pub header-leads : lead (hasType R14) (untilTrailer f) ≡ recordAt 0 f ∷ []
+  header-leads =
+      let some = accepted-length .0 in
+      header-leads-all (headerOf (take 120 f)) (recordsOf f) (accepted-records f e .1) ∙ ap (λ (r : List ℕ). r ∷ []) (cut-at (length f / 120) 0 f (omega arith))
+
+  -- and all of them between it and the trailer
+  pub dispositions-between : untilTrailer f ≡ recordAt 0 f ∷ flatten (dispositionsIn f)
+  dispositions-between = sym (lead-groups (hasType R14) (untilTrailer f)) ∙ ap (λ (l : List (List ℕ)). l ++ flatten (dispositionsIn f)) header-leads
+
+  -- as many dispositions stand in it as it is answered
+  pub dispositions-counted : length (dispositionsIn f) ≡ d
+  dispositions-counted = groups-counted (untilTrailer f) ∙ all (recordsOf f) (accepted-records f e .1) ∙ sym (accepted-exact f d c n e .0)
+    where
+      all : (recs : List (List ℕ)) → go ended (headerOf (take 120 f)) start [] 0 recs ≡ accepted d c n → dispositionsOf (dropLast recs) ≡ dispositionsOf recs
+      all [] x = refl
+      all (rec ∷ recs) x = without-trailer (headerOf (take 120 f)) start [] 0 rec recs x
+
+-- a disposition of f, with its start and its records
+pub record Disposition (f : List ℕ) (at : ℕ) (records : List (List ℕ)) : Type 0 where
+  -- it goes on to the next 14 or the trailer
+  pub next : openingFrom f (at + 1) ≡ at + length records
+  -- the trailer stands behind it
+  pub within : 120 * (at + length records) + 120 ≤ length f
+  -- it is opened by the record at its start, a 14 whose amount is digits
+  pub opening : getD records 0 [] ≡ recordAt at f
+  pub type : hasType R14 (recordAt at f) ≡ true
+  pub digits : isDigits (field 34 46 (recordAt at f)) ≡ true
+
+module _ (f : List ℕ) (k : ℕ) (s : Stands f k) where
+  counted : k - 1 < length (dispositionsIn f)
+  counted =
+      let some = s .some in
+      let within = s .within in
+      omega (arith, dispositions-counted f (s .read))
+
+  starts : startOf (hasType R14) (untilTrailer f) (k - 1) ≡ startsAt (dispositionsIn f) k
+  starts = rw (header-leads f (s .read)) (omega arith)
+
+  -- the disposition behind it starts where it ends
+  pub starts-next : startsAt (dispositionsIn f) (k + 1) ≡ startsAt (dispositionsIn f) k + length (getD (dispositionsIn f) (k - 1) [])
+  starts-next =
+      let some = s .some in
+      let one : k + 1 - 1 ≡ suc (k - 1) = omega arith in
+      rw one (omega (arith, start-next (hasType R14) (untilTrailer f) (k - 1) counted))
+
+  pub disposition-stands : Disposition f (startsAt (dispositionsIn f) k) (getD (dispositionsIn f) (k - 1) [])
+  disposition-stands =
+      let at = startsAt (dispositionsIn f) k in
+      let records = getD (dispositionsIn f) (k - 1) [] in
+      let group : Group (hasType R14) (untilTrailer f) [] (k - 1) at = subst (Group (hasType R14) (untilTrailer f) [] (k - 1)) starts (group-at (hasType R14) (untilTrailer f) [] (k - 1) counted) in
+      let size : length records ≡ suc (length (lead (hasType R14) (drop (suc at) (untilTrailer f)))) = ap length (group .all) in
+      let total = until-length f in
+      let end : at + length records ≤ length (untilTrailer f) = omega (arith, starts, start-next (hasType R14) (untilTrailer f) (k - 1) counted, start-within (hasType R14) (untilTrailer f) (suc (k - 1))) in
+      let here = until-at f at (omega arith) in
+      let type : hasType R14 (recordAt at f) ≡ true = rw here at (group .opens) in
+      let cut-here = cut-at (length f / 120) at f (omega arith) in
+      record {
+        next = rw add-one (omega arith);
+        within = omega arith;
+        opening = ap (λ (l : List (List ℕ)). getD l 0 []) (group .all) ∙ here;
+        type = type;
+        digits = rw cut-here at (amounts-all (headerOf (take 120 f)) start [] 0 (recordsOf f) (accepted-records f (s .read) .1) at (rw cut-count (omega arith)) (rw cut-here type));
+      }
+
+-- a number from 1 up to the count stands in the flow
+pub stands : (f : List ℕ) (k : ℕ) {d c n : ℕ} → judge f ≡ accepted d c n → (leb 1 k && leb k d) ≡ true → Stands f k
+stands f k {d} e t =
+    let both = and-eq-true-iff (leb 1 k) (leb k d) .0 t in
+    record { dispositions = _; cents = _; records = _; read = e; some = leb-true 1 k (both .0); within = leb-true k d (both .1) }
+
+-- what was found stands where it was found
+pub found-stands : (f : List ℕ) (k : ℕ) {a r c : ℕ} → find f k ≡ standing a r c → Stands f k × (standing a r c ≡ standsAt (dispositionsIn f) k)
+unfolding find
+found-stands f k {a} {r} {c} = by (judge f) refl
+  where
+    standing-not-refused : {e m p : ℕ} → Located·refused e m p ≡ standing a r c → ⊥
+    standing-not-refused x = let z : _≡_ {A = ℕ} 0 1 = cc in omega arith
+
+    test : {d c′ n : ℕ} → judge f ≡ accepted d c′ n → (b : Bool) → (leb 1 k && leb k d) ≡ b → cond b (standsAt (dispositionsIn f) k) (Located·refused 15 0 0) ≡ standing a r c → Stands f k × (standing a r c ≡ standsAt (dispositionsIn f) k)
+    test e true t x = (stands f k e t, sym x)
+    test e false t x = absurd (standing-not-refused x)
+
+    by : (v : Verdict) → judge f ≡ v → behindReading v (λ d. cond (leb 1 k && leb k d) (standsAt (dispositionsIn f) k) (Located·refused 15 0 0)) ≡ standing a r c → Stands f k × (standing a r c ≡ standsAt (dispositionsIn f) k)
+    by (accepted d c′ n) e x = test e (leb 1 k && leb k d) refl x
+    by (refused m q p) e x = absurd (standing-not-refused x)
+
+-- and within the flow, before the trailer
+pub found-within : (f : List ℕ) (k : ℕ) {a r c : ℕ} → find f k ≡ standing a r c → (1 ≤ a) × (120 * (a - 1 + r) + 120 ≤ length f)
+found-within f k {a} {r} {c} e =
+    let found = found-stands f k e in
+    let at : a ≡ suc (startsAt (dispositionsIn f) k) = first (found .1) in
+    let size : r ≡ length (getD (dispositionsIn f) (k - 1) []) = records (found .1) in
+    let within = disposition-stands f k (found .0) .within in
+    (omega arith, omega arith)
+  where
+    first : {x y z : ℕ} → standing a r c ≡ standing x y z → a ≡ x
+    first e = cc
+
+    records : {x y z : ℕ} → standing a r c ≡ standing x y z → r ≡ y
+    records e = cc

@@ -1,0 +1,110 @@
+-- `flow::disposition` meets its contract. Assumes nothing.
+use Prim.Native.Nat.{ℕ, _+_, _-_, _*_, _≤_}
+use mathlib.Core.List.{List}
+use mathlib.Core.Path.{_≡_, sym, _∙_, ap, ap₂}
+use native.Mathlib.Omega.{arith}
+use lib.ListN.{length}
+use borrow.Author.Needs.{needs}
+use Rattle.sequences.specs.Part.{part}
+use Rattle.flow.specs.Find.{Located, located, standing, refused, bytesAt, find}
+use Rattle.flow.proofs.Dispositions.{found-within}
+use Rattle.flow.proofs.location.disposition.Statement.{statement}
+use Rattle.flow.proofs.location.disposition.Tie as tie
+
+find-requires : tie.Need-find-requires
+find-requires c κs = search needs
+
+enum-known-first : tie.Need-enum-known-first
+enum-known-first c = search needs
+
+-- what `find` has found
+module _ (c : tie.After-known-told) where
+  abbrev flow : List ℕ
+  flow = c .before .before .before .before .before .args .flow .now
+
+  abbrev first : ℕ
+  first = c .before .first .given .0 .0
+
+  abbrev records : ℕ
+  records = c .before .first .given .0 .1 .0
+
+  found : find flow (c .before .before .before .before .before .args .k) ≡ standing first records (c .before .first .given .0 .1 .1 .0)
+  found = sym (c .before .before .before .find .ensures) ∙ ap located (c .before .first .given .1)
+
+  within : (1 ≤ first) × (120 * (first - 1 + records) + 120 ≤ length flow)
+  within = found-within flow _ found
+
+sub-index : tie.Need-sub-index
+sub-index c = omega (arith, within c)
+
+index-requires : tie.Need-index-requires
+index-requires c κs = search needs
+
+mul-result : tie.Need-mul-result
+mul-result c = omega (arith, within (c .before), c .index .ensures)
+
+index-requires-2 : tie.Need-index-requires-2
+index-requires-2 c κs = search needs
+
+add-result : tie.Need-add-result
+add-result c = omega (arith, within (c .before .before))
+
+mul-result-2 : tie.Need-mul-result-2
+mul-result-2 c = omega (arith, within (c .before .before))
+
+sub-result : tie.Need-sub-result
+sub-result c = search needs
+
+part-result-start : tie.Need-part-result-start
+part-result-start c = search needs
+
+part-result-end : tie.Need-part-result-end
+part-result-end c = omega (arith, within (c .before .before))
+
+returns : tie.Need-returns
+returns c =
+    let told = c .before .before .before in
+    let from = c .before .before .index .result in
+    let to = from + c .before .index2 .result in
+    let start : 120 * from ≡ 120 * (first told - 1) = ap (λ (n : ℕ). 120 * n) (c .before .before .index .ensures) in
+    let size : 120 * to - 120 * from ≡ 120 * records told = omega (arith, c .before .index2 .ensures) in
+    ap₂ (λ (a n : ℕ). part a n (flow told)) start size ∙ sym (ap (λ (l : Located). bytesAt l (flow told)) (found told))
+
+enum-told : tie.Need-enum-told
+enum-told c = search needs
+
+sub-result-2 : tie.Need-sub-result-2
+sub-result-2 c = search needs
+
+part-result-start-2 : tie.Need-part-result-start-2
+part-result-start-2 c = search needs
+
+part-result-end-2 : tie.Need-part-result-end-2
+part-result-end-2 c = search needs
+
+returns-2 : tie.Need-returns-2
+returns-2 c =
+    let none : located (c .before .before .before .find .result) ≡ refused _ _ _ = ap located (c .before .enum-told .given .1) in
+    sym (ap (λ (l : Located). bytesAt l (c .before .before .before .before .before .args .flow .now)) (sym (c .before .before .before .find .ensures) ∙ none))
+
+pub disposition-spec : {M : Type 1} → statement M
+disposition-spec =
+    tie.close
+    (tie.spec
+    find-requires
+    enum-known-first
+    sub-index
+    index-requires
+    mul-result
+    index-requires-2
+    add-result
+    mul-result-2
+    sub-result
+    part-result-start
+    part-result-end
+    returns
+    enum-told
+    sub-result-2
+    part-result-start-2
+    part-result-end-2
+    returns-2)

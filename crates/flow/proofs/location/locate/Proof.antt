@@ -1,0 +1,103 @@
+-- `flow::locate` meets its contract. Assumes nothing.
+use Prim.Native.Nat.{ℕ, suc, _+_, _-_, _*_}
+use mathlib.Core.List.{List, []}
+use mathlib.Core.Path.{_≡_, sym, _∙_, ap}
+use native.Mathlib.Numerals.{add-one}
+use native.Mathlib.Omega.{arith}
+use lib.ListN.{length, getD}
+use borrow.Author.Needs.{needs}
+use Rattle.sequences.proofs.Part.{part-length}
+use Rattle.fields.specs.Digits.{number}
+use Rattle.records.specs.Field.{field}
+use Rattle.flow.specs.Find.{dispositionsIn, startsAt, standing}
+use Rattle.flow.proofs.Dispositions.{Disposition, accepted-length, disposition-stands}
+use Rattle.flow.proofs.Cut.{record-part}
+use Rattle.flow.proofs.location.locate.Statement.{statement}
+use Rattle.flow.proofs.location.locate.Tie as tie
+
+start-of-requires : tie.Need-start-of-requires
+start-of-requires c κs = search needs
+
+-- the disposition at the start that was found
+abbrev found : tie.After-start-of → List (List ℕ)
+found c = getD (dispositionsIn (c .before .before .args .flow .now)) (c .before .before .args .k - 1) []
+
+stood : (c : tie.After-start-of) → Disposition (c .before .before .args .flow .now) (c .start-of .result) (found c)
+stood c = rw (c .start-of .ensures) (disposition-stands (c .before .before .args .flow .now) (c .before .before .args .k) (c .before .before .pre))
+
+add-opening : tie.Need-add-opening
+add-opening c = let within = stood c .within in omega arith
+
+opening-requires : tie.Need-opening-requires
+opening-requires c κs = accepted-length _ (c .before .before .pre .read) .0
+
+mul-amount : tie.Need-mul-amount
+mul-amount c = let within = stood (c .before) .within in omega arith
+
+mul-amount-2 : tie.Need-mul-amount-2
+mul-amount-2 c = let within = stood (c .before) .within in omega arith
+
+add-amount : tie.Need-add-amount
+add-amount c = let within = stood (c .before) .within in omega arith
+
+sub-amount : tie.Need-sub-amount
+sub-amount c = search needs
+
+part-amount-start : tie.Need-part-amount-start
+part-amount-start c = search needs
+
+part-amount-end : tie.Need-part-amount-end
+part-amount-end c = let within = stood (c .before) .within in omega arith
+
+amount-requires : tie.Need-amount-requires
+amount-requires c κs =
+    let d = stood (c .before .before) in
+    let within = d .within in
+    let f = c .before .before .before .before .args .flow .now in
+    let at = c .before .before .start-of .result in
+    rw (record-part at f) (part-length (120 * at) 120 f (omega arith), d .digits)
+
+add-count : tie.Need-add-count
+add-count c = search needs
+
+count-requires : tie.Need-count-requires
+count-requires c κs = search needs
+
+sub-count : tie.Need-sub-count
+sub-count c = search needs
+
+count-requires-2 : tie.Need-count-requires-2
+count-requires-2 c κs = search needs
+
+returns : tie.Need-returns
+returns c =
+    let start = c .before .before .before .before .before in
+    let f = start .before .before .args .flow .now in
+    let at = start .start-of .result in
+    let d = stood start in
+    let records = found start in
+    let first : c .before .count .result ≡ suc (startsAt (dispositionsIn f) (start .before .before .args .k)) = c .before .count .ensures ∙ add-one at ∙ ap suc (start .start-of .ensures) in
+    let end : c .before .before .before .before .opening .result ≡ at + length records = c .before .before .before .before .opening .ensures ∙ d .next in
+    let size : c .count2 .result ≡ length records = c .count2 .ensures ∙ omega arith in
+    let cents : c .before .before .amount .result ≡ number (field 34 46 (getD records 0 [])) = c .before .before .amount .ensures ∙ ap (λ (r : List ℕ). number (field 34 46 r)) (record-part at f ∙ sym (d .opening)) in
+    λ i. standing (first i) (size i) (cents i)
+
+pub locate-spec : {M : Type 1} → statement M
+locate-spec =
+    tie.close
+    (tie.spec
+    start-of-requires
+    add-opening
+    opening-requires
+    mul-amount
+    mul-amount-2
+    add-amount
+    sub-amount
+    part-amount-start
+    part-amount-end
+    amount-requires
+    add-count
+    count-requires
+    sub-count
+    count-requires-2
+    returns)

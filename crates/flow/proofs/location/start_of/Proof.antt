@@ -1,0 +1,68 @@
+-- `flow::start_of` meets its contract: each turn goes from one disposition of the flow to the next. Assumes nothing.
+use Prim.Native.Nat.{ℕ, _+_, _-_, _≤_}
+use mathlib.Core.List.{flatten}
+use mathlib.Core.Path.{_≡_, refl, sym, _∙_, ap}
+use native.Mathlib.Omega.{arith}
+use Rattle.flow.specs.Find.{dispositionsIn, startsAt, Stands, openingFrom}
+use Rattle.flow.proofs.Dispositions.{accepted-length, disposition-stands, starts-next}
+use Rattle.flow.proofs.location.start_of.Statement.{statement}
+use Rattle.flow.proofs.location.start_of.Tie as tie
+
+abbrev Inv-loop : tie.InvT-loop
+Inv-loop flow k at₀ j₀ at j = (1 ≤ j) × (j ≤ k) × (at ≡ startsAt (dispositionsIn flow) j)
+
+abbrev μ-loop : tie.MeasureT-loop
+μ-loop flow k at₀ j₀ at j = k - j
+
+loop-holds : tie.Need-loop-holds Inv-loop μ-loop
+unfolding flatten
+loop-holds c = (omega arith, c .before .pre .some, refl)
+
+-- disposition j stands in the flow too
+stands : (c : tie.At-loop Inv-loop μ-loop) → Stands (c .before .before .args .flow .now) (c .loop .j)
+stands c =
+    let s = c .before .before .pre in
+    let below = s .within in
+    record { dispositions = s .dispositions; cents = s .cents; records = s .records; read = s .read; some = c .loop .inv .0; within = omega arith }
+
+add-opening : tie.Need-add-opening Inv-loop μ-loop
+add-opening c =
+    let d = disposition-stands _ _ (stands (c .before)) in
+    let within = d .within in
+    omega arith
+
+opening-requires : tie.Need-opening-requires Inv-loop μ-loop
+opening-requires c κs = accepted-length _ (c .before .before .before .pre .read) .0
+
+add-j : tie.Need-add-j Inv-loop μ-loop
+add-j c = omega arith
+
+loop-less : tie.Need-loop-less Inv-loop μ-loop
+loop-less c = omega arith
+
+loop-again : tie.Need-loop-again Inv-loop μ-loop
+loop-again c =
+    let at = c .before .before in
+    let f = at .before .before .args .flow .now in
+    let s = stands at in
+    let on : openingFrom f (at .loop .at + 1) ≡ startsAt (dispositionsIn f) (at .loop .j + 1) = ap (λ (i : ℕ). openingFrom f (i + 1)) (at .loop .inv .2) ∙ disposition-stands f (at .loop .j) s .next ∙ sym (starts-next f (at .loop .j) s) in
+    (omega arith, omega arith, c .opening .ensures ∙ on)
+
+returns : tie.Need-returns Inv-loop μ-loop
+returns c =
+    let last : c .before .loop .j ≡ c .before .before .before .args .k = omega arith in
+    c .before .loop .inv .2 ∙ ap (startsAt _) last
+
+pub start-of-spec : {M : Type 1} → statement M
+start-of-spec =
+    tie.close
+    (tie.spec
+    Inv-loop
+    μ-loop
+    loop-holds
+    add-opening
+    opening-requires
+    add-j
+    loop-less
+    loop-again
+    returns)

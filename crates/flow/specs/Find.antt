@@ -1,0 +1,76 @@
+-- Where disposition k is (document 01, "Questions and changes": its first record, its number of records, its amount, and its part of the
+-- flow; the reader's refusals, then 15). Assumes nothing.
+use Prim.Native.Nat.{ℕ, suc, _+_, _-_, _*_, _/_, _≤_}
+use mathlib.Core.Bool.{cond, _&&_}
+use mathlib.Core.List.{List, [], dropLast, flatten}
+use mathlib.Core.Path.{_≡_}
+use lib.Dec.{leb}
+use lib.ListN.{length, take, drop, getD}
+use Rattle.sequences.specs.Groups.{lead, groups}
+use Rattle.sequences.specs.Part.{part}
+use Rattle.fields.specs.Digits.{number}
+use Rattle.records.specs.Field.{field}
+use Rattle.records.specs.Kinds.{hasType}
+use Rattle.records.specs.declared.kind.Kind.the-variants.{R14}
+use Rattle.flow.specs.Judge.{cut, judge}
+use Rattle.flow.specs.Verdict.{Verdict, accepted}
+use Rattle.flow.specs.Verdict.{refused as Verdict·refused}
+use Rattle.flow.specs.declared.location.Location.{Location}
+use Rattle.flow.specs.declared.location.Location.the-variants.{At, Refused}
+
+-- standing with first record, number of records and cents; or refused with number, record and position
+pub data Located : Type 0 where
+  standing : ℕ → ℕ → ℕ → Located
+  refused : ℕ → ℕ → ℕ → Located
+
+-- the paper's values for each case of `flow::Location`
+abbrev pub located : Location → Located
+located (At first records cents) = standing first records cents
+located (Refused n r p) = refused n r p
+
+abbrev pub recordsOf : List ℕ → List (List ℕ)
+recordsOf f = cut (length f / 120) f
+
+-- the dispositions of an accepted flow: each 14 with the records behind it, up to the next 14 or the trailer
+abbrev pub dispositionsIn : List ℕ → List (List (List ℕ))
+dispositionsIn f = groups (hasType R14) (dropLast (recordsOf f))
+
+-- the index of the first record of the k-th of them, where dispositions count from 1 and indexes from 0: behind the header and those
+-- before it
+abbrev pub startsAt : List (List (List ℕ)) → ℕ → ℕ
+startsAt ds k = suc (length (flatten (take (k - 1) ds)))
+
+-- the k-th of them
+abbrev pub standsAt : List (List (List ℕ)) → ℕ → Located
+standsAt ds k =
+    let d = getD ds (k - 1) [] in
+    standing (suc (startsAt ds k)) (length d) (number (field 34 46 (getD d 0 [])))
+
+-- what the reader refuses is refused, and behind its acceptance the rest decides
+abbrev pub behindReading : Verdict → (ℕ → Located) → Located
+behindReading (accepted d c n) rest = rest d
+behindReading (Verdict·refused e r p) rest = refused e r p
+
+unfoldable pub find : List ℕ → ℕ → Located
+find f k = behindReading (judge f) (λ d. cond (leb 1 k && leb k d) (standsAt (dispositionsIn f) k) (refused 15 0 0))
+
+-- the bytes of a disposition that stands in f; of a refusal none
+abbrev pub bytesAt : Located → List ℕ → List ℕ
+bytesAt (standing first records cents) f = part (120 * (first - 1)) (120 * records) f
+bytesAt (refused n r p) f = []
+
+abbrev pub partOf : List ℕ → ℕ → List ℕ
+partOf f k = bytesAt (find f k) f
+
+-- disposition k stands in the flow f, which is accepted
+pub record Stands (f : List ℕ) (k : ℕ) : Type 0 where
+  pub dispositions : ℕ
+  pub cents : ℕ
+  pub records : ℕ
+  pub read : judge f ≡ accepted dispositions cents records
+  pub some : 1 ≤ k
+  pub within : k ≤ dispositions
+
+-- the index of the first 14 at index i of f's records or behind it, or of the trailer where there is none; an i behind the trailer itself
+abbrev pub openingFrom : List ℕ → ℕ → ℕ
+openingFrom f i = i + length (lead (hasType R14) (drop i (dropLast (recordsOf f))))

@@ -1,0 +1,166 @@
+// Where a disposition stands in a flow.
+ghost use Prim.Native.Nat.{_≤_};
+ghost use mathlib.Core.Bool.{true, _&&_};
+ghost use mathlib.Core.Path.{_≡_};
+ghost use lib.Dec.{leb};
+ghost use lib.ListN.{length};
+ghost use Rattle.fields.specs.Digits.{isDigits};
+ghost use Rattle.fields.specs.Digits.{number as Digits·number};
+ghost use Rattle.records.specs.Field.{field as Field·field};
+ghost use Rattle.flow.specs.Find.{located, dispositionsIn, startsAt, standsAt, partOf, Stands, openingFrom};
+ghost use Rattle.flow.specs.Find.{find as Find·find};
+use crate::answer::Answer;
+use crate::reader::count;
+use crate::reader::read;
+use fields::Number;
+use records::Kind;
+use records::field;
+
+// Where disposition k stands: its first record, counted from 1, the number of its records and its
+// amount in cents; or refused, with the number, the record and the position.
+pub enum Location {
+    At {
+        first: u64,
+        records: u64,
+        cents: u64,
+    },
+    Refused {
+        number: u64,
+        record: u64,
+        position: u64,
+    },
+}
+
+// Document 01, "Numbers a clerk may see".
+const NO_DISPOSITION: u64 = 15;
+
+// Where disposition k of the flow stands, counted from 1. What the reader refuses is refused with its
+// three numbers, and then a k of 0 or above the count by 15.
+pub fn find(flow: &[u8], k: u64) -> Location
+    ensures { λ r. ⌜ located r ≡ Find·find (now (flow .entry)) k ⌝ }
+{
+    match read(flow) {
+        Answer::Refused {
+            number,
+            record,
+            position,
+        } => Location::Refused {
+            number,
+            record,
+            position,
+        },
+        Answer::Accepted {
+            dispositions,
+            cents: _,
+            records: _,
+        } => {
+            if !is_number(k, dispositions) {
+                return Location::Refused {
+                    number: NO_DISPOSITION,
+                    record: 0,
+                    position: 0,
+                };
+            }
+            locate(flow, k)
+        }
+    }
+}
+
+// The part of the flow that disposition k is, in the flow's own memory; an empty part where `find`
+// refuses.
+pub fn disposition(flow: &[u8], k: u64) -> &[u8]
+    ensures { λ r. ⌜ now r ≡ partOf (now (flow .entry)) k ⌝ }
+{
+    match find(flow, k) {
+        Location::At {
+            first,
+            records,
+            cents: _,
+        } => {
+            let from = index(first - 1);
+            return &flow[120 * from..120 * (from + index(records))];
+        }
+        Location::Refused {
+            number: _,
+            record: _,
+            position: _,
+        } => {
+            return &flow[0..0];
+        }
+    }
+}
+
+// Whether k is a number from 1 up to the count.
+fn is_number(k: u64, dispositions: u64) -> bool
+    ensures { λ r. ⌜ r ≡ (leb 1 k && leb k dispositions) ⌝ }
+{
+    if k == 0 {
+        return false;
+    }
+    k <= dispositions
+}
+
+// Where disposition k of an accepted flow stands: up to the next record 14 or the trailer.
+fn locate(flow: &[u8], k: u64) -> Location
+    requires { ⌜ Stands (now flow) k ⌝ }
+    ensures { λ r. ⌜ located r ≡ standsAt (dispositionsIn (now (flow .entry))) k ⌝ }
+{
+    let at = start_of(flow, k);
+    let end = opening(flow, at + 1);
+    let cents = amount(&flow[120 * at..120 * at + 120]);
+    Location::At {
+        first: count(at + 1),
+        records: count(end - at),
+        cents,
+    }
+}
+
+// The index of the first record of disposition k of an accepted flow: from the record behind the
+// header, as many times to the next record 14 as there are dispositions before it.
+fn start_of(flow: &[u8], k: u64) -> usize
+    requires { ⌜ Stands (now flow) k ⌝ }
+    ensures { λ r. ⌜ r ≡ startsAt (dispositionsIn (now (flow .entry))) k ⌝ }
+{
+    let mut at = 1;
+    let mut j: u64 = 1;
+    while j < k {
+        at = opening(flow, at + 1);
+        j += 1;
+    }
+    at
+}
+
+// The index of the first record 14 at an index or behind it, or that of the trailer where there is
+// none. An index behind the trailer comes back as it is.
+fn opening(flow: &[u8], from: usize) -> usize
+    requires { ⌜ 120 ≤ length (now flow) ⌝ }
+    ensures { λ r. ⌜ r ≡ openingFrom (now (flow .entry)) from ⌝ }
+{
+    let trailer = flow.len() / 120 - 1;
+    let mut i = from;
+    while i < trailer {
+        let rec = &flow[120 * i..120 * i + 120];
+        if records::has_type(rec, Kind::R14) {
+            return i;
+        }
+        i += 1;
+    }
+    i
+}
+
+// The amount of a record 14 whose 34-46 are digits, as the reader has seen: it is never refused.
+fn amount(rec: &[u8]) -> u64
+    requires { ⌜ (length (now rec) ≡ 120) × (isDigits (Field·field 34 46 (now rec)) ≡ true) ⌝ }
+    ensures { λ r. ⌜ r ≡ Digits·number (Field·field 34 46 (now (rec .entry))) ⌝ }
+{
+    match fields::read_amount(field(rec, 34, 46)) {
+        Number::Value(cents) => cents,
+        Number::Refused(_) => 0,
+    }
+}
+
+fn index(n: u64) -> usize
+    ensures { λ r. ⌜ r ≡ n ⌝ }
+{
+    n as usize
+}

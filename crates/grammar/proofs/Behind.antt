@@ -1,0 +1,148 @@
+-- What a record is asked behind the records before it, said by the state of the walk and said by those records themselves. Assumes
+-- nothing.
+use Prim.Native.Nat.{ℕ, suc, _+_}
+use mathlib.Core.Bool.{cond}
+use mathlib.Core.List.{List, [], _∷_, _++_, map, head-eq-of-cons-eq, tail-eq-of-cons-eq, nil≢cons}
+use mathlib.Core.Path.{_≡_, refl, sym, _∙_, ap, subst}
+use native.Mathlib.Omega.{arith}
+use lib.ListN.{length, take, length-map}
+use Rattle.sequences.proofs.All.{all-at}
+use Rattle.sequences.proofs.Map.{map-split}
+use Rattle.records.specs.Checks.{checks}
+use Rattle.records.specs.Context.{Header, Context, headerOf}
+use Rattle.records.specs.Judge.{asked}
+use Rattle.records.specs.Kinds.{typeOf, opens}
+use Rattle.records.specs.declared.kind.Kind.{Kind}
+use Rattle.records.proofs.ByKind.{types-differ}
+use Rattle.records.proofs.FirstFault.{right-not-refused}
+use Rattle.flow.specs.Order.{permitted, place}
+use Rattle.flow.specs.Steps.{start, step, latest}
+use Rattle.flow.specs.Sums.{dispositionsOf, centsOf}
+use Rattle.flow.specs.declared.order.Due.the-variants.{OnlyIm}
+use Rattle.flow.specs.declared.order.Place.{Place}
+use Rattle.flow.specs.declared.walk.Walk.{Walk}
+use Rattle.flow.proofs.Cut.{Whole}
+use Rattle.flow.proofs.Among.{In}
+use Rattle.grammar.specs.Fault.{HaveKinds, MayFollow, contextBehind, Hold, RightBehind, EachRight, FaultBehind, bad-byte, wrong-type, broken}
+use Rattle.grammar.specs.Grammar.{Typed, kindsOf, recordsIn}
+use Rattle.grammar.specs.Shape.{InOrder}
+use Rattle.grammar.proofs.AtPlace.{asks, May, RightAt, FaultAt, bad-byte-at, wrong-type-at, broken-at, right-judged, fault-judged}
+use Rattle.grammar.proofs.Order.{placeBehind, may-go-on, went-on}
+use Rattle.grammar.proofs.Walked.{stateBehind, codeBehind, Walked, walked-append, walked-allowed, state-place, Outcome, all-right, stops, outcome, state-counts}
+
+-- types tell their kinds
+kinds-differ : (ks ls : List Kind) → map typeOf ks ≡ map typeOf ls → ks ≡ ls
+kinds-differ [] [] e = refl
+kinds-differ [] (l ∷ ls) e = absurd (nil≢cons e)
+kinds-differ (k ∷ ks) [] e = absurd (nil≢cons (sym e))
+kinds-differ (k ∷ ks) (l ∷ ls) e =
+    let one = types-differ k l (head-eq-of-cons-eq e) in
+    let rest = kinds-differ ks ls (tail-eq-of-cons-eq e) in
+    cc
+
+pub have-kinds : (h : Header) (w : Walk) (code : List ℕ) (i : ℕ) (rs : List Typed) → Walked h w code i rs → HaveKinds (kindsOf rs) (recordsIn rs)
+have-kinds h w code i [] walked = refl
+have-kinds h w code i (r ∷ rs) walked =
+    let one = walked .0 .formed .type in
+    let rest = have-kinds h (step w (r .kind) (asked (r .kind) (r .bytes))) (latest (r .kind) code (r .bytes)) (suc i) rs (walked .1) in
+    cc
+
+-- right records from the front of the flow f on
+abbrev pub FromStart : List ℕ → List Typed → Type 0
+FromStart f rs = Walked (headerOf (take 120 f)) start [] 0 rs
+
+-- a record behind them, by the state of the walk
+abbrev pub RightNext : List ℕ → List Typed → Kind → List ℕ → Type 0
+RightNext f rs k rec = RightAt (headerOf (take 120 f)) (stateBehind start rs) (codeBehind [] rs) (suc (0 + length rs)) k rec
+
+abbrev pub FaultNext : List ℕ → List Typed → List ℕ → ℕ → ℕ → Type 0
+FaultNext f rs rec n p = FaultAt (headerOf (take 120 f)) (stateBehind start rs) (codeBehind [] rs) (suc (0 + length rs)) rec n p
+
+module _ (f : List ℕ) (rs : List Typed) (walked : FromStart f rs) where
+  -- the kinds of the records are those that their types name
+  pub same-kinds : (ks : List Kind) → HaveKinds ks (recordsIn rs) → ks ≡ kindsOf rs
+  same-kinds ks e = kinds-differ ks (kindsOf rs) (e ∙ sym (have-kinds (headerOf (take 120 f)) start [] 0 rs walked))
+
+  pub may-follow : (k : Kind) → May (stateBehind start rs) k → MayFollow (recordsIn rs) k
+  may-follow k may =
+      let here : In k (permitted (placeBehind (place OnlyIm) (kindsOf rs) .due)) = subst (λ (p : Place). In k (permitted (p .due))) (state-place start rs) may in
+      let goes = may-go-on (kindsOf rs) k (walked-allowed (headerOf (take 120 f)) start [] 0 rs walked) here in
+      record { kinds = kindsOf rs; rest = goes .0; have = have-kinds (headerOf (take 120 f)) start [] 0 rs walked; order = goes .1 }
+
+  pub follows-may : (k : Kind) → MayFollow (recordsIn rs) k → May (stateBehind start rs) k
+  follows-may k follow =
+      let order : InOrder (kindsOf rs ++ (k ∷ follow .rest)) = subst (λ (ks : List Kind). InOrder (ks ++ (k ∷ follow .rest))) (same-kinds (follow .kinds) (follow .have)) (follow .order) in
+      subst (λ (p : Place). In k (permitted (p .due))) (sym (state-place start rs)) (went-on (kindsOf rs) k (follow .rest) order .1)
+
+  context-behind : (k : Kind) → asks (headerOf (take 120 f)) (stateBehind start rs) (codeBehind [] rs) (suc (0 + length rs)) k ≡ contextBehind f (recordsIn rs) k
+  context-behind k =
+      let counts = state-counts (headerOf (take 120 f)) start [] 0 rs walked in
+      let opened : ℕ = cond (opens k) 1 0 in
+      let dispositions : stateBehind start rs .dispositions + opened ≡ dispositionsOf (recordsIn rs) + opened = omega arith in
+      let cents : stateBehind start rs .cents ≡ centsOf (recordsIn rs) = omega arith in
+      let records : suc (0 + length rs) ≡ suc (length (recordsIn rs)) = omega (arith, length-map rs (λ (r : Typed). r .bytes)) in
+      λ i. record { header = headerOf (take 120 f); company = counts .2 i; counts = record { dispositions = dispositions i; cents = cents i; records = records i } }
+
+  pub right-behind : (k : Kind) (rec : List ℕ) → RightNext f rs k rec → RightBehind f (recordsIn rs) rec
+  right-behind k rec r =
+      record {
+        kind = k;
+        printable = r .formed .printable;
+        type = r .formed .type;
+        permitted = may-follow k (r .may);
+        keeps = subst (λ (ctx : Context). Hold (checks k ctx rec)) (context-behind k) (r .keeps);
+      }
+
+  pub right-next : (rec : List ℕ) → length rec ≡ 120 → (r : RightBehind f (recordsIn rs) rec) → RightNext f rs (r .kind) rec
+  right-next rec whole r =
+      record {
+        may = follows-may (r .kind) (r .permitted);
+        formed = record { whole = whole; printable = r .printable; type = r .type };
+        keeps = subst (λ (ctx : Context). Hold (checks (r .kind) ctx rec)) (sym (context-behind (r .kind))) (r .keeps);
+      }
+
+  pub fault-behind : (rec : List ℕ) (n p : ℕ) → FaultNext f rs rec n p → FaultBehind f (recordsIn rs) rec n p
+  fault-behind rec n p (bad-byte-at bs b cs e printable bad) = bad-byte bs b cs e printable bad
+  fault-behind rec n p (wrong-type-at printable none) = wrong-type printable (λ k e follow. none k e (follows-may k follow))
+  fault-behind rec n p (broken-at k held m q others printable type may e holds) =
+      broken k held m q others printable type (may-follow k may) (sym (ap (λ (ctx : Context). checks k ctx rec) (context-behind k)) ∙ e) holds
+
+  pub fault-next : (rec : List ℕ) (n p : ℕ) → FaultBehind f (recordsIn rs) rec n p → FaultNext f rs rec n p
+  fault-next rec n p (bad-byte bs b cs e printable bad) = bad-byte-at bs b cs e printable bad
+  fault-next rec n p (wrong-type printable none) = wrong-type-at printable (λ k e may. none k e (may-follow k may))
+  fault-next rec n p (broken k held m q others printable type follow e holds) =
+      broken-at k held m q others printable type (follows-may k follow) (ap (λ (ctx : Context). checks k ctx rec) (context-behind k) ∙ e) holds
+
+  -- no record is both right and faulty
+  pub not-both : (k : Kind) (rec : List ℕ) (n p : ℕ) → RightNext f rs k rec → ¬ FaultNext f rs rec n p
+  not-both k rec n p r fault =
+      let h = headerOf (take 120 f) in
+      let w = stateBehind start rs in
+      let code = codeBehind [] rs in
+      let whole = r .formed .whole in
+      right-not-refused (sym (fault-judged h w code (suc (0 + length rs)) rec whole n p fault) ∙ right-judged h w code (suc (0 + length rs)) rec whole k r)
+
+-- records each right at its place are right one after the other
+pub walked-of : (f : List ℕ) (recs : List (List ℕ)) → Whole recs → EachRight f recs → (rs : List Typed) × (recordsIn rs ≡ recs) × FromStart f rs
+walked-of f recs whole each = go whole each (outcome (headerOf (take 120 f)) start [] 0 recs whole)
+  where
+    go : {recs : List (List ℕ)} → Whole recs → EachRight f recs → Outcome (headerOf (take 120 f)) start [] 0 recs → (rs : List Typed) × (recordsIn rs ≡ recs) × FromStart f rs
+    go whole each (all-right rs walked) = (rs, refl, walked)
+    go whole each (stops rs rec rest m p walked fault) =
+        let r = each (recordsIn rs) rec rest refl in
+        let size = all-at (λ (l : List ℕ). length l ≡ 120) (recordsIn rs) rec rest whole in
+        absurd (not-both f rs walked (r .kind) rec m p (right-next f rs walked rec size r) fault)
+
+-- and the other way round
+pub each-of : (f : List ℕ) (rs : List Typed) → FromStart f rs → EachRight f (recordsIn rs)
+each-of f rs walked before rec behind e = go (map-split (λ (r : Typed). r .bytes) rs before (rec ∷ behind) e)
+  where
+    here : (xs ys : List Typed) → FromStart f (xs ++ ys) → recordsIn xs ≡ before → recordsIn ys ≡ rec ∷ behind → RightBehind f before rec
+    here xs [] w front back = absurd (nil≢cons back)
+    here xs (y ∷ ys) w front back =
+        let parts = walked-append (headerOf (take 120 f)) start [] 0 xs (y ∷ ys) .0 w in
+        let r = right-behind f xs (parts .0) (y .kind) (y .bytes) (parts .1 .0) in
+        subst (λ (l : List (List ℕ)). RightBehind f l rec) front (subst (λ (l : List ℕ). RightBehind f (recordsIn xs) l) (head-eq-of-cons-eq back) r)
+
+    go : (xs ys : List Typed) × (rs ≡ xs ++ ys) × (recordsIn xs ≡ before) × (recordsIn ys ≡ rec ∷ behind) → RightBehind f before rec
+    go s = here (s .0) (s .1) (subst (FromStart f) (s .2) walked) (s .3) (s .4)

@@ -1,0 +1,140 @@
+-- A flow is refused exactly by its first fault. Assumes nothing.
+use Prim.Native.Nat.{ℕ, suc, _+_, _/_}
+use mathlib.Core.Bool.{Bool, true, false, cond, true≢false}
+use mathlib.Core.List.{List, [], _∷_, _++_, append-nil}
+use mathlib.Core.Path.{_≡_, refl, sym, _∙_, ap, subst}
+use native.Mathlib.Omega.{arith}
+use lib.ListN.{length, take, length-map}
+use Rattle.sequences.proofs.All.{all-at, all-before}
+use Rattle.records.specs.Context.{headerOf}
+use Rattle.records.specs.declared.kind.Kind.{Kind}
+use Rattle.flow.specs.Find.{recordsOf}
+use Rattle.flow.specs.Judge.{isLength, ended, go, judge}
+use Rattle.flow.specs.Order.{permitted, isDue, place}
+use Rattle.flow.specs.Steps.{start}
+use Rattle.flow.specs.Verdict.{Verdict, accepted, refused}
+use Rattle.flow.specs.declared.order.Due.{Due}
+use Rattle.flow.specs.declared.order.Due.the-variants.{OnlyIm, OnlyR14, R16OrR20, OnlyR20, OnlyR30, OnlyR40, R50OrR59, R59OrR51, OnlyR51, OnlyR70, R14OrEf, Nothing}
+use Rattle.flow.specs.declared.order.Place.{Place}
+use Rattle.flow.specs.declared.walk.Walk.{Walk}
+use Rattle.flow.proofs.Accepted.{accepted-not-refused, length-tested, length-refused}
+use Rattle.flow.proofs.Cut.{Whole, cut-whole}
+use Rattle.flow.proofs.Lengths.{length-said}
+use Rattle.grammar.specs.Fault.{RightLength, HaveKinds, EachRight, FaultBehind, FirstFault, wrong-length, in-record, still-due}
+use Rattle.grammar.specs.Grammar.{Typed, kindsOf, recordsIn}
+use Rattle.grammar.specs.Laws.{FirstFaultExact}
+use Rattle.grammar.specs.Shape.{InOrder}
+use Rattle.grammar.proofs.Behind.{have-kinds, FromStart, FaultNext, same-kinds, fault-behind, fault-next, walked-of, each-of}
+use Rattle.grammar.proofs.Order.{order-sound, order-runs}
+use Rattle.grammar.proofs.Walked.{stateBehind, codeBehind, walked-allowed, state-place, go-behind, go-stops, Outcome, all-right, stops, outcome}
+
+-- behind right records the flow is judged by what is left
+abbrev pub judgeFrom : List ℕ → List (List ℕ) → Verdict
+judgeFrom f recs = go ended (headerOf (take 120 f)) start [] 0 recs
+
+pub judged : (f : List ℕ) → RightLength f → judge f ≡ judgeFrom f (recordsOf f)
+unfolding judge
+judged f sized = rw (length-tested (length f) sized)
+
+pub whole-records : (f : List ℕ) → Whole (recordsOf f)
+whole-records f = cut-whole (length f / 120) f (omega arith)
+
+pub ends-so : (f : List ℕ) (rs : List Typed) → FromStart f rs → judgeFrom f (recordsIn rs) ≡ ended (stateBehind start rs) (length rs)
+unfolding go
+ends-so f rs walked =
+    let same : 0 + length rs ≡ length rs = omega arith in
+    ap (judgeFrom f) (sym (append-nil (recordsIn rs))) ∙ go-behind ended (headerOf (take 120 f)) start [] 0 rs [] walked ∙ ap (ended (stateBehind start rs)) same
+
+pub stops-so : (f : List ℕ) (rs : List Typed) (rec : List ℕ) (rest : List (List ℕ)) (m p : ℕ) → FromStart f rs → length rec ≡ 120 → FaultNext f rs rec m p → judgeFrom f (recordsIn rs ++ (rec ∷ rest)) ≡ refused m (suc (length (recordsIn rs))) p
+stops-so f rs rec rest m p walked whole fault =
+    let same : suc (0 + length rs) ≡ suc (length (recordsIn rs)) = omega (arith, length-map rs (λ (r : Typed). r .bytes)) in
+    go-behind ended (headerOf (take 120 f)) start [] 0 rs (rec ∷ rest) walked
+    ∙ go-stops ended (headerOf (take 120 f)) (stateBehind start rs) (codeBehind [] rs) (0 + length rs) rec rest m p whole fault
+    ∙ ap (λ (n : ℕ). refused m n p) same
+
+-- a record is due exactly where the records are not all of a flow in order
+due-nothing : (d : Due) → isDue (permitted d) ≡ false → d ≡ Nothing
+due-nothing OnlyIm e = absurd (true≢false e)
+due-nothing OnlyR14 e = absurd (true≢false e)
+due-nothing R16OrR20 e = absurd (true≢false e)
+due-nothing OnlyR20 e = absurd (true≢false e)
+due-nothing OnlyR30 e = absurd (true≢false e)
+due-nothing OnlyR40 e = absurd (true≢false e)
+due-nothing R50OrR59 e = absurd (true≢false e)
+due-nothing R59OrR51 e = absurd (true≢false e)
+due-nothing OnlyR51 e = absurd (true≢false e)
+due-nothing OnlyR70 e = absurd (true≢false e)
+due-nothing R14OrEf e = absurd (true≢false e)
+due-nothing Nothing e = refl
+
+module _ (f : List ℕ) (rs : List Typed) (walked : FromStart f rs) where
+  pub complete-order : isDue (permitted (stateBehind start rs .place .due)) ≡ false → InOrder (kindsOf rs)
+  complete-order e =
+      let due = ap (λ (p : Place). p .due) (sym (state-place start rs)) ∙ due-nothing (stateBehind start rs .place .due) e in
+      order-sound (place OnlyIm) (kindsOf rs) (walked-allowed (headerOf (take 120 f)) start [] 0 rs walked) due
+
+  pub order-complete : InOrder (kindsOf rs) → isDue (permitted (stateBehind start rs .place .due)) ≡ false
+  order-complete o = ap (λ (p : Place). isDue (permitted (p .due))) (state-place start rs ∙ order-runs o .1)
+
+-- from the refusal to its fault
+renamed : (f : List ℕ) {m s q n r p : ℕ} → refused m s q ≡ refused n r p → FirstFault f m s q → FirstFault f n r p
+renamed f {m} {s} {q} {n} {r} {p} e fault =
+    let number : m ≡ n = cc in
+    let at-record : s ≡ r = cc in
+    let position : q ≡ p = cc in
+    subst (λ (x : ℕ). FirstFault f x r p) number (subst (λ (x : ℕ). FirstFault f m x p) at-record (subst (λ (x : ℕ). FirstFault f m s x) position fault))
+
+module _ (f : List ℕ) (n r p : ℕ) (sized : RightLength f) where
+  at-end : (rs : List Typed) → recordsOf f ≡ recordsIn rs → FromStart f rs → (b : Bool) → isDue (permitted (stateBehind start rs .place .due)) ≡ b → cond b (refused 4 (suc (length rs)) 0) (accepted (stateBehind start rs .dispositions) (stateBehind start rs .cents) (length rs)) ≡ refused n r p → FirstFault f n r p
+  at-end rs same walked false t e = absurd (accepted-not-refused (sym e))
+  at-end rs same walked true t e =
+      let each : EachRight f (recordsOf f) = subst (EachRight f) (sym same) (each-of f rs walked) in
+      let count : suc (length (recordsOf f)) ≡ suc (length rs) = ap (λ (l : List (List ℕ)). suc (length l)) same ∙ ap suc (length-map rs (λ (x : Typed). x .bytes)) in
+      let none : (ks : List Kind) → HaveKinds ks (recordsOf f) → ¬ InOrder ks = λ ks have o.
+      true≢false (sym t ∙ order-complete f rs walked (subst InOrder (same-kinds f rs walked ks (subst (HaveKinds ks) same have)) o)) in
+      renamed f (ap (λ (x : ℕ). refused 4 x 0) count ∙ e) (still-due sized each none)
+
+  at-outcome : {recs : List (List ℕ)} → recordsOf f ≡ recs → Whole recs → Outcome (headerOf (take 120 f)) start [] 0 recs → judgeFrom f recs ≡ refused n r p → FirstFault f n r p
+  at-outcome same whole (all-right rs walked) e =
+      at-end rs same walked (isDue (permitted (stateBehind start rs .place .due))) refl (sym (ends-so f rs walked) ∙ e)
+  at-outcome same whole (stops rs rec rest m q walked fault) e =
+      let size = all-at (λ (l : List ℕ). length l ≡ 120) (recordsIn rs) rec rest whole in
+      renamed f (sym (stops-so f rs rec rest m q walked size fault) ∙ e)
+      (in-record (recordsIn rs) rec rest m q sized same (each-of f rs walked) (fault-behind f rs walked rec m q fault))
+
+fault-found : (f : List ℕ) (n r p : ℕ) → judge f ≡ refused n r p → FirstFault f n r p
+unfolding judge
+fault-found f n r p = by-length (isLength (length f)) refl
+  where
+    by-length : (b : Bool) → isLength (length f) ≡ b → cond b (judgeFrom f (recordsOf f)) (refused 1 0 0) ≡ refused n r p → FirstFault f n r p
+    by-length false t e = renamed f e (wrong-length (λ sized. true≢false (sym (length-tested (length f) sized) ∙ t)))
+    by-length true t e = at-outcome f n r p (length-said (length f) t) refl (whole-records f) (outcome (headerOf (take 120 f)) start [] 0 (recordsOf f) (whole-records f)) e
+
+-- from the fault to the refusal
+due-refused : (w : Walk) (n : ℕ) → ¬ (isDue (permitted (w .place .due)) ≡ false) → ended w n ≡ refused 4 (suc n) 0
+due-refused w n due = go (isDue (permitted (w .place .due))) refl
+  where
+    go : (b : Bool) → isDue (permitted (w .place .due)) ≡ b → cond b (refused 4 (suc n) 0) (accepted (w .dispositions) (w .cents) n) ≡ refused 4 (suc n) 0
+    go true e = refl
+    go false e = absurd (due e)
+
+fault-refused : (f : List ℕ) (n r p : ℕ) → FirstFault f n r p → judge f ≡ refused n r p
+fault-refused f n r p (wrong-length wrong) = length-refused f 0 0 .1 (refl, refl, wrong)
+fault-refused f n r p (in-record before rec behind m q sized same each fault) =
+    let whole : Whole (before ++ (rec ∷ behind)) = subst Whole same (whole-records f) in
+    let size = all-at (λ (l : List ℕ). length l ≡ 120) before rec behind whole in
+    let walked = walked-of f before (all-before (λ (l : List ℕ). length l ≡ 120) before (rec ∷ behind) whole) each in
+    let rs = walked .0 in
+    let next = fault-next f rs (walked .2) rec n p (subst (λ (l : List (List ℕ)). FaultBehind f l rec n p) (sym (walked .1)) fault) in
+    judged f sized ∙ ap (judgeFrom f) (same ∙ ap (λ (l : List (List ℕ)). l ++ (rec ∷ behind)) (sym (walked .1))) ∙ stops-so f rs rec behind n p (walked .2) size next
+    ∙ ap (λ (l : List (List ℕ)). refused n (suc (length l)) p) (walked .1)
+fault-refused f n r p (still-due sized each none) =
+    let walked = walked-of f (recordsOf f) (whole-records f) each in
+    let rs = walked .0 in
+    let count : suc (length rs) ≡ suc (length (recordsOf f)) = ap suc (sym (length-map rs (λ (x : Typed). x .bytes))) ∙ ap (λ (l : List (List ℕ)). suc (length l)) (walked .1) in
+    judged f sized ∙ ap (judgeFrom f) (sym (walked .1)) ∙ ends-so f rs (walked .2)
+    ∙ due-refused (stateBehind start rs) (length rs) (λ e. none (kindsOf rs) (subst (HaveKinds (kindsOf rs)) (walked .1) (have-kinds (headerOf (take 120 f)) start [] 0 rs (walked .2))) (complete-order f rs (walked .2) e))
+    ∙ ap (λ (x : ℕ). refused 4 x 0) count
+
+pub first-fault-exact : FirstFaultExact
+first-fault-exact f n r p = (fault-found f n r p, fault-refused f n r p)

@@ -1,0 +1,280 @@
+-- A flow is accepted exactly where it is one of the grammar, with its exact sums. Assumes nothing.
+use Prim.Native.Nat.{ℕ, suc, _+_, _*_, _/_, _^_, _≤_, _<_}
+use mathlib.Core.Bool.{Bool, true, false, cond}
+use mathlib.Core.List.{List, [], _∷_, _++_, append-nil, map, map-append, flatten, nil≢cons, head-eq-of-cons-eq, tail-eq-of-cons-eq}
+use mathlib.Core.Logic.{_↔_, inl}
+use mathlib.Core.Path.{_≡_, refl, sym, _∙_, ap, subst}
+use native.Mathlib.Omega.{arith}
+use lib.ListN.{length, take, length-append, length-map}
+use lib.Seq.{take-at}
+use Rattle.sequences.specs.Sum.{sum}
+use Rattle.sequences.proofs.All.{all-at}
+use Rattle.sequences.proofs.Map.{map-split}
+use Rattle.fields.specs.Digits.{number}
+use Rattle.fields.proofs.Decimal.{number-below}
+use Rattle.records.specs.Checks.{checks}
+use Rattle.records.specs.Context.{Header, headerOf}
+use Rattle.records.specs.Field.{field}
+use Rattle.records.specs.Judge.{asked}
+use Rattle.records.specs.declared.kind.Kind.{Kind}
+use Rattle.records.specs.declared.kind.Kind.the-variants.{Im, Ef}
+use Rattle.records.proofs.Rows.{field-length}
+use Rattle.flow.specs.Find.{recordsOf}
+use Rattle.flow.specs.Judge.{isLength, ended, judge}
+use Rattle.flow.specs.Order.{permitted, isDue, place}
+use Rattle.flow.specs.Steps.{start, step, latest}
+use Rattle.flow.specs.Verdict.{accepted, refused}
+use Rattle.flow.specs.declared.order.Due.the-variants.{OnlyR14}
+use Rattle.flow.specs.declared.order.Place.{Place}
+use Rattle.flow.specs.declared.walk.Walk.{Walk}
+use Rattle.flow.proofs.Accepted.{accepted-not-refused}
+use Rattle.flow.proofs.Cut.{Whole, flatten-length, records-joined, joined-records}
+use Rattle.flow.proofs.Lengths.{length-said}
+use Rattle.grammar.specs.Fault.{RightLength, Hold}
+use Rattle.grammar.specs.Grammar.{Typed, Parts, kindsOf, recordsIn, codeOf, bytesOf, dispositionCount, totalCents, recordCount, Numbered, Right, Grammar}
+use Rattle.grammar.specs.Laws.{GrammarExact}
+use Rattle.grammar.specs.Rules.{TrailerRules}
+use Rattle.grammar.specs.Shape.{Disposition, Dispositions, last, more, InOrder, in-order}
+use Rattle.grammar.proofs.AtPlace.{asks, RightAt}
+use Rattle.grammar.proofs.Behind.{FromStart}
+use Rattle.grammar.proofs.Bytes.{typedOf, parts-joined}
+use Rattle.grammar.proofs.Codes.{Agreeing, all-equal-exact}
+use Rattle.grammar.proofs.Dispositions.{InShape, numbered-shape, dispositions-state, dispositions-exact}
+use Rattle.grammar.proofs.FirstFault.{judgeFrom, judged, whole-records, ends-so, stops-so, complete-order, order-complete}
+use Rattle.grammar.proofs.Order.{Allowed, allowed-before, allowed-behind, order-runs}
+use Rattle.grammar.proofs.Rules.{digits-exact, header-rules, trailer-rules}
+use Rattle.grammar.proofs.Walked.{stateBehind, codeBehind, Walked, walked-append, state-append, state-place, Outcome, all-right, stops, outcome}
+
+-- records in the order of a flow are a header, dispositions and a trailer
+pub record TakenApart (rs : List Typed) : Type 0 where
+  pub parts : Parts
+  pub same : rs ≡ typedOf parts
+  pub some : 1 ≤ dispositionCount parts
+  pub shape : InShape (parts .dispositions)
+
+cut-up : {ks : List Kind} → Dispositions ks → (ms : List Typed) → kindsOf ms ≡ ks → (ds : List (List Typed)) × (ms ≡ flatten ds) × (1 ≤ length ds) × InShape ds
+unfolding flatten
+cut-up (last d) ms e = (ms ∷ [], sym (append-nil ms), omega arith, (subst Disposition (sym e) d, tt))
+cut-up (more {ks = ks} {ls = ls} d ds) ms e =
+    let split = map-split (λ (r : Typed). r .kind) ms ks ls e in
+    let rest = cut-up ds (split .1) (split .4) in
+    (split .0 ∷ rest .0, split .2 ∙ ap (λ (l : List Typed). split .0 ++ l) (rest .1), omega arith, (subst Disposition (sym (split .3)) d, rest .3))
+
+of-kind : (r : Typed) {k : Kind} → r .kind ≡ k → r ≡ record { kind = k; bytes = r .bytes }
+of-kind r e = λ i. record { kind = e i; bytes = r .bytes }
+
+pub take-apart : (rs : List Typed) → InOrder (kindsOf rs) → TakenApart rs
+take-apart rs o = go rs (kindsOf rs) refl o
+  where
+    ends : (es : List Typed) → kindsOf es ≡ Ef ∷ [] → (e : List ℕ) × (es ≡ record { kind = Ef; bytes = e } ∷ [])
+    ends [] s = absurd (nil≢cons s)
+    ends (e ∷ []) s =
+        let kind = of-kind e (head-eq-of-cons-eq s) in
+        (e .bytes, ap (λ (r : Typed). r ∷ []) kind)
+    ends (e ∷ x ∷ es) s = absurd (nil≢cons (sym (tail-eq-of-cons-eq s)))
+
+    go : (rs : List Typed) (ks : List Kind) → kindsOf rs ≡ ks → InOrder ks → TakenApart rs
+    go [] ks e (in-order ds) = absurd (nil≢cons e)
+    go (r ∷ rs) ks e (in-order {ks = ls} ds) =
+        let split = map-split (λ (x : Typed). x .kind) rs ls (Ef ∷ []) (tail-eq-of-cons-eq e) in
+        let middle = cut-up ds (split .0) (split .3) in
+        let back = ends (split .1) (split .4) in
+        let head = of-kind r (head-eq-of-cons-eq e) in
+        let body : rs ≡ flatten (middle .0) ++ (record { kind = Ef; bytes = back .0 } ∷ []) = split .2 ∙ cc (middle .1, back .1) in
+        record {
+          parts = record { header = r .bytes; dispositions = middle .0; trailer = back .0 };
+          same = cc;
+          some = middle .2;
+          shape = middle .3;
+        }
+
+-- and the other way round
+pub in-shape : (ds : List (List Typed)) → 1 ≤ length ds → InShape ds → Dispositions (kindsOf (flatten ds))
+unfolding flatten
+in-shape [] some shape = absurd (omega arith)
+in-shape (d ∷ []) some shape = subst (λ (l : List Typed). Dispositions (kindsOf l)) (sym (append-nil d)) (last (shape .0))
+in-shape (d ∷ x ∷ ds) some shape =
+    subst Dispositions (sym (map-append (λ (r : Typed). r .kind) d (flatten (x ∷ ds)))) (more (shape .0) (in-shape (x ∷ ds) (omega arith) (shape .1)))
+
+pub parts-order : (p : Parts) → 1 ≤ dispositionCount p → InShape (p .dispositions) → InOrder (kindsOf (typedOf p))
+parts-order p some shape =
+    subst (λ (ks : List Kind). InOrder (Im ∷ ks)) (sym (map-append (λ (r : Typed). r .kind) (flatten (p .dispositions)) (record { kind = Ef; bytes = p .trailer } ∷ []))) (in-order (in-shape (p .dispositions) some shape))
+
+-- what the walk counts behind all of them
+flatten-count : (ds : List (List Typed)) → length (flatten ds) ≡ sum (map (λ (d : List Typed). length d) ds)
+unfolding flatten
+flatten-count [] = refl
+flatten-count (d ∷ ds) = length-append d (flatten ds) ∙ ap (λ (n : ℕ). length d + n) (flatten-count ds)
+
+abbrev behindHeader : Walk
+behindHeader = step start Im 0
+
+module _ (p : Parts) (some : 1 ≤ dispositionCount p) (shape : InShape (p .dispositions)) where
+  -- the trailer is asked with the exact counts
+  trailer-counts :
+      (stateBehind behindHeader (flatten (p .dispositions)) .dispositions + 0 ≡ dispositionCount p)
+      × (stateBehind behindHeader (flatten (p .dispositions)) .cents ≡ totalCents p)
+      × (suc (1 + length (flatten (p .dispositions))) ≡ recordCount p)
+  trailer-counts =
+      let state = dispositions-state behindHeader (p .dispositions) shape in
+      (omega arith, omega arith, omega (arith, flatten-count (p .dispositions)))
+
+  trailer-said : (h : Header) (code : List ℕ) → let w = stateBehind behindHeader (flatten (p .dispositions)) in
+      Hold (checks Ef (asks h w code (suc (1 + length (flatten (p .dispositions)))) Ef) (p .trailer)) ↔ TrailerRules h (dispositionCount p) (totalCents p) (recordCount p) (p .trailer)
+  trailer-said h code =
+      let w = stateBehind behindHeader (flatten (p .dispositions)) in
+      let n = suc (1 + length (flatten (p .dispositions))) in
+      let rules = trailer-rules (asks h w code n Ef) (p .trailer) in
+      let counts = trailer-counts in
+      let same : TrailerRules h (w .dispositions + 0) (w .cents) n (p .trailer) ≡ TrailerRules h (dispositionCount p) (totalCents p) (recordCount p) (p .trailer) =
+      λ i. TrailerRules h (counts .0 i) (counts .1 i) (counts .2 i) (p .trailer) in
+      (λ hold. subst (λ (A : Type 0). A) same (rules .0 hold), λ said. rules .1 (subst (λ (A : Type 0). A) (sym same) said))
+
+  -- the walk over all the records, and the grammar
+  pub parts-exact : Walked (headerOf (p .header)) start [] 0 (typedOf p) ↔ Right p
+  parts-exact = (said, walked)
+    where
+      h : Header
+      h = headerOf (p .header)
+
+      ms : List Typed
+      ms = flatten (p .dispositions)
+
+      end : Typed
+      end = record { kind = Ef; bytes = p .trailer }
+
+      middle : Walked h behindHeader [] 1 ms ↔ (Allowed (behindHeader .place) (kindsOf ms) × Numbered (h .abi) 1 (p .dispositions) × Agreeing [] (map codeOf (p .dispositions)))
+      middle = dispositions-exact h behindHeader [] 1 1 (p .dispositions) shape refl
+
+      parts : Walked h behindHeader [] 1 (ms ++ (end ∷ [])) ↔ (Walked h behindHeader [] 1 ms × Walked h (stateBehind behindHeader ms) (codeBehind [] ms) (1 + length ms) (end ∷ []))
+      parts = walked-append h behindHeader [] 1 ms (end ∷ [])
+
+      said : Walked h start [] 0 (typedOf p) → Right p
+      said w =
+          let both = parts .0 (w .1) in
+          let within = middle .0 (both .0) in
+          let closing = both .1 .0 in
+          record {
+            header-formed = w .0 .formed;
+            header-rules = header-rules (asks h start [] 1 Im) (p .header) .0 (w .0 .keeps);
+            some = some;
+            each = within .1;
+            codes = all-equal-exact (map codeOf (p .dispositions)) .0 (within .2);
+            trailer-formed = closing .formed;
+            trailer-rules = trailer-said h (codeBehind [] ms) .0 (closing .keeps);
+          }
+
+      walked : Right p → Walked h start [] 0 (typedOf p)
+      walked r =
+          let allowed = subst (Allowed (place OnlyR14)) (map-append (λ (x : Typed). x .kind) ms (end ∷ [])) (order-runs (parts-order p some shape) .0 .1) in
+          let may = subst (λ (q : Place). Allowed q (Ef ∷ [])) (sym (state-place behindHeader ms)) (allowed-behind (place OnlyR14) (kindsOf ms) (Ef ∷ []) allowed) .0 in
+          let opening : RightAt h start [] 1 Im (p .header) = record { may = inl refl; formed = r .header-formed; keeps = header-rules (asks h start [] 1 Im) (p .header) .1 (r .header-rules) } in
+          let closing : RightAt h (stateBehind behindHeader ms) (codeBehind [] ms) (suc (1 + length ms)) Ef (p .trailer) = record { may = may; formed = r .trailer-formed; keeps = trailer-said h (codeBehind [] ms) .1 (r .trailer-rules) } in
+          let within = middle .1 (allowed-before (place OnlyR14) (kindsOf ms) (Ef ∷ []) allowed, r .each, all-equal-exact (map codeOf (p .dispositions)) .1 (r .codes)) in
+          (opening, parts .1 (within, (closing, tt)))
+
+  -- the three numbers behind all of them
+  all-counted :
+      (stateBehind start (typedOf p) .dispositions ≡ dispositionCount p) × (stateBehind start (typedOf p) .cents ≡ totalCents p) × (length (typedOf p) ≡ recordCount p)
+  all-counted =
+      let end : List Typed = record { kind = Ef; bytes = p .trailer } ∷ [] in
+      let same = state-append behindHeader (flatten (p .dispositions)) end in
+      let count = ap (λ (w : Walk). w .dispositions) same in
+      let cents = ap (λ (w : Walk). w .cents) same in
+      let counts = trailer-counts in
+      (omega arith, omega arith, omega (arith, length-append (flatten (p .dispositions)) end))
+
+-- the header of a flow is its first 120 bytes
+header-first : (p : Parts) (f : List ℕ) → bytesOf p ≡ f → length (p .header) ≡ 120 → take 120 f ≡ p .header
+header-first p f e whole = ap (take 120) (sym e) ∙ take-at (p .header) _ 120 whole
+
+-- an answer behind the last record
+ended-so : (w : Walk) (n d c m : ℕ) → ended w n ≡ accepted d c m → (isDue (permitted (w .place .due)) ≡ false) × (w .dispositions ≡ d) × (w .cents ≡ c) × (n ≡ m)
+ended-so w n d c m = go (isDue (permitted (w .place .due))) refl
+  where
+    go : (b : Bool) → isDue (permitted (w .place .due)) ≡ b → cond b (refused 4 (suc n) 0) (accepted (w .dispositions) (w .cents) n) ≡ accepted d c m → (isDue (permitted (w .place .due)) ≡ false) × (w .dispositions ≡ d) × (w .cents ≡ c) × (n ≡ m)
+    go true t e = absurd (accepted-not-refused e)
+    go false t e = (t, cc, cc, cc)
+
+-- from the answer to the grammar
+module _ (f : List ℕ) (d c n : ℕ) (sized : RightLength f) where
+  at-end : (rs : List Typed) → recordsOf f ≡ recordsIn rs → FromStart f rs → ended (stateBehind start rs) (length rs) ≡ accepted d c n → Grammar f d c n
+  at-end rs same walked e =
+      let told = ended-so (stateBehind start rs) (length rs) d c n e in
+      let apart = take-apart rs (complete-order f rs walked (told .0)) in
+      let p = apart .parts in
+      let bytes : bytesOf p ≡ f = sym (parts-joined p) ∙ ap (λ (l : List Typed). flatten (recordsIn l)) (sym (apart .same)) ∙ ap flatten (sym same) ∙ records-joined f (length f / 120) (omega arith) in
+      let typed = subst (FromStart f) (apart .same) walked in
+      let head = header-first p f bytes (typed .0 .formed .whole) in
+      let counts = all-counted p (apart .some) (apart .shape) in
+      let state = ap (stateBehind start) (apart .same) in
+      record {
+        parts = p;
+        bytes = bytes;
+        right = parts-exact p (apart .some) (apart .shape) .0 (subst (λ (l : List ℕ). Walked (headerOf l) start [] 0 (typedOf p)) head typed);
+        dispositions = sym (counts .0) ∙ ap (λ (w : Walk). w .dispositions) (sym state) ∙ told .1;
+        cents = sym (counts .1) ∙ ap (λ (w : Walk). w .cents) (sym state) ∙ told .2;
+        records = sym (counts .2) ∙ ap (λ (l : List Typed). length l) (sym (apart .same)) ∙ told .3;
+      }
+
+  at-outcome : {recs : List (List ℕ)} → recordsOf f ≡ recs → Whole recs → Outcome (headerOf (take 120 f)) start [] 0 recs → judgeFrom f recs ≡ accepted d c n → Grammar f d c n
+  at-outcome same whole (all-right rs walked) e = at-end rs same walked (sym (ends-so f rs walked) ∙ e)
+  at-outcome same whole (stops rs rec rest m q walked fault) e =
+      let size = all-at (λ (l : List ℕ). length l ≡ 120) (recordsIn rs) rec rest whole in
+      absurd (accepted-not-refused (sym (stops-so f rs rec rest m q walked size fault) ∙ e))
+
+grammar-of : (f : List ℕ) (d c n : ℕ) → judge f ≡ accepted d c n → Grammar f d c n
+unfolding judge
+grammar-of f d c n = by-length (isLength (length f)) refl
+  where
+    by-length : (b : Bool) → isLength (length f) ≡ b → cond b (judgeFrom f (recordsOf f)) (refused 1 0 0) ≡ accepted d c n → Grammar f d c n
+    by-length false t e = absurd (accepted-not-refused e)
+    by-length true t e = at-outcome f d c n (length-said (length f) t) refl (whole-records f) (outcome (headerOf (take 120 f)) start [] 0 (recordsOf f) (whole-records f)) e
+
+-- from the grammar to the answer
+walked-whole : (h : Header) (w : Walk) (code : List ℕ) (i : ℕ) (rs : List Typed) → Walked h w code i rs → Whole (recordsIn rs)
+walked-whole h w code i [] walked = tt
+walked-whole h w code i (r ∷ rs) walked =
+    (walked .0 .formed .whole, walked-whole h (step w (r .kind) (asked (r .kind) (r .bytes))) (latest (r .kind) code (r .bytes)) (suc i) rs (walked .1))
+
+-- the trailer counts at most 9,999,999 records
+few-records : (p : Parts) → Right p → recordCount p < 10000000
+few-records p r =
+    let said = r .trailer-rules .records-said in
+    let below = number-below (field 83 89 (p .trailer)) (digits-exact (field 83 89 (p .trailer)) .1 (said .0)) in
+    let seven : length (field 83 89 (p .trailer)) ≡ 7 = field-length 83 89 (p .trailer) (omega arith) (omega arith) (omega (arith, r .trailer-formed .whole)) in
+    let small : number (field 83 89 (p .trailer)) < 10 ^ 7 = rw seven at below in
+    omega (arith, said .1)
+
+module _ (f : List ℕ) (d c n : ℕ) (g : Grammar f d c n) where
+  pub grammar-shape : InShape (g .parts .dispositions)
+  grammar-shape = numbered-shape (headerOf (g .parts .header) .abi) 1 (g .parts .dispositions) (g .right .each)
+
+  grammar-walked : Walked (headerOf (g .parts .header)) start [] 0 (typedOf (g .parts))
+  grammar-walked = parts-exact (g .parts) (g .right .some) grammar-shape .1 (g .right)
+
+  pub grammar-whole : Whole (recordsIn (typedOf (g .parts)))
+  grammar-whole = walked-whole (headerOf (g .parts .header)) start [] 0 (typedOf (g .parts)) grammar-walked
+
+  pub grammar-bytes : flatten (recordsIn (typedOf (g .parts))) ≡ f
+  grammar-bytes = parts-joined (g .parts) ∙ g .bytes
+
+  -- the records of the flow are those of its parts
+  pub grammar-records : recordsOf f ≡ recordsIn (typedOf (g .parts))
+  grammar-records = ap recordsOf (sym grammar-bytes) ∙ joined-records (recordsIn (typedOf (g .parts))) grammar-whole
+
+  answer-of : judge f ≡ accepted d c n
+  answer-of =
+      let p = g .parts in
+      let rs = typedOf p in
+      let head = header-first p f (g .bytes) (g .right .header-formed .whole) in
+      let walked : FromStart f rs = subst (λ (l : List ℕ). Walked (headerOf l) start [] 0 rs) (sym head) grammar-walked in
+      let counts = all-counted p (g .right .some) grammar-shape in
+      let size : length f ≡ 120 * recordCount p = ap (λ (l : List ℕ). length l) (sym grammar-bytes) ∙ flatten-length (recordsIn rs) grammar-whole ∙ ap (λ (m : ℕ). 120 * m) (length-map rs (λ (x : Typed). x .bytes) ∙ counts .2) in
+      let few = few-records p (g .right) in
+      let sized : RightLength f = (omega arith, omega arith, omega arith) in
+      let last-due = order-complete f rs walked (parts-order p (g .right .some) grammar-shape) in
+      judged f sized ∙ ap (judgeFrom f) grammar-records ∙ ends-so f rs walked ∙ rw last-due (λ i. accepted ((counts .0 ∙ g .dispositions) i) ((counts .1 ∙ g .cents) i) ((counts .2 ∙ g .records) i))
+
+pub grammar-exact : GrammarExact
+grammar-exact f d c n = (grammar-of f d c n, answer-of f d c n)

@@ -1,0 +1,12 @@
+pub mod AtPlace
+pub mod Behind
+pub mod Bytes
+pub mod Codes
+pub mod Dispositions
+pub mod FirstFault
+pub mod Found
+pub mod Grammar
+pub mod Order
+pub mod Parts
+pub mod Rules
+pub mod Walked

@@ -1,0 +1,181 @@
+-- The dispositions found in a flow are those of the grammar; their parts are the bytes between header and trailer. Assumes nothing.
+use Prim.Native.Nat.{ℕ, suc, _-_, _*_, _<_}
+use mathlib.Core.Bool.{false}
+use mathlib.Core.List.{List, [], _∷_, _++_, append-assoc, map, map-map, map-append, flatten, dropLast}
+use mathlib.Core.Path.{_≡_, refl, sym, _∙_, ap, subst}
+use native.Mathlib.Omega.{arith}
+use lib.ListN.{length, take, drop, getD, length-append, length-map}
+use lib.Seq.{split-at}
+use borrow.Author.Tests.{le-leb}
+use Rattle.sequences.specs.All.{All}
+use Rattle.sequences.specs.Groups.{groups}
+use Rattle.sequences.specs.Part.{part}
+use Rattle.sequences.specs.Sum.{sum, upTo}
+use Rattle.sequences.proofs.All.{all-before, all-behind, all-getD}
+use Rattle.sequences.proofs.DropLast.{dropLast-append}
+use Rattle.sequences.proofs.Flatten.{flatten-append, flatten-flatten, map-flatten}
+use Rattle.sequences.proofs.Groups.{Opens, groups-joined}
+use Rattle.sequences.proofs.Map.{by-number}
+use Rattle.fields.specs.Digits.{number}
+use Rattle.records.specs.Context.{headerOf}
+use Rattle.records.specs.Field.{field}
+use Rattle.records.specs.Kinds.{typeOf, hasType, opens}
+use Rattle.records.specs.declared.kind.Kind.{Kind}
+use Rattle.records.specs.declared.kind.Kind.the-variants.{Im, R14, Ef}
+use Rattle.records.proofs.ByKind.{opens-type}
+use Rattle.flow.specs.Find.{Located, standing, refused, recordsOf, dispositionsIn, standsAt, find, bytesAt, partOf}
+use Rattle.flow.specs.Judge.{judge}
+use Rattle.flow.specs.Verdict.{accepted}
+use Rattle.flow.proofs.Cut.{Whole, flatten-length, part-joined}
+use Rattle.flow.proofs.Dispositions.{dispositions-counted, found-stands}
+use Rattle.grammar.specs.Grammar.{Typed, kindsOf, recordsIn, RightDisposition, Numbered, Grammar}
+use Rattle.grammar.specs.Laws.{DispositionsExact, centsAt, PartsExact, PartEmpty}
+use Rattle.grammar.specs.Rules.{Formed}
+use Rattle.grammar.proofs.AtPlace.{type-tested}
+use Rattle.grammar.proofs.Dispositions.{Detail, detail-opens, Opened, opened-by, opened-so, Member}
+use Rattle.grammar.proofs.Grammar.{grammar-records, grammar-whole, grammar-bytes, grammar-exact}
+
+-- a type that is not 14
+not-opening : (k : Kind) (rec : List ℕ) → Formed k rec → opens k ≡ false → hasType R14 rec ≡ false
+not-opening k rec formed shut = sym (opens-type k rec (type-tested k rec (formed .type))) ∙ shut
+
+module _ (abi : List ℕ) where
+  details-shut : (n : ℕ) (rs : List Typed) → All Detail (kindsOf rs) → All (Member abi n) rs → All (λ (rec : List ℕ). hasType R14 rec ≡ false) (recordsIn rs)
+  details-shut n [] details members = tt
+  details-shut n (r ∷ rs) details members =
+      (not-opening (r .kind) (r .bytes) (members .0 .0) (detail-opens (r .kind) (details .0)), details-shut n rs (details .1) (members .1))
+
+  -- a disposition of the grammar opens with a 14, and has no other
+  opens-so : (n : ℕ) (d : List Typed) → RightDisposition abi n d → Opens (hasType R14) (recordsIn d)
+  opens-so n d r = go d (opened-so d (r .order)) (r .records)
+    where
+      go : (d : List Typed) → Opened d → All (Member abi n) d → Opens (hasType R14) (recordsIn d)
+      go d (opened-by x xs e details) members =
+          record {
+            first = x .bytes;
+            others = recordsIn xs;
+            whole = refl;
+            passes = type-tested R14 (x .bytes) (members .0 .0 .type ∙ ap typeOf e);
+            none = details-shut n xs details (members .1);
+          }
+
+  all-open : (n : ℕ) (ds : List (List Typed)) → Numbered abi n ds → All (Opens (hasType R14)) (map recordsIn ds)
+  all-open n [] each = tt
+  all-open n (d ∷ ds) each = (opens-so n d (each .0), all-open (suc n) ds (each .1))
+
+-- the records between header and trailer
+module _ (f : List ℕ) (d c n : ℕ) (g : Grammar f d c n) where
+  between : recordsOf f ≡ (g .parts .header ∷ flatten (map recordsIn (g .parts .dispositions))) ++ (g .parts .trailer ∷ [])
+  between =
+      let ms = flatten (g .parts .dispositions) in
+      let bytes : Typed → List ℕ = λ r. r .bytes in
+      grammar-records f d c n g
+      ∙ ap (λ (l : List (List ℕ)). g .parts .header ∷ l) (map-append bytes ms (record { kind = Ef; bytes = g .parts .trailer } ∷ []) ∙ ap (λ (l : List (List ℕ)). l ++ (g .parts .trailer ∷ [])) (map-flatten bytes (g .parts .dispositions)))
+
+pub dispositions-exact : DispositionsExact
+unfolding groups
+dispositions-exact f d c n g =
+    let p = g .parts in
+    let ds = map recordsIn (p .dispositions) in
+    let header-shut = not-opening Im (p .header) (g .right .header-formed) refl in
+    ap (λ (l : List (List ℕ)). groups (hasType R14) (dropLast l)) (between f d c n g)
+    ∙ ap (groups (hasType R14)) (dropLast-append (p .header ∷ flatten ds) (p .trailer))
+    ∙ rw header-shut (groups-joined (hasType R14) ds (all-open (headerOf (p .header) .abi) 1 (p .dispositions) (g .right .each)))
+
+-- where disposition k + 1 of an accepted flow stands
+module _ (f : List ℕ) (d c n : ℕ) (e : judge f ≡ accepted d c n) where
+  g : Grammar f d c n
+  g = grammar-exact f d c n .0 e
+
+  find-so : (k : ℕ) → k < d → find f (suc k) ≡ standsAt (dispositionsIn f) (suc k)
+  unfolding find
+  find-so k h = rw (e, le-leb 1 (suc k) (omega arith), le-leb (suc k) d h)
+
+  count-so : length (dispositionsIn f) ≡ d
+  count-so = dispositions-counted f e
+
+  -- the records of the flow: the header, those of the dispositions, the trailer
+  records-so : recordsOf f ≡ (g .parts .header ∷ flatten (dispositionsIn f)) ++ (g .parts .trailer ∷ [])
+  records-so = between f d c n g ∙ ap (λ (l : List (List (List ℕ))). (g .parts .header ∷ flatten l) ++ (g .parts .trailer ∷ [])) (sym (dispositions-exact f d c n g))
+
+  whole-so : Whole ((g .parts .header ∷ flatten (dispositionsIn f)) ++ (g .parts .trailer ∷ []))
+  whole-so = subst Whole (sym (grammar-records f d c n g) ∙ records-so) (grammar-whole f d c n g)
+
+  bytes-so : flatten ((g .parts .header ∷ flatten (dispositionsIn f)) ++ (g .parts .trailer ∷ [])) ≡ f
+  bytes-so = ap flatten (sym records-so ∙ grammar-records f d c n g) ∙ grammar-bytes f d c n g
+
+  part-so : (k : ℕ) → k < d → Whole (getD (dispositionsIn f) k []) × (partOf f (suc k) ≡ flatten (getD (dispositionsIn f) k []))
+  unfolding flatten
+  part-so k h =
+      let found = dispositionsIn f in
+      let here = getD found k [] in
+      let xs = g .parts .header ∷ flatten (take k found) in
+      let zs = flatten (drop (suc k) found) ++ (g .parts .trailer ∷ []) in
+      let less : k < length found = omega (arith, count-so) in
+      let split : flatten found ≡ flatten (take k found) ++ (here ++ flatten (drop (suc k) found)) = ap flatten (split-at found k [] less) ∙ flatten-append (take k found) (here ∷ drop (suc k) found) in
+      let all : (g .parts .header ∷ flatten found) ++ (g .parts .trailer ∷ []) ≡ xs ++ (here ++ zs) = ap (λ (l : List (List ℕ)). (g .parts .header ∷ l) ++ (g .parts .trailer ∷ [])) split ∙ ap (λ (l : List (List ℕ)). g .parts .header ∷ l) (simp append-assoc) in
+      let whole : Whole (xs ++ (here ++ zs)) = subst Whole all whole-so in
+      let front : Whole xs = all-before (λ (l : List ℕ). length l ≡ 120) xs (here ++ zs) whole in
+      let within : Whole here = all-before (λ (l : List ℕ). length l ≡ 120) here zs (all-behind (λ (l : List ℕ). length l ≡ 120) xs (here ++ zs) whole) in
+      let joined : f ≡ flatten (xs ++ (here ++ zs)) = sym bytes-so ∙ ap flatten all in
+      let one : suc k - 1 ≡ k = omega arith in
+      let first : suc (suc (length (flatten (take k found)))) - 1 ≡ length xs = omega arith in
+      let bytes = ap (λ (m : ℕ). part (120 * m) (120 * length here) f) first ∙ ap (part (120 * length xs) (120 * length here)) joined ∙ part-joined xs here zs front within in
+      (within, ap (λ (l : Located). bytesAt l f) (find-so k h) ∙ rw one bytes)
+
+  cents-so : (k : ℕ) → k < d → centsAt (find f (suc k)) ≡ number (field 34 46 (getD (getD (dispositionsIn f) k []) 0 []))
+  cents-so k h =
+      let one : suc k - 1 ≡ k = omega arith in
+      ap centsAt (find-so k h) ∙ rw one
+
+  -- all of them, in order
+  parts-so : flatten (map (partOf f) (upTo d)) ≡ part 120 (length f - 240) f
+  unfolding flatten
+  parts-so =
+      let found = dispositionsIn f in
+      let xs = g .parts .header ∷ [] in
+      let zs = g .parts .trailer ∷ [] in
+      let within : Whole (flatten found) = all-before (λ (l : List ℕ). length l ≡ 120) (flatten found) zs (whole-so .1) in
+      let size : length f ≡ 120 * length ((g .parts .header ∷ flatten found) ++ zs) = ap (λ (l : List ℕ). length l) (sym bytes-so) ∙ flatten-length ((g .parts .header ∷ flatten found) ++ zs) whole-so in
+      let less : 120 * length (flatten found) ≡ length f - 240 = omega (arith, length-append (flatten found) zs) in
+      let numbered : map (partOf f) (upTo (length found)) ≡ map flatten found = by-number (partOf f) flatten found [] (λ k h. part-so k (omega (arith, count-so)) .1) in
+      ap (λ (m : ℕ). flatten (map (partOf f) (upTo m))) (sym count-so) ∙ ap flatten numbered ∙ flatten-flatten found
+      ∙ sym (ap (part 120 (120 * length (flatten found))) (sym bytes-so) ∙ part-joined xs (flatten found) zs (whole-so .0, tt) within)
+      ∙ ap (λ (m : ℕ). part 120 m f) less
+
+  sum-so : sum (map (λ (k : ℕ). centsAt (find f k)) (upTo d)) ≡ c
+  sum-so =
+      let found = dispositionsIn f in
+      let numbered = by-number (λ (k : ℕ). centsAt (find f k)) (λ (x : List (List ℕ)). number (field 34 46 (getD x 0 []))) found [] (λ k h. cents-so k (omega (arith, count-so))) in
+      ap (λ (m : ℕ). sum (map (λ (k : ℕ). centsAt (find f k)) (upTo m))) (sym count-so) ∙ ap sum numbered
+      ∙ ap (λ (l : List (List (List ℕ))). sum (map (λ (x : List (List ℕ)). number (field 34 46 (getD x 0 []))) l)) (dispositions-exact f d c n g)
+      ∙ ap sum (map-map (λ (x : List (List ℕ)). number (field 34 46 (getD x 0 []))) recordsIn (g .parts .dispositions)) ∙ g .cents
+
+pub parts-exact : PartsExact
+parts-exact f d c n e = (parts-so f d c n e, sum-so f d c n e)
+
+-- a disposition of an accepted flow has bytes
+some-bytes : (f : List ℕ) (d c n : ℕ) → judge f ≡ accepted d c n → (k : ℕ) → k < d → ¬ (partOf f (suc k) ≡ [])
+some-bytes f d c n e k h none =
+    let g = grammar-exact f d c n .0 e in
+    let found = map recordsIn (g .parts .dispositions) in
+    let same = dispositions-exact f d c n g in
+    let less : k < length found = omega (arith, length-map (g .parts .dispositions) recordsIn, g .dispositions) in
+    let opens-one = all-getD (Opens (hasType R14)) found k [] less (all-open (headerOf (g .parts .header) .abi) 1 (g .parts .dispositions) (g .right .each)) in
+    let here = part-so f d c n e k h in
+    let size = flatten-length (getD (dispositionsIn f) k []) (here .0) in
+    let empty : length (flatten (getD (dispositionsIn f) k [])) ≡ 0 = ap (λ (l : List ℕ). length l) (sym (here .1) ∙ none) in
+    let one : length (getD (dispositionsIn f) k []) ≡ suc (length (opens-one .others)) = ap (λ (l : List (List (List ℕ))). length (getD l k [])) same ∙ ap (λ (l : List (List ℕ)). length l) (opens-one .whole) in
+    omega arith
+
+pub part-empty : PartEmpty
+part-empty f k = (λ none. go none (find f k) refl, λ o. ap (λ (l : Located). bytesAt l f) (o .3))
+  where
+    go : partOf f k ≡ [] → (l : Located) → find f k ≡ l → (n r p : ℕ) × (find f k ≡ refused n r p)
+    go none (refused n r p) e = (n, r, p, e)
+    go none (standing first records cents) e =
+        let s = found-stands f k e .0 in
+        let some = s .some in
+        let within = s .within in
+        let same : suc (k - 1) ≡ k = omega arith in
+        absurd (some-bytes f (s .dispositions) (s .cents) (s .records) (s .read) (k - 1) (omega arith) (ap (partOf f) same ∙ none))

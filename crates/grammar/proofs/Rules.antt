@@ -1,0 +1,277 @@
+-- The table of checks as tests and as statements, row by row: the checks of a record hold exactly where what the table says is true of it.
+-- Assumes nothing.
+use Prim.Native.Nat.{ℕ, suc, _+_, _≤_}
+use mathlib.Core.Bool.{Bool, true, false, not, _&&_, _||_, and-eq-true-iff, false≢true}
+use mathlib.Core.List.{List, [], _∷_, _++_, List·Memᴰ, List·Memᴰ·head, List·Memᴰ·tail, List·Memᴰ·not-nil, List·Memᴰ·cases-cons}
+use mathlib.Core.Logic.{_↔_, _⊎_, inl, inr, ⊎-elim, Iff·rfl, Iff·trans, Iff·and}
+use mathlib.Core.Path.{_≡_, refl, _∙_, ap}
+use native.Mathlib.Omega.{arith}
+use lib.Dec.{leb, eqb}
+use lib.ListN.{length}
+use borrow.Author.Tests.{leb-true, le-leb, eqb-true, eq-eqb, not-true}
+use Rattle.sequences.specs.All.{All}
+use Rattle.sequences.specs.Every.{every}
+use Rattle.sequences.specs.Text.{text}
+use Rattle.sequences.proofs.Every.{all-every}
+use Rattle.fields.specs.Bytes.{isBlankByte, isBlank}
+use Rattle.fields.specs.Calendar.{Gregorian}
+use Rattle.fields.specs.Date.{dayOf}
+use Rattle.fields.specs.Digits.{isDigit, isDigits, number}
+use Rattle.fields.proofs.Bytes.{equal-exact}
+use Rattle.fields.proofs.Gregorian.{day-said, day-tested}
+use Rattle.records.specs.Bytes.{isPrintable, badFrom, badByte}
+use Rattle.records.specs.Checks.{isPresent, isDate, isListed, agrees, numberChecks, dispositionChecks, coordinatesChecks, checks}
+use Rattle.records.specs.Constants.{causale, sign, currency}
+use Rattle.records.specs.Context.{Context}
+use Rattle.records.specs.Field.{field, byteAt}
+use Rattle.records.specs.Finding.{Check, check}
+use Rattle.records.specs.declared.kind.Kind.{Kind}
+use Rattle.records.specs.declared.kind.Kind.the-variants.{Im, R14, R16, R20, R30, R40, R50, R59, R51, R70, Ef}
+use Rattle.records.proofs.Printable.{no-bad-byte}
+use Rattle.grammar.specs.Fault.{Hold}
+use Rattle.grammar.specs.Rules.{Digits, Blank, Present, Date, Printable, HeaderRules, DispositionRules, CoordinatesRules, BesideNumber, MemberRules, TrailerRules}
+
+-- tests joined, and what they say
+either : {A B : Type 0} {a b : Bool} → (a ≡ true) ↔ A → (b ≡ true) ↔ B → ((a || b) ≡ true) ↔ (A ⊎ B)
+either {a = true} e f = (λ t. inl (e .0 refl), λ h. refl)
+either {a = false} e f = (λ t. inr (f .0 t), λ h. ⊎-elim (λ x. absurd (false≢true (e .1 x))) (λ y. f .1 y) h)
+
+fails : {A : Type 0} {a : Bool} → (a ≡ true) ↔ A → (not a ≡ true) ↔ (¬ A)
+fails {a = true} e = (λ t. absurd (false≢true t), λ n. absurd (n (e .0 refl)))
+fails {a = false} e = (λ t x. false≢true (e .1 x), λ n. refl)
+
+within : (low high b : ℕ) → ((leb low b && leb b high) ≡ true) ↔ ((low ≤ b) × (b ≤ high))
+within low high b =
+    let both = and-eq-true-iff (leb low b) (leb b high) in
+    (λ t. (leb-true low b (both .0 t .0), leb-true b high (both .0 t .1)), λ h. both .1 (le-leb low b (h .0), le-leb b high (h .1)))
+
+-- a number
+pub number-exact : (a b : ℕ) → (eqb a b ≡ true) ↔ (a ≡ b)
+number-exact a b = (eqb-true a b, eq-eqb a b)
+
+above-zero : (v : ℕ) → (not (eqb v 0) ≡ true) ↔ (1 ≤ v)
+above-zero v =
+    let not-zero = fails (number-exact v 0) in
+    (λ t. let n = not-zero .0 t in omega arith, λ h. not-zero .1 (λ e. omega arith))
+
+-- bytes
+pub digits-exact : (bs : List ℕ) → (isDigits bs ≡ true) ↔ Digits bs
+digits-exact bs = all-every isDigit (λ b. (48 ≤ b) × (b ≤ 57)) (within 48 57) bs
+
+pub blanks-exact : (bs : List ℕ) → (isBlank bs ≡ true) ↔ Blank bs
+blanks-exact bs = all-every isBlankByte (λ b. b ≡ 32) (λ b. number-exact b 32) bs
+
+pub present-exact : (bs : List ℕ) → (isPresent bs ≡ true) ↔ Present bs
+present-exact bs = fails (blanks-exact bs)
+
+-- six digits that name a day
+day-exact : (bs : List ℕ) → (isDate bs ≡ true) ↔ Gregorian (dayOf bs)
+day-exact bs = (day-said (dayOf bs), day-tested (dayOf bs))
+
+pub true-day-exact : (bs : List ℕ) → ((isDigits bs ≡ true) × (isDate bs ≡ true)) ↔ Date bs
+true-day-exact bs = Iff·and (digits-exact bs) (day-exact bs)
+
+-- one of the listed bytes
+pub listed-exact : (b : ℕ) (xs : List ℕ) → (isListed b xs ≡ true) ↔ List·Memᴰ b xs
+unfolding isListed
+listed-exact b [] = (λ t. absurd (false≢true t), λ h. absurd (List·Memᴰ·not-nil h))
+listed-exact b (x ∷ xs) =
+    let here = either (number-exact b x) (listed-exact b xs) in
+    (λ t. ⊎-elim (λ e. List·Memᴰ·head e) (λ m. List·Memᴰ·tail m) (here .0 t), λ h. here .1 (List·Memᴰ·cases-cons h))
+
+-- company codes
+pub agrees-exact : (company code : List ℕ) → (agrees company code ≡ true) ↔ (Present code → Present company → code ≡ company)
+agrees-exact company code = (said, go (isBlank code) (isBlank company) refl refl)
+  where
+    said : agrees company code ≡ true → Present code → Present company → code ≡ company
+    said t here there =
+        let blank = either (blanks-exact code) (blanks-exact company) in
+        ⊎-elim (λ b. absurd (⊎-elim here there b)) (λ e. e) (either blank (equal-exact code company) .0 t)
+
+    go : (a b : Bool) → isBlank code ≡ a → isBlank company ≡ b → (Present code → Present company → code ≡ company) → agrees company code ≡ true
+    go true b e f h = rw e
+    go false true e f h = rw (e, f)
+    go false false e f h = rw (e, f) (equal-exact code company .1 (h (present-exact code .0 (rw e)) (present-exact company .0 (rw f))))
+
+-- bytes of 32 to 126
+printable-byte : (b : ℕ) → (isPrintable b ≡ true) ↔ Printable b
+printable-byte b = within 32 126 b
+
+all-printable : (bs : List ℕ) → (every isPrintable bs ≡ true) ↔ All Printable bs
+all-printable bs = all-every isPrintable Printable printable-byte bs
+
+-- the first byte of rec outside them stands at p, where the first of rec stands at q + 1
+abbrev BadAt : ℕ → List ℕ → ℕ → Type 0
+BadAt q rec p = (bs : List ℕ) × (b : ℕ) × (cs : List ℕ) × (rec ≡ bs ++ (b ∷ cs)) × All Printable bs × (¬ Printable b) × (p ≡ suc (q + length bs))
+
+-- every byte is one of them, or there is a first that is not
+bad-found : (q : ℕ) (rec : List ℕ) → All Printable rec ⊎ BadAt q rec (badFrom (suc q) rec)
+unfolding badFrom
+bad-found q [] = inl tt
+bad-found q (b ∷ rec) = go (isPrintable b) refl (bad-found (suc q) rec)
+  where
+    go : (t : Bool) → isPrintable b ≡ t → All Printable rec ⊎ BadAt (suc q) rec (badFrom (suc (suc q)) rec) → All Printable (b ∷ rec) ⊎ BadAt q (b ∷ rec) (badFrom (suc q) (b ∷ rec))
+    go true e (inl h) = inl (printable-byte b .0 e, h)
+    go true e (inr h) = inr (b ∷ h .0, h .1, h .2, ap (λ (l : List ℕ). b ∷ l) (h .3), (printable-byte b .0 e, h .4), h .5, rw e (h .6 ∙ omega arith))
+    go false e r = inr ([], b, rec, refl, tt, fails (printable-byte b) .0 (rw e), rw e (omega arith))
+
+bad-there : (q : ℕ) (bs : List ℕ) (b : ℕ) (cs : List ℕ) → All Printable bs → ¬ Printable b → badFrom (suc q) (bs ++ (b ∷ cs)) ≡ suc (q + length bs)
+unfolding badFrom
+bad-there q [] b cs h n = rw (not-true (isPrintable b) (fails (printable-byte b) .1 n)) (omega arith)
+bad-there q (x ∷ bs) b cs h n = rw (printable-byte x .1 (h .0)) (bad-there (suc q) bs b cs (h .1) n ∙ omega arith)
+
+pub printable-exact : (rec : List ℕ) → (badByte rec ≡ 0) ↔ All Printable rec
+printable-exact rec = (λ e. ⊎-elim (λ h. h) (λ h. absurd (omega (arith, e, h .6))) (bad-found 0 rec), λ h. no-bad-byte 1 rec (all-printable rec .1 h))
+
+pub bad-byte-exact :
+    (rec : List ℕ) (p : ℕ) → ((badByte rec ≡ p) × (1 ≤ p))
+    ↔ ((bs : List ℕ) × (b : ℕ) × (cs : List ℕ) × (rec ≡ bs ++ (b ∷ cs)) × All Printable bs × (¬ Printable b) × (p ≡ suc (length bs)))
+bad-byte-exact rec p = (
+  λ t. ⊎-elim (λ h. absurd (omega (arith, printable-exact rec .1 h))) (λ h. (h .0, h .1, h .2, h .3, h .4, h .5, omega (arith, h .6))) (bad-found 0 rec),
+  λ h. (rw (h .3) (bad-there 0 (h .0) (h .1) (h .2) (h .4) (h .5) ∙ omega arith), omega arith),
+)
+
+-- a row, check by check
+infixr 20 _then_
+_then_ : {P Q A B : Type 0} → P ↔ A → Q ↔ B → (P × Q) ↔ (A × B)
+e then f = Iff·and e f
+
+none : Hold [] ↔ Unit {0}
+none = Iff·rfl
+
+alone : Hold [] ↔ (Unit {0} × Unit {0})
+alone = (λ u. (tt, tt), λ u. tt)
+
+-- 105-111 of row IM: all blank, or else each part by itself
+unless : {B X Y Z : Type 0} → B ⊎ X → B ⊎ Y → B ⊎ Z → B ⊎ (X × Y × Z)
+unless (inl b) y z = inl b
+unless (inr x) (inl b) z = inl b
+unless (inr x) (inr y) (inl b) = inl b
+unless (inr x) (inr y) (inr z) = inr (x, y, z)
+
+pub header-rules : (ctx : Context) (rec : List ℕ) → Hold (checks Im ctx rec) ↔ HeaderRules rec
+unfolding checks
+header-rules ctx rec =
+    Iff·trans
+    (present-exact (field 4 8 rec)
+    then digits-exact (field 9 13 rec)
+    then digits-exact (field 14 19 rec)
+    then day-exact (field 14 19 rec)
+    then present-exact (field 20 39 rec)
+    then either (blanks-exact (field 105 111 rec)) (equal-exact (field 105 105 rec) (text "1"))
+    then either (blanks-exact (field 105 111 rec)) (equal-exact (field 106 106 rec) (text "$"))
+    then either (blanks-exact (field 105 111 rec)) (digits-exact (field 107 111 rec))
+    then equal-exact (field 114 114 rec) currency
+    then none) (
+      λ (m, (r, (d, (t, (n, (x, (y, (z, (c, u))))))))). record { mittente = m; ricevente = r; created = (d, t); name = n; flow-type = unless x y z; currency-code = c },
+      λ h. (h .mittente, (h .ricevente, (h .created .0, (h .created .1, (h .name, (part (h .flow-type) (λ a. a .0), (part (h .flow-type) (λ a. a .1), (part (h .flow-type) (λ a. a .2), (h .currency-code, tt))))))))),
+    )
+  where
+    part : {B A X : Type 0} → B ⊎ A → (A → X) → B ⊎ X
+    part h f = ⊎-elim (λ b. inl b) (λ a. inr (f a)) h
+
+-- the company code of row 14, compared with the latest one present; no other record has one
+abbrev pub CodeAgrees : Kind → List ℕ → List ℕ → Type 0
+CodeAgrees Im company rec = Unit
+CodeAgrees R14 company rec = agrees company (field 92 96 rec) ≡ true
+CodeAgrees R16 company rec = Unit
+CodeAgrees R20 company rec = Unit
+CodeAgrees R30 company rec = Unit
+CodeAgrees R40 company rec = Unit
+CodeAgrees R50 company rec = Unit
+CodeAgrees R59 company rec = Unit
+CodeAgrees R51 company rec = Unit
+CodeAgrees R70 company rec = Unit
+CodeAgrees Ef company rec = Unit
+
+disposition-rules : (abi company rec : List ℕ) → Hold (dispositionChecks abi company rec) ↔ (DispositionRules abi rec × (agrees company (field 92 96 rec) ≡ true))
+disposition-rules abi company rec =
+    Iff·trans
+    (digits-exact (field 23 28 rec)
+    then day-exact (field 23 28 rec)
+    then equal-exact (field 29 33 rec) causale
+    then digits-exact (field 34 46 rec)
+    then equal-exact (field 47 47 rec) sign
+    then digits-exact (field 48 52 rec)
+    then equal-exact (field 48 52 rec) abi
+    then either (blanks-exact (field 53 57 rec)) (digits-exact (field 53 57 rec))
+    then Iff·rfl
+    then listed-exact (byteAt 97 rec) (text " 1234569")
+    then equal-exact (field 120 120 rec) currency
+    then none) (
+      λ (d, (t, (c, (a, (s, (b, (e, (f, (g, (l, (v, u))))))))))). (record { payable = (d, t); causale-code = c; amount = a; sign-code = s; bank = (b, e); branch = f; code-type = l; currency-code = v }, g),
+      λ (h, g). (h .payable .0, (h .payable .1, (h .causale-code, (h .amount, (h .sign-code, (h .bank .0, (h .bank .1, (h .branch, (g, (h .code-type, (h .currency-code, tt))))))))))),
+    )
+
+coordinates-rules : (abi rec : List ℕ) → Hold (coordinatesChecks abi rec) ↔ (CoordinatesRules abi rec × Unit {0})
+coordinates-rules abi rec =
+    Iff·trans
+    (either (equal-exact (field 11 12 rec) (text "IT")) (equal-exact (field 11 12 rec) (text "SM"))
+    then digits-exact (field 13 14 rec)
+    then present-exact (field 15 15 rec)
+    then digits-exact (field 16 20 rec)
+    then equal-exact (field 16 20 rec) abi
+    then digits-exact (field 21 25 rec)
+    then above-zero (number (field 21 25 rec))
+    then present-exact (field 26 37 rec)
+    then none) (
+      λ (c, (k, (i, (b, (e, (d, (z, (a, u)))))))). (record { country = c; check-digits = k; cin = i; bank = (b, e); branch = (d, z); account = a }, u),
+      λ (h, u). (h .country, (h .check-digits, (h .cin, (h .bank .0, (h .bank .1, (h .branch .0, (h .branch .1, (h .account, u)))))))),
+    )
+
+-- a record's number, and then its other checks
+numbered :
+    (k : Kind) (ctx : Context) (rec : List ℕ) (cs : List Check) → Hold cs ↔ (BesideNumber k (ctx .header .abi) rec × CodeAgrees k (ctx .company) rec)
+    → Hold (numberChecks (ctx .counts .dispositions) rec ++ cs) ↔ (MemberRules k (ctx .header .abi) (ctx .counts .dispositions) rec × CodeAgrees k (ctx .company) rec)
+numbered k ctx rec cs e =
+    Iff·trans
+    (digits-exact (field 4 10 rec)
+    then number-exact (number (field 4 10 rec)) (ctx .counts .dispositions)
+    then e)
+    (λ (d, (v, (o, g))). (record { number-said = (d, v); others = o }, g), λ (h, g). (h .number-said .0, (h .number-said .1, (h .others, g))))
+
+pub member-rules :
+    (k : Kind) (ctx : Context) (rec : List ℕ) → (k ≡ Im → ⊥) → (k ≡ Ef → ⊥)
+    → Hold (checks k ctx rec) ↔ (MemberRules k (ctx .header .abi) (ctx .counts .dispositions) rec × CodeAgrees k (ctx .company) rec)
+unfolding checks
+member-rules Im ctx rec f g = absurd (f refl)
+member-rules R14 ctx rec f g =
+    numbered R14 ctx rec (dispositionChecks (ctx .header .abi) (ctx .company) rec) (disposition-rules (ctx .header .abi) (ctx .company) rec)
+member-rules R16 ctx rec f g =
+    numbered R16 ctx rec (coordinatesChecks (ctx .header .abi) rec) (coordinates-rules (ctx .header .abi) rec)
+member-rules R20 ctx rec f g =
+    numbered R20 ctx rec (check (isPresent (field 11 34 rec)) 7 11 ∷ []) (present-exact (field 11 34 rec) then none)
+member-rules R30 ctx rec f g =
+    numbered R30 ctx rec (check (isPresent (field 11 40 rec)) 7 11 ∷ []) (present-exact (field 11 40 rec) then none)
+member-rules R40 ctx rec f g = numbered R40 ctx rec [] alone
+member-rules R50 ctx rec f g = numbered R50 ctx rec [] alone
+member-rules R59 ctx rec f g =
+    numbered R59 ctx rec (check (isPresent (field 11 65 rec)) 7 11 ∷ []) (present-exact (field 11 65 rec) then none)
+member-rules R51 ctx rec f g = numbered R51 ctx rec [] alone
+member-rules R70 ctx rec f g =
+    numbered R70 ctx rec (check (isListed (byteAt 94 rec) (text " PB")) 6 94 ∷ []) (listed-exact (byteAt 94 rec) (text " PB") then none)
+member-rules Ef ctx rec f g = absurd (g refl)
+
+pub trailer-rules :
+    (ctx : Context) (rec : List ℕ) → Hold (checks Ef ctx rec) ↔ TrailerRules (ctx .header) (ctx .counts .dispositions) (ctx .counts .cents) (ctx .counts .records) rec
+unfolding checks
+trailer-rules ctx rec =
+    Iff·trans
+    (equal-exact (field 4 8 rec) (ctx .header .mittente)
+    then equal-exact (field 9 13 rec) (ctx .header .abi)
+    then equal-exact (field 14 19 rec) (ctx .header .date)
+    then equal-exact (field 20 39 rec) (ctx .header .name)
+    then digits-exact (field 46 52 rec)
+    then number-exact (number (field 46 52 rec)) (ctx .counts .dispositions)
+    then digits-exact (field 53 67 rec)
+    then number-exact (number (field 53 67 rec)) (ctx .counts .cents)
+    then digits-exact (field 68 82 rec)
+    then number-exact (number (field 68 82 rec)) 0
+    then digits-exact (field 83 89 rec)
+    then number-exact (number (field 83 89 rec)) (ctx .counts .records)
+    then equal-exact (field 114 114 rec) (ctx .header .currency)
+    then none) (
+      λ (m, (r, (d, (n, (a, (b, (e, (f, (g, (h, (j, (k, (c, u))))))))))))).
+          record { mittente = m; ricevente = r; created = d; name = n; dispositions-said = (a, b); cents-said = (e, f); zeros = (g, h); records-said = (j, k); currency-code = c },
+      λ h. (h .mittente, (h .ricevente, (h .created, (h .name, (h .dispositions-said .0, (h .dispositions-said .1, (h .cents-said .0, (h .cents-said .1, (h .zeros .0, (h .zeros .1, (h .records-said .0, (h .records-said .1, (h .currency-code, tt))))))))))))),
+    )

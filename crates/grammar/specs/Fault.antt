@@ -1,0 +1,81 @@
+-- The first fault of a flow, said without looking for it (document 01, "Numbers a clerk may see": 1; then the lowest record; inside it 2
+-- at the lowest byte, then 3, then rising field position; 4 where every record present is right). Assumes nothing.
+use Prim.Native.Nat.{ℕ, suc, _+_, _%_, _≤_}
+use mathlib.Core.Bool.{true, false, cond, _&&_}
+use mathlib.Core.List.{List, [], _∷_, _++_, map}
+use mathlib.Core.Path.{_≡_}
+use lib.ListN.{length, take}
+use Rattle.sequences.specs.All.{All}
+use Rattle.records.specs.Checks.{isPresent, checks}
+use Rattle.records.specs.Context.{Context, context, headerOf}
+use Rattle.records.specs.Field.{field}
+use Rattle.records.specs.Finding.{Check, check}
+use Rattle.records.specs.Kinds.{typeOf, hasType, opens}
+use Rattle.records.specs.declared.kind.Kind.{Kind}
+use Rattle.records.specs.declared.kind.Kind.the-variants.{R14}
+use Rattle.flow.specs.Find.{recordsOf}
+use Rattle.flow.specs.Sums.{dispositionsOf, centsOf}
+use Rattle.grammar.specs.Rules.{Printable}
+use Rattle.grammar.specs.Shape.{InOrder}
+
+-- one or more whole records, 9,999,999 at the most
+abbrev pub RightLength : List ℕ → Type 0
+RightLength f = (1 ≤ length f) × (length f % 120 ≡ 0) × (length f ≤ 1199999880)
+
+-- the types of the records are those of the kinds
+abbrev pub HaveKinds : List Kind → List (List ℕ) → Type 0
+HaveKinds ks recs = map typeOf ks ≡ map (field 2 3) recs
+
+-- a record of the kind may stand behind the records: some flow in the stated order goes on so
+pub record MayFollow (before : List (List ℕ)) (k : Kind) : Type 0 where
+  pub kinds : List Kind
+  pub rest : List Kind
+  pub have : HaveKinds kinds before
+  pub order : InOrder (kinds ++ (k ∷ rest))
+
+-- the latest company code present in the records 14, or the one given where there is none
+unfoldable pub latestCode : List ℕ → List (List ℕ) → List ℕ
+latestCode code [] = code
+latestCode code (rec ∷ recs) = latestCode (cond (hasType R14 rec && isPresent (field 92 96 rec)) (field 92 96 rec) code) recs
+
+-- what the checks of a record of the kind are asked with, behind the records `before` of the flow f
+abbrev pub contextBehind : List ℕ → List (List ℕ) → Kind → Context
+contextBehind f before k =
+    context (headerOf (take 120 f)) (latestCode [] before)
+    (record { dispositions = dispositionsOf before + cond (opens k) 1 0; cents = centsOf before; records = suc (length before) })
+
+-- each check of the list holds
+abbrev pub Hold : List Check → Type 0
+Hold [] = Unit
+Hold (check b n p ∷ cs) = (b ≡ true) × Hold cs
+
+-- the record is right behind the records `before` of the flow f
+pub record RightBehind (f : List ℕ) (before : List (List ℕ)) (rec : List ℕ) : Type 0 where
+  pub kind : Kind
+  pub printable : All Printable rec
+  pub type : field 2 3 rec ≡ typeOf kind
+  pub permitted : MayFollow before kind
+  pub keeps : Hold (checks kind (contextBehind f before kind) rec)
+
+-- every one of the first records of the flow f is right at its place
+abbrev pub EachRight : List ℕ → List (List ℕ) → Type 0
+EachRight f recs = (before : List (List ℕ)) (rec : List ℕ) (behind : List (List ℕ)) → recs ≡ before ++ (rec ∷ behind) → RightBehind f before rec
+
+-- a fault of the record, by number and position: each excludes those before it
+pub data FaultBehind (f : List ℕ) (before : List (List ℕ)) (rec : List ℕ) : ℕ → ℕ → Type 0 where
+  -- a byte outside 32 to 126, and none before it
+  bad-byte : (bs : List ℕ) (b : ℕ) (cs : List ℕ) → rec ≡ bs ++ (b ∷ cs) → All Printable bs → ¬ Printable b → FaultBehind f before rec 2 (suc (length bs))
+  -- a type that may not follow
+  wrong-type : All Printable rec → ((k : Kind) → field 2 3 rec ≡ typeOf k → ¬ MayFollow before k) → FaultBehind f before rec 3 2
+  -- a check of the table that fails, and those before it hold
+  broken :
+      (k : Kind) (held : List Check) (n p : ℕ) (others : List Check) → All Printable rec → field 2 3 rec ≡ typeOf k → MayFollow before k
+      → checks k (contextBehind f before k) rec ≡ held ++ (check false n p ∷ others) → Hold held → FaultBehind f before rec n p
+
+-- the first fault of a flow, by number, record and position
+pub data FirstFault (f : List ℕ) : ℕ → ℕ → ℕ → Type 0 where
+  wrong-length : ¬ RightLength f → FirstFault f 1 0 0
+  in-record :
+      (before : List (List ℕ)) (rec : List ℕ) (behind : List (List ℕ)) (n p : ℕ) → RightLength f → recordsOf f ≡ before ++ (rec ∷ behind)
+      → EachRight f before → FaultBehind f before rec n p → FirstFault f n (suc (length before)) p
+  still-due : RightLength f → EachRight f (recordsOf f) → ((ks : List Kind) → HaveKinds ks (recordsOf f) → ¬ InOrder ks) → FirstFault f 4 (suc (length (recordsOf f))) 0

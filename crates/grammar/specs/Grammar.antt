@@ -1,0 +1,89 @@
+-- The grammar of a request flow: a header; one or more dispositions in the stated order, numbered 1, 2, 3 ..; a trailer with their exact
+-- count, sum and record count; and every field rule (document 01, "The flow as bytes"). Assumes nothing.
+use Prim.Native.Nat.{ℕ, suc, _+_, _≤_}
+use mathlib.Core.List.{List, [], _∷_, _++_, map, flatten, List·Memᴰ}
+use mathlib.Core.Path.{_≡_}
+use lib.ListN.{length, getD}
+use Rattle.sequences.specs.All.{All}
+use Rattle.sequences.specs.Sum.{sum}
+use Rattle.fields.specs.Digits.{number}
+use Rattle.records.specs.Context.{headerOf}
+use Rattle.records.specs.Field.{field}
+use Rattle.records.specs.declared.kind.Kind.{Kind}
+use Rattle.records.specs.declared.kind.Kind.the-variants.{Im, Ef}
+use Rattle.grammar.specs.Rules.{Present, Formed, HeaderRules, MemberRules, TrailerRules}
+use Rattle.grammar.specs.Shape.{Disposition}
+
+-- a record with its kind
+pub record Typed : Type 0 where
+  pub kind : Kind
+  pub bytes : List ℕ
+
+-- a flow taken apart: the header, the dispositions as lists of records, the trailer
+pub record Parts : Type 0 where
+  pub header : List ℕ
+  pub dispositions : List (List Typed)
+  pub trailer : List ℕ
+
+abbrev pub kindsOf : List Typed → List Kind
+kindsOf d = map (λ (r : Typed). r .kind) d
+
+abbrev pub recordsIn : List Typed → List (List ℕ)
+recordsIn d = map (λ (r : Typed). r .bytes) d
+
+-- the record that opens a disposition; its amount, and its company code
+abbrev pub opening : List Typed → List ℕ
+opening d = getD (recordsIn d) 0 []
+
+abbrev pub amountOf : List Typed → ℕ
+amountOf d = number (field 34 46 (opening d))
+
+abbrev pub codeOf : List Typed → List ℕ
+codeOf d = field 92 96 (opening d)
+
+-- the flow put together again
+abbrev pub bytesOf : Parts → List ℕ
+bytesOf p = p .header ++ (flatten (map (λ (d : List Typed). flatten (recordsIn d)) (p .dispositions)) ++ p .trailer)
+
+-- the exact sums: dispositions, their amounts, and records with header and trailer
+abbrev pub dispositionCount : Parts → ℕ
+dispositionCount p = length (p .dispositions)
+
+abbrev pub totalCents : Parts → ℕ
+totalCents p = sum (map amountOf (p .dispositions))
+
+abbrev pub recordCount : Parts → ℕ
+recordCount p = 2 + sum (map (λ (d : List Typed). length d) (p .dispositions))
+
+-- the n-th disposition of a flow whose header has the ABI
+pub record RightDisposition (abi : List ℕ) (n : ℕ) (d : List Typed) : Type 0 where
+  pub order : Disposition (kindsOf d)
+  pub records : All (λ (r : Typed). Formed (r .kind) (r .bytes) × MemberRules (r .kind) abi n (r .bytes)) d
+
+-- dispositions numbered from n on
+abbrev pub Numbered : List ℕ → ℕ → List (List Typed) → Type 0
+Numbered abi n [] = Unit
+Numbered abi n (d ∷ ds) = RightDisposition abi n d × Numbered abi (suc n) ds
+
+-- company codes: those that are present are all equal
+abbrev pub AllEqual : List (List ℕ) → Type 0
+AllEqual codes = (a b : List ℕ) → List·Memᴰ a codes → List·Memᴰ b codes → Present a → Present b → a ≡ b
+
+pub record Right (p : Parts) : Type 0 where
+  pub header-formed : Formed Im (p .header)
+  pub header-rules : HeaderRules (p .header)
+  pub some : 1 ≤ dispositionCount p
+  pub each : Numbered (headerOf (p .header) .abi) 1 (p .dispositions)
+  pub codes : AllEqual (map codeOf (p .dispositions))
+  pub trailer-formed : Formed Ef (p .trailer)
+  pub trailer-rules : TrailerRules (headerOf (p .header)) (dispositionCount p) (totalCents p) (recordCount p) (p .trailer)
+
+-- the bytes f are a right flow with d dispositions, c cents and n records. The ceiling of 9,999,999 records is no rule of its own: the
+-- trailer's seven digits say the count
+pub record Grammar (f : List ℕ) (d c n : ℕ) : Type 0 where
+  pub parts : Parts
+  pub bytes : bytesOf parts ≡ f
+  pub right : Right parts
+  pub dispositions : dispositionCount parts ≡ d
+  pub cents : totalCents parts ≡ c
+  pub records : recordCount parts ≡ n

@@ -1,0 +1,5 @@
+pub mod Fault
+pub mod Grammar
+pub mod Laws
+pub mod Rules
+pub mod Shape
