@@ -1,7 +1,7 @@
 -- A record at its place in the flow: what the walk finds of it, as the statements say it. Assumes nothing.
 use Prim.Native.Nat.{ℕ, zero, suc}
-use mathlib.Core.Bool.{true, false}
-use mathlib.Core.List.{List, _∷_, _++_}
+use mathlib.Core.Bool.{true}
+use mathlib.Core.List.{List}
 use mathlib.Core.Logic.{_⊎_, inl, inr}
 use mathlib.Core.Path.{_≡_, refl, _∙_, ap}
 use native.Mathlib.Omega.{arith}
@@ -12,7 +12,7 @@ use Rattle.records.specs.Bytes.{badByte}
 use Rattle.records.specs.Checks.{checks}
 use Rattle.records.specs.Context.{Header, Context, context}
 use Rattle.records.specs.Field.{field}
-use Rattle.records.specs.Finding.{Finding, right, refused, Check, check}
+use Rattle.records.specs.Finding.{Finding, right, refused}
 use Rattle.records.specs.Judge.{asked, judge}
 use Rattle.records.specs.Kinds.{typeOf, hasType}
 use Rattle.records.specs.declared.kind.Kind.{Kind}
@@ -21,8 +21,8 @@ use Rattle.flow.specs.Order.{permitted}
 use Rattle.flow.specs.Steps.{countsAt, judgeRecord}
 use Rattle.flow.specs.declared.walk.Walk.{Walk}
 use Rattle.flow.proofs.Among.{In, Has, HasNone, has-or-none}
-use Rattle.flow.proofs.Places.{bad-byte, judged-of, judged-none}
-use Rattle.grammar.specs.Fault.{Hold}
+use Rattle.flow.proofs.Places.{bad-byte as judged-bad-byte, judged-of, judged-none}
+use Rattle.grammar.specs.Fault.{Hold, Fault, bad-byte, wrong-type, broken}
 use Rattle.grammar.specs.Rules.{Printable, Formed}
 use Rattle.grammar.proofs.Found.{right-exact, broken-exact}
 use Rattle.grammar.proofs.Rules.{printable-exact, bad-byte-exact}
@@ -48,12 +48,8 @@ pub record RightAt (h : Header) (w : Walk) (company : List ℕ) (n : ℕ) (k : K
   pub keeps : Hold (checks k (asks h w company n k) rec)
 
 -- a fault at its place, by number and position
-pub data FaultAt (h : Header) (w : Walk) (company : List ℕ) (n : ℕ) (rec : List ℕ) : ℕ → ℕ → Type 0 where
-  bad-byte-at : (bs : List ℕ) (b : ℕ) (cs : List ℕ) → rec ≡ bs ++ (b ∷ cs) → All Printable bs → ¬ Printable b → FaultAt h w company n rec 2 (suc (length bs))
-  wrong-type-at : All Printable rec → ((k : Kind) → field 2 3 rec ≡ typeOf k → ¬ May w k) → FaultAt h w company n rec 3 2
-  broken-at :
-      (k : Kind) (held : List Check) (m p : ℕ) (others : List Check) → All Printable rec → field 2 3 rec ≡ typeOf k → May w k
-      → checks k (asks h w company n k) rec ≡ held ++ (check false m p ∷ others) → Hold held → FaultAt h w company n rec m p
+abbrev pub FaultAt : Header → Walk → List ℕ → ℕ → List ℕ → ℕ → ℕ → Type 0
+FaultAt h w company n rec m p = Fault (May w) (asks h w company n) rec m p
 
 abbrev pub Judgement : Header → Walk → List ℕ → ℕ → List ℕ → Type 0
 Judgement h w company n rec = ((k : Kind) × RightAt h w company n k rec) ⊎ ((m p : ℕ) × FaultAt h w company n rec m p)
@@ -67,11 +63,11 @@ module _ (h : Header) (w : Walk) (company : List ℕ) (n : ℕ) (rec : List ℕ)
   right-judged k r = of-kind k (r .formed .printable) (r .formed .type) (r .may) ∙ right-exact k (asks h w company n k) rec whole .1 (r .keeps)
 
   pub fault-judged : (m p : ℕ) → FaultAt h w company n rec m p → judgeRecord h w company n rec ≡ refused m p
-  fault-judged m p (bad-byte-at bs b cs e printable bad) =
+  fault-judged m p (bad-byte bs b cs e printable bad) =
       let said = bad-byte-exact rec (suc (length bs)) .1 (bs, b, cs, e, printable, bad, refl) in
-      bad-byte h w company n rec whole (λ z. omega arith) ∙ ap (refused 2) (said .0)
-  fault-judged m p (wrong-type-at printable none) = judged-none h w company n rec whole (printable-exact rec .1 printable) (λ k i t. none k (type-said k rec t) i)
-  fault-judged m p (broken-at k held q r others printable type may e holds) =
+      judged-bad-byte h w company n rec whole (λ z. omega arith) ∙ ap (refused 2) (said .0)
+  fault-judged m p (wrong-type printable none) = judged-none h w company n rec whole (printable-exact rec .1 printable) (λ k i t. none k (type-said k rec t) i)
+  fault-judged m p (broken k held q r others printable type may e holds) =
       of-kind k printable type may ∙ broken-exact k (asks h w company n k) rec m p whole .1 (held, others, e, holds)
 
   -- one of the two it is
@@ -82,17 +78,17 @@ module _ (h : Header) (w : Walk) (company : List ℕ) (n : ℕ) (rec : List ℕ)
       inl (k, record { may = may; formed = record { whole = whole; printable = printable; type = type }; keeps = right-exact k (asks h w company n k) rec whole .0 found })
   by-checks k (refused m p) e printable type may =
       let split = broken-exact k (asks h w company n k) rec m p whole .0 e in
-      inr (m, p, broken-at k (split .0) m p (split .1) printable type may (split .2) (split .3))
+      inr (m, p, broken k (split .0) m p (split .1) printable type may (split .2) (split .3))
 
   pub judgement : Judgement h w company n rec
   judgement = bytes (badByte rec) refl
     where
       typed : All Printable rec → Has (permitted (w .place .due)) rec ⊎ HasNone (permitted (w .place .due)) rec → Judgement h w company n rec
       typed printable (inl o) = by-checks (o .0) (judge (o .0) (asks h w company n (o .0)) rec) refl printable (type-said (o .0) rec (o .2)) (o .1)
-      typed printable (inr none) = inr (3, 2, wrong-type-at printable (λ k e i. none k i (type-tested k rec e)))
+      typed printable (inr none) = inr (3, 2, wrong-type printable (λ k e i. none k i (type-tested k rec e)))
 
       bytes : (p : ℕ) → badByte rec ≡ p → Judgement h w company n rec
       bytes zero e = typed (printable-exact rec .0 e) (has-or-none (permitted (w .place .due)) rec)
       bytes (suc p) e =
           let split = bad-byte-exact rec (suc p) .0 (e, omega arith) in
-          inr (2, suc (length (split .0)), bad-byte-at (split .0) (split .1) (split .2) (split .3) (split .4) (split .5))
+          inr (2, suc (length (split .0)), bad-byte (split .0) (split .1) (split .2) (split .3) (split .4) (split .5))

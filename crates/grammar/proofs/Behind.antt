@@ -3,6 +3,7 @@
 use Prim.Native.Nat.{ℕ, suc, _+_}
 use mathlib.Core.Bool.{cond}
 use mathlib.Core.List.{List, [], _∷_, _++_, map, head-eq-of-cons-eq, tail-eq-of-cons-eq, nil≢cons}
+use mathlib.Core.Logic.{_↔_}
 use mathlib.Core.Path.{_≡_, refl, sym, _∙_, ap, subst}
 use native.Mathlib.Omega.{arith}
 use lib.ListN.{length, take, length-map}
@@ -23,10 +24,10 @@ use Rattle.flow.specs.declared.order.Place.{Place}
 use Rattle.flow.specs.declared.walk.Walk.{Walk}
 use Rattle.flow.proofs.Cut.{Whole}
 use Rattle.flow.proofs.Among.{In}
-use Rattle.grammar.specs.Fault.{HaveKinds, MayFollow, contextBehind, Hold, RightBehind, EachRight, FaultBehind, bad-byte, wrong-type, broken}
+use Rattle.grammar.specs.Fault.{HaveKinds, MayFollow, contextBehind, Hold, RightBehind, EachRight, Fault, FaultBehind, bad-byte, wrong-type, broken}
 use Rattle.grammar.specs.Grammar.{Typed, kindsOf, recordsIn}
 use Rattle.grammar.specs.Shape.{InOrder}
-use Rattle.grammar.proofs.AtPlace.{asks, May, RightAt, FaultAt, bad-byte-at, wrong-type-at, broken-at, right-judged, fault-judged}
+use Rattle.grammar.proofs.AtPlace.{asks, May, RightAt, FaultAt, right-judged, fault-judged}
 use Rattle.grammar.proofs.Order.{placeBehind, may-go-on, went-on}
 use Rattle.grammar.proofs.Walked.{stateBehind, codeBehind, Walked, walked-append, walked-allowed, state-place, Outcome, all-right, stops, outcome, state-counts}
 
@@ -46,6 +47,15 @@ have-kinds h w code i (r ∷ rs) walked =
     let one = walked .0 .formed .type in
     let rest = have-kinds h (step w (r .kind) (asked (r .kind) (r .bytes))) (latest (r .kind) code (r .bytes)) (suc i) rs (walked .1) in
     cc
+
+-- a fault where the same kinds may stand and are asked the same
+fault-same :
+    {may may′ : Kind → Type 0} {asked-so asked-so′ : Kind → Context} → ((k : Kind) → may k ↔ may′ k) → ((k : Kind) → asked-so k ≡ asked-so′ k)
+    → (rec : List ℕ) {n p : ℕ} → Fault may asked-so rec n p → Fault may′ asked-so′ rec n p
+fault-same mays asks-same rec (bad-byte bs b cs e printable bad) = bad-byte bs b cs e printable bad
+fault-same mays asks-same rec (wrong-type printable none) = wrong-type printable (λ k e may. none k e (mays k .1 may))
+fault-same mays asks-same rec (broken k held n p others printable type may e holds) =
+    broken k held n p others printable type (mays k .0 may) (sym (ap (λ (ctx : Context). checks k ctx rec) (asks-same k)) ∙ e) holds
 
 -- right records from the front of the flow f on
 abbrev pub FromStart : List ℕ → List Typed → Type 0
@@ -102,16 +112,10 @@ module _ (f : List ℕ) (rs : List Typed) (walked : FromStart f rs) where
       }
 
   pub fault-behind : (rec : List ℕ) (n p : ℕ) → FaultNext f rs rec n p → FaultBehind f (recordsIn rs) rec n p
-  fault-behind rec n p (bad-byte-at bs b cs e printable bad) = bad-byte bs b cs e printable bad
-  fault-behind rec n p (wrong-type-at printable none) = wrong-type printable (λ k e follow. none k e (follows-may k follow))
-  fault-behind rec n p (broken-at k held m q others printable type may e holds) =
-      broken k held m q others printable type (may-follow k may) (sym (ap (λ (ctx : Context). checks k ctx rec) (context-behind k)) ∙ e) holds
+  fault-behind rec n p fault = fault-same (λ k. (may-follow k, follows-may k)) context-behind rec fault
 
   pub fault-next : (rec : List ℕ) (n p : ℕ) → FaultBehind f (recordsIn rs) rec n p → FaultNext f rs rec n p
-  fault-next rec n p (bad-byte bs b cs e printable bad) = bad-byte-at bs b cs e printable bad
-  fault-next rec n p (wrong-type printable none) = wrong-type-at printable (λ k e may. none k e (may-follow k may))
-  fault-next rec n p (broken k held m q others printable type follow e holds) =
-      broken-at k held m q others printable type (follows-may k follow) (ap (λ (ctx : Context). checks k ctx rec) (context-behind k) ∙ e) holds
+  fault-next rec n p fault = fault-same (λ k. (follows-may k, may-follow k)) (λ k. sym (context-behind k)) rec fault
 
   -- no record is both right and faulty
   pub not-both : (k : Kind) (rec : List ℕ) (n p : ℕ) → RightNext f rs k rec → ¬ FaultNext f rs rec n p

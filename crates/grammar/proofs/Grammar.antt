@@ -2,7 +2,7 @@
 use Prim.Native.Nat.{ℕ, suc, _+_, _*_, _/_, _^_, _≤_, _<_}
 use mathlib.Core.Bool.{Bool, true, false, cond}
 use mathlib.Core.List.{List, [], _∷_, _++_, append-nil, map, map-append, flatten, nil≢cons, head-eq-of-cons-eq, tail-eq-of-cons-eq}
-use mathlib.Core.Logic.{_↔_, inl}
+use mathlib.Core.Logic.{_↔_, _⊎_, inl, inr}
 use mathlib.Core.Path.{_≡_, refl, sym, _∙_, ap, subst}
 use native.Mathlib.Omega.{arith}
 use lib.ListN.{length, take, length-append, length-map}
@@ -23,16 +23,16 @@ use Rattle.flow.specs.Find.{recordsOf}
 use Rattle.flow.specs.Judge.{isLength, ended, judge}
 use Rattle.flow.specs.Order.{permitted, isDue, place}
 use Rattle.flow.specs.Steps.{start, step, latest}
-use Rattle.flow.specs.Verdict.{accepted, refused}
+use Rattle.flow.specs.Verdict.{Verdict, accepted, refused}
 use Rattle.flow.specs.declared.order.Due.the-variants.{OnlyR14}
 use Rattle.flow.specs.declared.order.Place.{Place}
 use Rattle.flow.specs.declared.walk.Walk.{Walk}
 use Rattle.flow.proofs.Accepted.{accepted-not-refused}
 use Rattle.flow.proofs.Cut.{Whole, flatten-length, records-joined, joined-records}
 use Rattle.flow.proofs.Lengths.{length-said}
-use Rattle.grammar.specs.Fault.{RightLength, Hold}
+use Rattle.grammar.specs.Fault.{RightLength, Hold, FirstFault}
 use Rattle.grammar.specs.Grammar.{Typed, Parts, kindsOf, recordsIn, codeOf, bytesOf, dispositionCount, totalCents, recordCount, Numbered, Right, Grammar}
-use Rattle.grammar.specs.Laws.{GrammarExact}
+use Rattle.grammar.specs.Laws.{GrammarExact, RightOrFaulty}
 use Rattle.grammar.specs.Rules.{TrailerRules}
 use Rattle.grammar.specs.Shape.{Disposition, Dispositions, last, more, InOrder, in-order}
 use Rattle.grammar.proofs.AtPlace.{asks, RightAt}
@@ -40,7 +40,7 @@ use Rattle.grammar.proofs.Behind.{FromStart}
 use Rattle.grammar.proofs.Bytes.{typedOf, parts-joined}
 use Rattle.grammar.proofs.Codes.{Agreeing, all-equal-exact}
 use Rattle.grammar.proofs.Dispositions.{InShape, numbered-shape, dispositions-state, dispositions-exact}
-use Rattle.grammar.proofs.FirstFault.{judgeFrom, judged, whole-records, ends-so, stops-so, complete-order, order-complete}
+use Rattle.grammar.proofs.FirstFault.{judgeFrom, judged, whole-records, ends-so, stops-so, complete-order, order-complete, first-fault-exact}
 use Rattle.grammar.proofs.Order.{Allowed, allowed-before, allowed-behind, order-runs}
 use Rattle.grammar.proofs.Rules.{digits-exact, header-rules, trailer-rules}
 use Rattle.grammar.proofs.Walked.{stateBehind, codeBehind, Walked, walked-append, state-append, state-place, Outcome, all-right, stops, outcome}
@@ -278,3 +278,10 @@ module _ (f : List ℕ) (d c n : ℕ) (g : Grammar f d c n) where
 
 pub grammar-exact : GrammarExact
 grammar-exact f d c n = (grammar-of f d c n, answer-of f d c n)
+
+pub right-or-faulty : RightOrFaulty
+right-or-faulty f = (go (judge f) refl, λ both. accepted-not-refused (sym (first-fault-exact f (both .1 .0) (both .1 .1) (both .1 .2) .1 (both .1 .3)) ∙ grammar-exact f (both .0 .0) (both .0 .1) (both .0 .2) .1 (both .0 .3)))
+  where
+    go : (v : Verdict) → judge f ≡ v → ((d c n : ℕ) × Grammar f d c n) ⊎ ((n r p : ℕ) × FirstFault f n r p)
+    go (accepted d c n) e = inl (d, c, n, grammar-exact f d c n .0 e)
+    go (refused n r p) e = inr (n, r, p, first-fault-exact f n r p .0 e)

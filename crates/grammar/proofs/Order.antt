@@ -7,18 +7,15 @@ use mathlib.Core.Path.{_≡_, refl, sym, _∙_, ap, subst}
 use native.Mathlib.Omega.{arith}
 use lib.Dec.{ltb}
 use lib.ListN.{drop, replicate}
-use borrow.Author.Tests.{ltb-true}
+use borrow.Author.Tests.{ltb-true, ltb-false}
 use Rattle.records.specs.declared.kind.Kind.{Kind}
 use Rattle.records.specs.declared.kind.Kind.the-variants.{Im, R14, R16, R20, R30, R40, R50, R59, R51, R70, Ef}
 use Rattle.flow.specs.Order.{permitted, place, placeAfter}
 use Rattle.flow.specs.declared.order.Due.{Due}
 use Rattle.flow.specs.declared.order.Due.the-variants.{OnlyIm, OnlyR14, R16OrR20, OnlyR20, OnlyR30, OnlyR40, R50OrR59, R59OrR51, OnlyR51, OnlyR70, R14OrEf, Nothing}
 use Rattle.flow.specs.declared.order.Place.{Place}
+use Rattle.flow.proofs.Among.{In}
 use Rattle.grammar.specs.Shape.{Coordinates, without, with-16, Reasons, one-50, some-59, Disposition, disposition, Dispositions, last, more, InOrder, in-order}
-
-abbrev pub In : Kind → List Kind → Type 0
-In k [] = ⊥
-In k (l ∷ ls) = (k ≡ l) ⊎ In k ls
 
 -- the place behind records of the kinds, and that each of them was permitted at its place
 abbrev pub placeBehind : Place → List Kind → Place
@@ -148,18 +145,33 @@ coordinates-run : {cs : List Kind} → Coordinates cs → Allowed (place R16OrR2
 coordinates-run without = (tt, inr (inl refl))
 coordinates-run with-16 = ((inl refl, tt), inl refl)
 
+-- further 59s, where m stand before them
+furthers-run :
+    (n m : ℕ) → n + m ≤ 5 → let p : Place = record { due = R59OrR51; further = m } in
+    Allowed p (replicate n R59) × In R51 (permitted (placeBehind p (replicate n R59) .due))
+furthers-run zero m few = (tt, inr (inl refl))
+furthers-run (suc n) m few = go (ltb m 4) refl (furthers-run n (suc m) (omega arith))
+  where
+    last-one : (n : ℕ) → n ≡ 0 → Allowed (place OnlyR51) (replicate n R59) × In R51 (permitted (placeBehind (place OnlyR51) (replicate n R59) .due))
+    last-one zero e = (tt, inl refl)
+    last-one (suc n) e = absurd (omega arith)
+
+    go :
+        (b : Bool) → ltb m 4 ≡ b → let q : Place = record { due = R59OrR51; further = suc m } in Allowed q (replicate n R59) × In R51 (permitted (placeBehind q (replicate n R59) .due))
+        → let p : Place = cond b (record { due = R59OrR51; further = suc m }) (place OnlyR51) in
+        (In R59 (permitted R59OrR51) × Allowed p (replicate n R59)) × In R51 (permitted (placeBehind p (replicate n R59) .due))
+    go true e rest = ((inl refl, rest .0), rest .1)
+    go false e rest =
+        let none : n ≡ 0 = omega (arith, ltb-false m 4 e) in
+        let ends = last-one n none in
+        ((inl refl, ends .0), ends .1)
+
 reasons-run : {rs : List Kind} → Reasons rs → Allowed (place R50OrR59) rs × In R51 (permitted (placeBehind (place R50OrR59) rs .due))
 reasons-run one-50 = ((inl refl, tt), inl refl)
-reasons-run (some-59 n some few) = go n some few
-  where
-    go : (n : ℕ) → 1 ≤ n → n ≤ 5 → Allowed (place R50OrR59) (replicate n R59) × In R51 (permitted (placeBehind (place R50OrR59) (replicate n R59) .due))
-    go zero some few = absurd (omega arith)
-    go (suc zero) some few = ((inr (inl refl), tt), inr (inl refl))
-    go (suc (suc zero)) some few = ((inr (inl refl), (inl refl, tt)), inr (inl refl))
-    go (suc (suc (suc zero))) some few = ((inr (inl refl), (inl refl, (inl refl, tt))), inr (inl refl))
-    go (suc (suc (suc (suc zero)))) some few = ((inr (inl refl), (inl refl, (inl refl, (inl refl, tt)))), inr (inl refl))
-    go (suc (suc (suc (suc (suc zero))))) some few = ((inr (inl refl), (inl refl, (inl refl, (inl refl, (inl refl, tt))))), inl refl)
-    go (suc (suc (suc (suc (suc (suc n)))))) some few = absurd (omega arith)
+reasons-run (some-59 zero some few) = absurd (omega arith)
+reasons-run (some-59 (suc n) some few) =
+    let rest = furthers-run n 1 (omega arith) in
+    ((inr (inl refl), rest .0), rest .1)
 
 -- where a 14 may come, a disposition may, and behind it a 14 or the trailer
 abbrev Runs : Place → List Kind → Place → Type 0

@@ -1,11 +1,12 @@
 -- The dispositions found in a flow are those of the grammar; their parts are the bytes between header and trailer. Assumes nothing.
-use Prim.Native.Nat.{ℕ, suc, _-_, _*_, _<_}
+use Prim.Native.Nat.{ℕ, zero, suc, _+_, _-_, _*_, _≤_, _<_}
 use mathlib.Core.Bool.{false}
 use mathlib.Core.List.{List, [], _∷_, _++_, append-assoc, map, map-map, map-append, flatten, dropLast}
 use mathlib.Core.Path.{_≡_, refl, sym, _∙_, ap, subst}
+use native.Mathlib.Nat.{le-of-suc-le-suc, not-suc-le-zero}
 use native.Mathlib.Omega.{arith}
-use lib.ListN.{length, take, drop, getD, length-append, length-map}
-use lib.Seq.{split-at}
+use lib.ListN.{length, take, drop, getD, length-append, length-map, List·getD-map}
+use lib.Seq.{take-all, split-at}
 use borrow.Author.Tests.{le-leb}
 use Rattle.sequences.specs.All.{All}
 use Rattle.sequences.specs.Groups.{groups}
@@ -13,7 +14,7 @@ use Rattle.sequences.specs.Part.{part}
 use Rattle.sequences.specs.Sum.{sum, upTo}
 use Rattle.sequences.proofs.All.{all-before, all-behind, all-getD}
 use Rattle.sequences.proofs.DropLast.{dropLast-append}
-use Rattle.sequences.proofs.Flatten.{flatten-append, flatten-flatten, map-flatten}
+use Rattle.sequences.proofs.Flatten.{flatten-append, flatten-flatten, map-flatten, flatten-next}
 use Rattle.sequences.proofs.Groups.{Opens, groups-joined}
 use Rattle.sequences.proofs.Map.{by-number}
 use Rattle.fields.specs.Digits.{number}
@@ -23,14 +24,15 @@ use Rattle.records.specs.Kinds.{typeOf, hasType, opens}
 use Rattle.records.specs.declared.kind.Kind.{Kind}
 use Rattle.records.specs.declared.kind.Kind.the-variants.{Im, R14, Ef}
 use Rattle.records.proofs.ByKind.{opens-type}
-use Rattle.flow.specs.Find.{Located, standing, refused, recordsOf, dispositionsIn, standsAt, find, bytesAt, partOf}
-use Rattle.flow.specs.Judge.{judge}
+use Rattle.flow.specs.Find.{Located, standing, refused, recordsOf, dispositionsIn, startsAt, find, bytesAt, partOf}
+use Rattle.flow.specs.Judge.{recordAt, judge}
 use Rattle.flow.specs.Verdict.{accepted}
+use Rattle.flow.proofs.Accepted.{accepted-exact}
 use Rattle.flow.proofs.Cut.{Whole, flatten-length, part-joined}
-use Rattle.flow.proofs.Dispositions.{dispositions-counted, found-stands}
-use Rattle.grammar.specs.Grammar.{Typed, kindsOf, recordsIn, RightDisposition, Numbered, Grammar}
-use Rattle.grammar.specs.Laws.{DispositionsExact, centsAt, PartsExact, PartEmpty}
-use Rattle.grammar.specs.Rules.{Formed}
+use Rattle.flow.proofs.Dispositions.{dispositions-counted, disposition-stands, found-stands}
+use Rattle.grammar.specs.Grammar.{Typed, kindsOf, recordsIn, opening, RightDisposition, Numbered, Grammar}
+use Rattle.grammar.specs.Laws.{DispositionsExact, centsAt, firstAt, endAt, PartsExact, PlacesExact, OpeningExact, PartEmpty}
+use Rattle.grammar.specs.Rules.{Digits, Says, Formed, MemberRules}
 use Rattle.grammar.proofs.AtPlace.{type-tested}
 use Rattle.grammar.proofs.Dispositions.{Detail, detail-opens, Opened, opened-by, opened-so, Member}
 use Rattle.grammar.proofs.Grammar.{grammar-records, grammar-whole, grammar-bytes, grammar-exact}
@@ -87,9 +89,12 @@ module _ (f : List ℕ) (d c n : ℕ) (e : judge f ≡ accepted d c n) where
   g : Grammar f d c n
   g = grammar-exact f d c n .0 e
 
-  find-so : (k : ℕ) → k < d → find f (suc k) ≡ standsAt (dispositionsIn f) (suc k)
+  find-so : (k : ℕ) → k < d
+      → find f (suc k) ≡ standing (suc (suc (length (flatten (take k (dispositionsIn f)))))) (length (getD (dispositionsIn f) k [])) (number (field 34 46 (getD (getD (dispositionsIn f) k []) 0 [])))
   unfolding find
-  find-so k h = rw (e, le-leb 1 (suc k) (omega arith), le-leb (suc k) d h)
+  find-so k h =
+      let one : suc k - 1 ≡ k = omega arith in
+      rw (e, le-leb 1 (suc k) (omega arith), le-leb (suc k) d h, one)
 
   count-so : length (dispositionsIn f) ≡ d
   count-so = dispositions-counted f e
@@ -118,41 +123,68 @@ module _ (f : List ℕ) (d c n : ℕ) (e : judge f ≡ accepted d c n) where
       let front : Whole xs = all-before (λ (l : List ℕ). length l ≡ 120) xs (here ++ zs) whole in
       let within : Whole here = all-before (λ (l : List ℕ). length l ≡ 120) here zs (all-behind (λ (l : List ℕ). length l ≡ 120) xs (here ++ zs) whole) in
       let joined : f ≡ flatten (xs ++ (here ++ zs)) = sym bytes-so ∙ ap flatten all in
-      let one : suc k - 1 ≡ k = omega arith in
       let first : suc (suc (length (flatten (take k found)))) - 1 ≡ length xs = omega arith in
       let bytes = ap (λ (m : ℕ). part (120 * m) (120 * length here) f) first ∙ ap (part (120 * length xs) (120 * length here)) joined ∙ part-joined xs here zs front within in
-      (within, ap (λ (l : Located). bytesAt l f) (find-so k h) ∙ rw one bytes)
+      (within, ap (λ (l : Located). bytesAt l f) (find-so k h) ∙ bytes)
 
-  cents-so : (k : ℕ) → k < d → centsAt (find f (suc k)) ≡ number (field 34 46 (getD (getD (dispositionsIn f) k []) 0 []))
-  cents-so k h =
-      let one : suc k - 1 ≡ k = omega arith in
-      ap centsAt (find-so k h) ∙ rw one
+  -- the flow has the header, their records and the trailer
+  size-so : length f ≡ 120 * (2 + length (flatten (dispositionsIn f)))
+  size-so =
+      let all = (g .parts .header ∷ flatten (dispositionsIn f)) ++ (g .parts .trailer ∷ []) in
+      let count = length-append (flatten (dispositionsIn f)) (g .parts .trailer ∷ []) in
+      ap (λ (l : List ℕ). length l) (sym bytes-so) ∙ flatten-length all whole-so ∙ omega arith
 
   -- all of them, in order
   parts-so : flatten (map (partOf f) (upTo d)) ≡ part 120 (length f - 240) f
   unfolding flatten
   parts-so =
       let found = dispositionsIn f in
-      let xs = g .parts .header ∷ [] in
       let zs = g .parts .trailer ∷ [] in
       let within : Whole (flatten found) = all-before (λ (l : List ℕ). length l ≡ 120) (flatten found) zs (whole-so .1) in
-      let size : length f ≡ 120 * length ((g .parts .header ∷ flatten found) ++ zs) = ap (λ (l : List ℕ). length l) (sym bytes-so) ∙ flatten-length ((g .parts .header ∷ flatten found) ++ zs) whole-so in
-      let less : 120 * length (flatten found) ≡ length f - 240 = omega (arith, length-append (flatten found) zs) in
+      let less : 120 * length (flatten found) ≡ length f - 240 = omega (arith, size-so) in
       let numbered : map (partOf f) (upTo (length found)) ≡ map flatten found = by-number (partOf f) flatten found [] (λ k h. part-so k (omega (arith, count-so)) .1) in
       ap (λ (m : ℕ). flatten (map (partOf f) (upTo m))) (sym count-so) ∙ ap flatten numbered ∙ flatten-flatten found
-      ∙ sym (ap (part 120 (120 * length (flatten found))) (sym bytes-so) ∙ part-joined xs (flatten found) zs (whole-so .0, tt) within)
+      ∙ sym (ap (part 120 (120 * length (flatten found))) (sym bytes-so) ∙ part-joined (g .parts .header ∷ []) (flatten found) zs (whole-so .0, tt) within)
       ∙ ap (λ (m : ℕ). part 120 m f) less
 
   sum-so : sum (map (λ (k : ℕ). centsAt (find f k)) (upTo d)) ≡ c
   sum-so =
       let found = dispositionsIn f in
-      let numbered = by-number (λ (k : ℕ). centsAt (find f k)) (λ (x : List (List ℕ)). number (field 34 46 (getD x 0 []))) found [] (λ k h. cents-so k (omega (arith, count-so))) in
+      let numbered = by-number (λ (k : ℕ). centsAt (find f k)) (λ (x : List (List ℕ)). number (field 34 46 (getD x 0 []))) found [] (λ k h. ap centsAt (find-so k (omega (arith, count-so)))) in
       ap (λ (m : ℕ). sum (map (λ (k : ℕ). centsAt (find f k)) (upTo m))) (sym count-so) ∙ ap sum numbered
       ∙ ap (λ (l : List (List (List ℕ))). sum (map (λ (x : List (List ℕ)). number (field 34 46 (getD x 0 []))) l)) (dispositions-exact f d c n g)
       ∙ ap sum (map-map (λ (x : List (List ℕ)). number (field 34 46 (getD x 0 []))) recordsIn (g .parts .dispositions)) ∙ g .cents
 
+  -- where each starts and ends, in records
+  first-so : (k : ℕ) → k < d → firstAt (find f (suc k)) ≡ 2 + length (flatten (take k (dispositionsIn f)))
+  first-so k h = ap firstAt (find-so k h) ∙ omega arith
+
+  end-so : (k : ℕ) → k < d → endAt (find f (suc k)) ≡ 2 + length (flatten (take (suc k) (dispositionsIn f)))
+  end-so k h =
+      let found = dispositionsIn f in
+      let next = ap (λ (l : List (List ℕ)). length l) (flatten-next found k (omega (arith, count-so))) in
+      let join = length-append (flatten (take k found)) (getD found k []) in
+      ap endAt (find-so k h) ∙ omega arith
+
+  places-so : (firstAt (find f 1) ≡ 2) × ((k : ℕ) → 1 ≤ k → k < d → firstAt (find f (suc k)) ≡ endAt (find f k)) × (endAt (find f d) ≡ n)
+  unfolding flatten
+  places-so =
+      let some : 1 ≤ d = omega (arith, g .right .some, g .dispositions) in
+      let all : take d (dispositionsIn f) ≡ dispositionsIn f = take-all d (dispositionsIn f) (omega (arith, count-so)) in
+      let last-one : suc (d - 1) ≡ d = omega arith in
+      let ends = end-so (d - 1) (omega arith) in (
+        first-so 0 some,
+        λ k h l.
+            let one : suc (k - 1) ≡ k = omega arith in
+            first-so k l ∙ sym (rw one at (end-so (k - 1) (omega arith))),
+        (rw last-one at ends) ∙ ap (λ (l : List (List (List ℕ))). 2 + length (flatten l)) all ∙ omega (arith, size-so, accepted-exact f d c n e .2),
+      )
+
 pub parts-exact : PartsExact
 parts-exact f d c n e = (parts-so f d c n e, sum-so f d c n e)
+
+pub places-exact : PlacesExact
+places-exact f d c n e = places-so f d c n e
 
 -- a disposition of an accepted flow has bytes
 some-bytes : (f : List ℕ) (d c n : ℕ) → judge f ≡ accepted d c n → (k : ℕ) → k < d → ¬ (partOf f (suc k) ≡ [])
@@ -179,3 +211,42 @@ part-empty f k = (λ none. go none (find f k) refl, λ o. ap (λ (l : Located). 
         let within = s .within in
         let same : suc (k - 1) ≡ k = omega arith in
         absurd (some-bytes f (s .dispositions) (s .cents) (s .records) (s .read) (k - 1) (omega arith) (ap (partOf f) same ∙ none))
+
+-- the number and the amount of a disposition stand in the record that opens it
+numbered-at : (abi : List ℕ) (n : ℕ) (ds : List (List Typed)) (k : ℕ) → k < length ds → Numbered abi n ds → RightDisposition abi (n + k) (getD ds k [])
+numbered-at abi n [] k h each = absurd (not-suc-le-zero h)
+numbered-at abi n (d ∷ ds) zero h each = let same : n ≡ n + 0 = omega arith in subst (λ (m : ℕ). RightDisposition abi m d) same (each .0)
+numbered-at abi n (d ∷ ds) (suc k) h each =
+    let same : suc n + k ≡ n + suc k = omega arith in
+    subst (λ (m : ℕ). RightDisposition abi m (getD ds k [])) same (numbered-at abi (suc n) ds k (le-of-suc-le-suc h) (each .1))
+
+opening-says : (abi : List ℕ) (n : ℕ) (d : List Typed) → RightDisposition abi n d → (field 2 3 (opening d) ≡ typeOf R14) × Says n (field 4 10 (opening d)) × Digits (field 34 46 (opening d))
+opening-says abi n d r = go d (opened-so d (r .order)) (r .records)
+  where
+    go : (d : List Typed) → Opened d → All (Member abi n) d → (field 2 3 (opening d) ≡ typeOf R14) × Says n (field 4 10 (opening d)) × Digits (field 34 46 (opening d))
+    go d (opened-by x xs e details) members =
+        let rules = subst (λ (k : Kind). MemberRules k abi n (x .bytes)) e (members .0 .1) in
+        (members .0 .0 .type ∙ ap typeOf e, rules .number-said, rules .others .amount)
+
+same-location : {a b c x y z : ℕ} → standing a b c ≡ standing x y z → (a ≡ x) × (c ≡ z)
+same-location e = (cc, cc)
+
+pub opening-exact : OpeningExact
+opening-exact f k first records cents e =
+    let found = found-stands f k e in
+    let s = found .0 in
+    let some = s .some in
+    let within = s .within in
+    let g = grammar-exact f (s .dispositions) (s .cents) (s .records) .0 (s .read) in
+    let ds = g .parts .dispositions in
+    let abi = headerOf (g .parts .header) .abi in
+    let less : k - 1 < length ds = omega (arith, g .dispositions) in
+    let told = same-location (found .1) in
+    let start : startsAt (dispositionsIn f) k ≡ first - 1 = omega (arith, told .0) in
+    let own : getD (getD (dispositionsIn f) (k - 1) []) 0 [] ≡ opening (getD ds (k - 1) []) =
+    ap (λ (l : List (List (List ℕ))). getD (getD l (k - 1) []) 0 []) (dispositions-exact f (s .dispositions) (s .cents) (s .records) g) ∙ ap (λ (l : List (List ℕ)). getD l 0 []) (List·getD-map recordsIn ds (k - 1) []) in
+    let here : opening (getD ds (k - 1) []) ≡ recordAt (first - 1) f = sym own ∙ disposition-stands f k s .opening ∙ ap (λ (m : ℕ). recordAt m f) start in
+    let one : 1 + (k - 1) ≡ k = omega arith in
+    let says = opening-says abi (1 + (k - 1)) (getD ds (k - 1) []) (numbered-at abi 1 ds (k - 1) less (g .right .each)) in
+    let amount = ap (λ (r : List ℕ). number (field 34 46 r)) (sym here ∙ sym own) ∙ sym (told .1) in
+    (ap (field 2 3) (sym here) ∙ says .0, subst (λ (m : ℕ). Says m (field 4 10 (recordAt (first - 1) f))) one (subst (λ (r : List ℕ). Says (1 + (k - 1)) (field 4 10 r)) here (says .1)), (subst (λ (r : List ℕ). Digits (field 34 46 r)) here (says .2), amount))

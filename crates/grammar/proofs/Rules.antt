@@ -163,8 +163,8 @@ header-rules ctx rec =
     then either (blanks-exact (field 105 111 rec)) (digits-exact (field 107 111 rec))
     then equal-exact (field 114 114 rec) currency
     then none) (
-      λ (m, (r, (d, (t, (n, (x, (y, (z, (c, u))))))))). record { mittente = m; ricevente = r; created = (d, t); name = n; flow-type = unless x y z; currency-code = c },
-      λ h. (h .mittente, (h .ricevente, (h .created .0, (h .created .1, (h .name, (part (h .flow-type) (λ a. a .0), (part (h .flow-type) (λ a. a .1), (part (h .flow-type) (λ a. a .2), (h .currency-code, tt))))))))),
+      λ (m, (r, (d, (t, (n, (x, (y, (z, (c, u))))))))). record { mittente = m; ricevente = r; created = (d, t); name = n; qualifier = unless x y z; currency-code = c },
+      λ h. (h .mittente, (h .ricevente, (h .created .0, (h .created .1, (h .name, (part (h .qualifier) (λ a. a .0), (part (h .qualifier) (λ a. a .1), (part (h .qualifier) (λ a. a .2), (h .currency-code, tt))))))))),
     )
   where
     part : {B A X : Type 0} → B ⊎ A → (A → X) → B ⊎ X

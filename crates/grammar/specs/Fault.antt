@@ -57,20 +57,25 @@ pub record RightBehind (f : List ℕ) (before : List (List ℕ)) (rec : List ℕ
   pub permitted : MayFollow before kind
   pub keeps : Hold (checks kind (contextBehind f before kind) rec)
 
--- every one of the first records of the flow f is right at its place
+-- each of the records, from the front of the flow f, is right behind those before it
 abbrev pub EachRight : List ℕ → List (List ℕ) → Type 0
 EachRight f recs = (before : List (List ℕ)) (rec : List ℕ) (behind : List (List ℕ)) → recs ≡ before ++ (rec ∷ behind) → RightBehind f before rec
 
--- a fault of the record, by number and position: each excludes those before it
-pub data FaultBehind (f : List ℕ) (before : List (List ℕ)) (rec : List ℕ) : ℕ → ℕ → Type 0 where
+-- a fault of a record, by number and position, where the kinds that may stand there are given, and what their checks are asked with:
+-- each excludes those before it
+pub data Fault (may : Kind → Type 0) (asked : Kind → Context) (rec : List ℕ) : ℕ → ℕ → Type 0 where
   -- a byte outside 32 to 126, and none before it
-  bad-byte : (bs : List ℕ) (b : ℕ) (cs : List ℕ) → rec ≡ bs ++ (b ∷ cs) → All Printable bs → ¬ Printable b → FaultBehind f before rec 2 (suc (length bs))
-  -- a type that may not follow
-  wrong-type : All Printable rec → ((k : Kind) → field 2 3 rec ≡ typeOf k → ¬ MayFollow before k) → FaultBehind f before rec 3 2
+  bad-byte : (bs : List ℕ) (b : ℕ) (cs : List ℕ) → rec ≡ bs ++ (b ∷ cs) → All Printable bs → ¬ Printable b → Fault may asked rec 2 (suc (length bs))
+  -- a type that may not stand there
+  wrong-type : All Printable rec → ((k : Kind) → field 2 3 rec ≡ typeOf k → ¬ may k) → Fault may asked rec 3 2
   -- a check of the table that fails, and those before it hold
   broken :
-      (k : Kind) (held : List Check) (n p : ℕ) (others : List Check) → All Printable rec → field 2 3 rec ≡ typeOf k → MayFollow before k
-      → checks k (contextBehind f before k) rec ≡ held ++ (check false n p ∷ others) → Hold held → FaultBehind f before rec n p
+      (k : Kind) (held : List Check) (n p : ℕ) (others : List Check) → All Printable rec → field 2 3 rec ≡ typeOf k → may k
+      → checks k (asked k) rec ≡ held ++ (check false n p ∷ others) → Hold held → Fault may asked rec n p
+
+-- a fault behind the records `before` of the flow f
+abbrev pub FaultBehind : List ℕ → List (List ℕ) → List ℕ → ℕ → ℕ → Type 0
+FaultBehind f before rec n p = Fault (MayFollow before) (contextBehind f before) rec n p
 
 -- the first fault of a flow, by number, record and position
 pub data FirstFault (f : List ℕ) : ℕ → ℕ → ℕ → Type 0 where

@@ -51,7 +51,7 @@ pub record HeaderRules (rec : List ℕ) : Type 0 where
   pub ricevente : Digits (field 9 13 rec)
   pub created : Date (field 14 19 rec)
   pub name : Present (field 20 39 rec)
-  pub flow-type : Blank (field 105 111 rec) ⊎ ((field 105 105 rec ≡ text "1") × (field 106 106 rec ≡ text "$") × Digits (field 107 111 rec))
+  pub qualifier : Blank (field 105 111 rec) ⊎ ((field 105 105 rec ≡ text "1") × (field 106 106 rec ≡ text "$") × Digits (field 107 111 rec))
   pub currency-code : field 114 114 rec ≡ currency
 
 -- row 14 but for its number and its company code

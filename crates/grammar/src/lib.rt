@@ -1,2 +1,3 @@
-// What reading a flow means, said without the reader: the grammar of a request flow, what its first
-// fault is, and where its dispositions stand. Statements in specs/, proofs in proofs/; no code.
+// What reading a flow means, said without the reader: the order of records as a grammar (specs/Shape),
+// the rules of a record as statements (Rules), a whole flow (Grammar), its first fault (Fault), and what
+// is proved of the reader and of where dispositions stand (Laws). Proofs in proofs/; no code.
