@@ -1,5 +1,5 @@
 -- What an accepted flow is answered, and which flows are refused by 1. Assumes nothing.
-use Prim.Native.Nat.{ℕ, suc, _+_, _*_, _/_, _%_, _≤_}
+use Prim.Native.Nat.{ℕ, suc, _+_, _*_, _/_, _%_}
 use mathlib.Core.Bool.{Bool, true, false, cond, true≢false}
 use mathlib.Core.List.{List, [], _∷_}
 use mathlib.Core.Path.{_≡_, refl, sym, _∙_, ap}
@@ -18,7 +18,8 @@ use Rattle.records.specs.declared.kind.Kind.{Kind}
 use Rattle.records.specs.declared.kind.Kind.the-variants.{R14}
 use Rattle.records.proofs.ByKind.{right-asked, opens-type}
 use Rattle.records.proofs.Numbers.{one-for-length}
-use Rattle.flow.specs.Judge.{isLength, cut, after, ended, go, judge}
+use Rattle.flow.specs.Judge.{after, ended, go, judge}
+use Rattle.flow.specs.Records.{RightLength, isLength, recordsOf}
 use Rattle.flow.specs.Laws.{LengthRefused, Ceiling, AcceptedExact, AnswerDetermined}
 use Rattle.flow.specs.Order.{permitted, isDue, among}
 use Rattle.flow.specs.Steps.{start, opened, countsAt, step, latest, typed, judgeRecord}
@@ -35,6 +36,14 @@ use Rattle.flow.proofs.Lengths.{length-said}
 pub accepted-not-refused : {d c n e r p : ℕ} → refused e r p ≡ accepted d c n → ⊥
 accepted-not-refused e = let z : _≡_ {A = ℕ} 0 1 = cc in omega arith
 
+-- behind the last record of an accepted flow nothing is due, and the answer is the state's
+pub ended-so : (w : Walk) (i : ℕ) {d c n : ℕ} → ended w i ≡ accepted d c n → (isDue (permitted (w .place .due)) ≡ false) × (w .dispositions ≡ d) × (w .cents ≡ c) × (i ≡ n)
+ended-so w i {d} {c} {n} = go (isDue (permitted (w .place .due)))
+  where
+    go : (b : Bool) → cond b (refused 4 (suc i) 0) (accepted (w .dispositions) (w .cents) i) ≡ accepted d c n → (b ≡ false) × (w .dispositions ≡ d) × (w .cents ≡ c) × (i ≡ n)
+    go true e = absurd (accepted-not-refused e)
+    go false e = (refl, cc, cc, cc)
+
 -- what a right record adds to the counts, by its type alone
 adds :
     (header : Header) (w : Walk) (company : List ℕ) (n : ℕ) (rec : List ℕ) (k : Kind) (c : ℕ)
@@ -50,15 +59,9 @@ exact-from :
     (header : Header) (w : Walk) (company : List ℕ) (i : ℕ) (recs : List (List ℕ)) (d c n : ℕ) → go ended header w company i recs ≡ accepted d c n
     → (d ≡ w .dispositions + dispositionsOf recs) × (c ≡ w .cents + centsOf recs) × (n ≡ i + length recs)
 unfolding go dispositionsOf centsOf
-exact-from header w company i [] d c n = end (isDue (permitted (w .place .due)))
-  where
-    end : (b : Bool) → cond b (refused 4 (suc i) 0) (accepted (w .dispositions) (w .cents) i) ≡ accepted d c n → (d ≡ w .dispositions + 0) × (c ≡ w .cents + 0) × (n ≡ i + 0)
-    end true e = absurd (accepted-not-refused e)
-    end false e =
-        let count : w .dispositions ≡ d = cc in
-        let cents : w .cents ≡ c = cc in
-        let records : i ≡ n = cc in
-        (omega arith, omega arith, omega arith)
+exact-from header w company i [] d c n = λ e.
+    let told = ended-so w i e in
+    (omega arith, omega arith, omega arith)
 exact-from header w company i (rec ∷ recs) d c n = next (judgeRecord header w company (suc i) rec) refl (λ k a. exact-from header (step w k a) (latest k company rec) (suc i) recs d c n)
   where
     next :
@@ -76,12 +79,9 @@ pub accepted-exact : AcceptedExact
 unfolding judge
 accepted-exact f d c n = go-on (isLength (length f)) refl
   where
-    recs : List (List ℕ)
-    recs = cut (length f / 120) f
-
-    go-on : (b : Bool) → isLength (length f) ≡ b → cond b (go ended (headerOf (take 120 f)) start [] 0 recs) (refused 1 0 0) ≡ accepted d c n → (d ≡ dispositionsOf recs) × (c ≡ centsOf recs) × (n * 120 ≡ length f)
+    go-on : (b : Bool) → isLength (length f) ≡ b → cond b (go ended (headerOf (take 120 f)) start [] 0 (recordsOf f)) (refused 1 0 0) ≡ accepted d c n → (d ≡ dispositionsOf (recordsOf f)) × (c ≡ centsOf (recordsOf f)) × (n * 120 ≡ length f)
     go-on true h e =
-        let exact = exact-from (headerOf (take 120 f)) start [] 0 recs d c n e in
+        let exact = exact-from (headerOf (take 120 f)) start [] 0 (recordsOf f) d c n e in
         let said = length-said (length f) h in
         (omega arith, omega arith, omega (arith, cut-count (length f / 120) f))
     go-on false h e = absurd (accepted-not-refused e)
@@ -115,24 +115,21 @@ refused-later header w company i (rec ∷ recs) r p whole =
         let one : m ≡ 1 = cc in
         record-not-one header w company (suc i) rec q (whole .0) (found ∙ ap (λ (e : ℕ). Finding·refused e q) one)
 
-pub length-tested : (n : ℕ) → (1 ≤ n) × (n % 120 ≡ 0) × (n ≤ 1199999880) → isLength n ≡ true
+pub length-tested : (n : ℕ) → RightLength n → isLength n ≡ true
 length-tested n h = rw (le-leb 1 n (h .0), eq-eqb (n % 120) 0 (h .1), le-leb n 1199999880 (h .2))
 
 pub length-refused : LengthRefused
 unfolding judge
 length-refused f r p = (λ e. given (isLength (length f)) refl e, λ h. wrong (isLength (length f)) refl h)
   where
-    Right : Type 0
-    Right = (1 ≤ length f) × (length f % 120 ≡ 0) × (length f ≤ 1199999880)
-
     all : Verdict
-    all = go ended (headerOf (take 120 f)) start [] 0 (cut (length f / 120) f)
+    all = go ended (headerOf (take 120 f)) start [] 0 (recordsOf f)
 
-    given : (b : Bool) → isLength (length f) ≡ b → cond b all (refused 1 0 0) ≡ refused 1 r p → (r ≡ 0) × (p ≡ 0) × ¬ Right
-    given true t e = absurd (refused-later (headerOf (take 120 f)) start [] 0 (cut (length f / 120) f) r p (cut-whole (length f / 120) f (omega arith)) e)
+    given : (b : Bool) → isLength (length f) ≡ b → cond b all (refused 1 0 0) ≡ refused 1 r p → (r ≡ 0) × (p ≡ 0) × ¬ RightLength (length f)
+    given true t e = absurd (refused-later (headerOf (take 120 f)) start [] 0 (recordsOf f) r p (cut-whole (length f / 120) f (omega arith)) e)
     given false t e = (cc, cc, λ h. true≢false (sym (length-tested (length f) h) ∙ t))
 
-    wrong : (b : Bool) → isLength (length f) ≡ b → (r ≡ 0) × (p ≡ 0) × ¬ Right → cond b all (refused 1 0 0) ≡ refused 1 r p
+    wrong : (b : Bool) → isLength (length f) ≡ b → (r ≡ 0) × (p ≡ 0) × ¬ RightLength (length f) → cond b all (refused 1 0 0) ≡ refused 1 r p
     wrong true t h = absurd (h .2 (length-said (length f) t))
     wrong false t h = rw (h .0, h .1)
 

@@ -5,11 +5,9 @@ use mathlib.Core.List.{List, [], _∷_}
 use mathlib.Core.Logic.{_⊎_, inl, inr, ⊎-elim}
 use mathlib.Core.Path.{_≡_, refl, sym, _∙_, ap, subst}
 use native.Mathlib.Omega.{arith}
-use Rattle.fields.proofs.Bytes.{isEqual-true}
-use Rattle.records.specs.Field.{field}
-use Rattle.records.specs.Kinds.{typeOf, hasType}
+use Rattle.records.specs.Kinds.{hasType}
 use Rattle.records.specs.declared.kind.Kind.{Kind}
-use Rattle.records.proofs.ByKind.{types-differ}
+use Rattle.records.proofs.ByKind.{one-type}
 use Rattle.flow.specs.Order.{among}
 use Rattle.flow.specs.declared.order.Found.{Found}
 use Rattle.flow.specs.declared.order.Found.the-variants.{Of, Missing}
@@ -34,10 +32,6 @@ among-said (l ∷ ks) rec k e = go (among-said ks rec k) (hasType l rec) refl e
     go rest false t e =
         let found = rest e in
         (inr (found .0), found .1)
-
--- a record has one type
-pub one-type : (k l : Kind) (rec : List ℕ) → hasType k rec ≡ true → hasType l rec ≡ true → k ≡ l
-one-type k l rec t u = types-differ k l (sym (isEqual-true (field 2 3 rec) (typeOf k) t) ∙ isEqual-true (field 2 3 rec) (typeOf l) u)
 
 pub among-tested : (ks : List Kind) (rec : List ℕ) (k : Kind) → In k ks → hasType k rec ≡ true → among ks rec ≡ Of k
 unfolding among

@@ -9,8 +9,7 @@ use lib.Seq.{length-take-le, drop-drop, take-at, drop-at}
 use Rattle.sequences.specs.All.{All}
 use Rattle.sequences.specs.Part.{part}
 use Rattle.sequences.proofs.Flatten.{flatten-append}
-use Rattle.flow.specs.Find.{recordsOf}
-use Rattle.flow.specs.Judge.{cut, recordAt}
+use Rattle.flow.specs.Records.{cut, recordAt, recordsOf}
 
 -- n records are cut
 pub cut-count : (n : ℕ) (f : List ℕ) → length (cut n f) ≡ n

@@ -2,18 +2,18 @@
 -- record that opens one has its amount in digits. Assumes nothing.
 use Prim.Native.Nat.{ℕ, zero, suc, _+_, _-_, _*_, _/_, _%_, _≤_, _<_}
 use mathlib.Core.Bool.{Bool, true, false, cond, _&&_, and-eq-true-iff, true≢false}
-use mathlib.Core.List.{List, [], _∷_, _++_, dropLast, flatten}
-use mathlib.Core.Logic.{inl}
+use mathlib.Core.List.{List, [], _∷_, dropLast}
+use mathlib.Core.Logic.{_⊎_, inl, inr}
 use mathlib.Core.Path.{_≡_, refl, sym, _∙_, ap, subst}
 use native.Mathlib.Nat.{le-of-suc-le-suc, not-suc-le-zero}
 use native.Mathlib.Numerals.{add-one}
 use native.Mathlib.Omega.{arith}
 use lib.Dec.{leb, eqb}
 use lib.ListN.{length, take, drop, getD}
-use borrow.Author.Tests.{leb-true}
+use borrow.Author.Tests.{leb-true, le-leb}
 use Rattle.sequences.specs.Groups.{lead, groups}
 use Rattle.sequences.proofs.DropLast.{dropLast-length, dropLast-getD}
-use Rattle.sequences.proofs.Groups.{lead-next, lead-end, lead-groups, startOf, Group, group-at, start-next, start-within}
+use Rattle.sequences.proofs.Groups.{lead-next, lead-end, startOf, Group, group-at, start-next, start-within}
 use Rattle.fields.specs.Digits.{isDigits}
 use Rattle.records.specs.Checks.{checks}
 use Rattle.records.specs.Context.{Header, Context, context, headerOf}
@@ -25,18 +25,21 @@ use Rattle.records.specs.Judge.{judge as Record·judge}
 use Rattle.records.specs.Kinds.{hasType}
 use Rattle.records.specs.declared.kind.Kind.{Kind}
 use Rattle.records.specs.declared.kind.Kind.the-variants.{Im, R14, Ef}
-use Rattle.records.proofs.ByKind.{opens-type}
+use Rattle.records.proofs.ByKind.{one-type, opens-type}
 use Rattle.records.proofs.FirstFault.{right-not-refused, kept, behind}
-use Rattle.flow.specs.Find.{standing, recordsOf, dispositionsIn, startsAt, standsAt, behindReading, find, Stands, openingFrom}
+use Rattle.flow.specs.Find.{Located, standing, dispositionsIn, startsAt, standsAt, behindReading, find, Stands, openingFrom}
 use Rattle.flow.specs.Find.{refused as Located·refused}
-use Rattle.flow.specs.Judge.{isLength, recordAt, after, ended, go, judge}
+use Rattle.flow.specs.Judge.{after, ended, go, judge}
+use Rattle.flow.specs.Records.{isLength, recordAt, recordsOf}
+use Rattle.flow.specs.Laws.{LocationDetermined, FindRefused}
 use Rattle.flow.specs.Order.{permitted, isDue}
 use Rattle.flow.specs.Steps.{start, countsAt, step, latest, judgeRecord}
 use Rattle.flow.specs.Sums.{dispositionsOf}
 use Rattle.flow.specs.Verdict.{Verdict, accepted, refused}
+use Rattle.flow.specs.declared.location.Location.the-variants.{At, Refused}
 use Rattle.flow.specs.declared.walk.Walk.{Walk}
-use Rattle.flow.proofs.Accepted.{accepted-not-refused, accepted-exact}
-use Rattle.flow.proofs.Among.{In, one-type}
+use Rattle.flow.proofs.Accepted.{accepted-not-refused, ended-so, accepted-exact}
+use Rattle.flow.proofs.Among.{In}
 use Rattle.flow.proofs.Cut.{cut-count, cut-at}
 use Rattle.flow.proofs.Exact.{last-kind, right-typed}
 use Rattle.flow.proofs.Lengths.{length-said}
@@ -62,11 +65,7 @@ module _ (header : Header) (w : Walk) (company : List ℕ) (i : ℕ) {d c n : �
   -- behind the last record nothing is due
   pub none-due : go ended header w company i [] ≡ accepted d c n → isDue (permitted (w .place .due)) ≡ false
   unfolding go
-  none-due = by (isDue (permitted (w .place .due)))
-    where
-      by : (b : Bool) → cond b (refused 4 (suc i) 0) (accepted (w .dispositions) (w .cents) i) ≡ accepted d c n → b ≡ false
-      by true e = absurd (accepted-not-refused e)
-      by false e = refl
+  none-due e = ended-so w i e .0
 
 -- so the last record of an accepted flow is the trailer, which opens no disposition
 without-trailer :
@@ -196,10 +195,6 @@ module _ (f : List ℕ) {d c n : ℕ} (e : judge f ≡ accepted d c n) where
       let some = accepted-length .0 in
       header-leads-all (headerOf (take 120 f)) (recordsOf f) (accepted-records f e .1) ∙ ap (λ (r : List ℕ). r ∷ []) (cut-at (length f / 120) 0 f (omega arith))
 
-  -- and all of them between it and the trailer
-  pub dispositions-between : untilTrailer f ≡ recordAt 0 f ∷ flatten (dispositionsIn f)
-  dispositions-between = sym (lead-groups (hasType R14) (untilTrailer f)) ∙ ap (λ (l : List (List ℕ)). l ++ flatten (dispositionsIn f)) header-leads
-
   -- as many dispositions stand in it as it is answered
   pub dispositions-counted : length (dispositionsIn f) ≡ d
   dispositions-counted = groups-counted (untilTrailer f) ∙ all (recordsOf f) (accepted-records f e .1) ∙ sym (accepted-exact f d c n e .0)
@@ -261,33 +256,85 @@ stands f k {d} e t =
     let both = and-eq-true-iff (leb 1 k) (leb k d) .0 t in
     record { dispositions = _; cents = _; records = _; read = e; some = leb-true 1 k (both .0); within = leb-true k d (both .1) }
 
+-- where it stands, disposition k + 1 of an accepted flow
+pub find-so : (f : List ℕ) (k : ℕ) {d c n : ℕ} → judge f ≡ accepted d c n → k < d → find f (suc k) ≡ standsAt (dispositionsIn f) (suc k)
+unfolding find
+find-so f k {d} e h = rw (e, le-leb 1 (suc k) (omega arith), le-leb (suc k) d h)
+
+-- a question is refused, or disposition k stands in the flow
+data Asked (f : List ℕ) (k : ℕ) : Located → Type 0 where
+  not-read : {n r p : ℕ} → judge f ≡ refused n r p → Asked f k (Located·refused n r p)
+  not-there : {d c n : ℕ} → judge f ≡ accepted d c n → ¬ ((1 ≤ k) × (k ≤ d)) → Asked f k (Located·refused 15 0 0)
+  there : Stands f k → Asked f k (standsAt (dispositionsIn f) k)
+
+asked-so : (f : List ℕ) (k : ℕ) → Asked f k (find f k)
+unfolding find
+asked-so f k = by (judge f) refl
+  where
+    test : {d c n : ℕ} → judge f ≡ accepted d c n → (b : Bool) → (leb 1 k && leb k d) ≡ b → Asked f k (cond b (standsAt (dispositionsIn f) k) (Located·refused 15 0 0))
+    test e true t = there (stands f k e t)
+    test {d} e false t = not-there e (λ h. true≢false (sym (and-eq-true-iff (leb 1 k) (leb k d) .1 (le-leb 1 k (h .0), le-leb k d (h .1))) ∙ t))
+
+    by : (v : Verdict) → judge f ≡ v → Asked f k (behindReading v (λ d. cond (leb 1 k && leb k d) (standsAt (dispositionsIn f) k) (Located·refused 15 0 0)))
+    by (accepted d c n) e = test e (leb 1 k && leb k d) refl
+    by (refused n r p) e = not-read e
+
+accepted-count : {d c n d′ c′ n′ : ℕ} → accepted d c n ≡ accepted d′ c′ n′ → d ≡ d′
+accepted-count e = cc
+
+-- what is told of a place, and what a refusal tells
+standing-not-refused : {a r c n q p : ℕ} → Located·refused n q p ≡ standing a r c → ⊥
+standing-not-refused e = let z : _≡_ {A = ℕ} 0 1 = cc in omega arith
+
+pub standing-same : {a r c x y z : ℕ} → standing a r c ≡ standing x y z → (a ≡ x) × (r ≡ y) × (c ≡ z)
+standing-same e = (cc, cc, cc)
+
+refused-same : {n r p n′ r′ p′ : ℕ} → Located·refused n r p ≡ Located·refused n′ r′ p′ → (n ≡ n′) × (r ≡ r′) × (p ≡ p′)
+refused-same e = (cc, cc, cc)
+
+pub find-refused : FindRefused
+find-refused f k n r p = (λ e. said (find f k) e (asked-so f k), λ h. tested h (find f k) refl (asked-so f k))
+  where
+    NoSuch : Type 0
+    NoSuch = (d c m : ℕ) × (judge f ≡ accepted d c m) × ¬ ((1 ≤ k) × (k ≤ d)) × (n ≡ 15) × (r ≡ 0) × (p ≡ 0)
+
+    said : (l : Located) → l ≡ Located·refused n r p → Asked f k l → (judge f ≡ refused n r p) ⊎ NoSuch
+    said l e (not-read x) = let same = refused-same e in inl (x ∙ cc)
+    said l e (not-there {d = d} {c = c} {n = m} x none) =
+        let same = refused-same e in
+        inr (d, c, m, x, none, sym (same .0), sym (same .1), sym (same .2))
+    said l e (there s) = absurd (standing-not-refused (sym e))
+
+    tested : (judge f ≡ refused n r p) ⊎ NoSuch → (l : Located) → find f k ≡ l → Asked f k l → l ≡ Located·refused n r p
+    tested (inl x) l e (not-read y) = cc
+    tested (inl x) l e (not-there y none) = absurd (accepted-not-refused (sym x ∙ y))
+    tested (inl x) l e (there s) = absurd (accepted-not-refused (sym x ∙ s .read))
+    tested (inr h) l e (not-read y) = absurd (accepted-not-refused (sym y ∙ h .3))
+    tested (inr h) l e (not-there y none) = cc
+    tested (inr h) l e (there s) =
+        let same : s .dispositions ≡ h .0 = accepted-count (sym (s .read) ∙ h .3) in
+        let within = s .within in
+        absurd (h .4 (s .some, omega arith))
+
+pub location-determined : LocationDetermined
+location-determined (At a r c) (At a′ r′ c′) e = cc
+location-determined (At a r c) (Refused m q p) e = absurd (standing-not-refused (sym e))
+location-determined (Refused m q p) (At a r c) e = absurd (standing-not-refused e)
+location-determined (Refused m q p) (Refused m′ q′ p′) e = cc
+
 -- what was found stands where it was found
 pub found-stands : (f : List ℕ) (k : ℕ) {a r c : ℕ} → find f k ≡ standing a r c → Stands f k × (standing a r c ≡ standsAt (dispositionsIn f) k)
-unfolding find
-found-stands f k {a} {r} {c} = by (judge f) refl
+found-stands f k {a} {r} {c} e = go (find f k) e (asked-so f k)
   where
-    standing-not-refused : {e m p : ℕ} → Located·refused e m p ≡ standing a r c → ⊥
-    standing-not-refused x = let z : _≡_ {A = ℕ} 0 1 = cc in omega arith
-
-    test : {d c′ n : ℕ} → judge f ≡ accepted d c′ n → (b : Bool) → (leb 1 k && leb k d) ≡ b → cond b (standsAt (dispositionsIn f) k) (Located·refused 15 0 0) ≡ standing a r c → Stands f k × (standing a r c ≡ standsAt (dispositionsIn f) k)
-    test e true t x = (stands f k e t, sym x)
-    test e false t x = absurd (standing-not-refused x)
-
-    by : (v : Verdict) → judge f ≡ v → behindReading v (λ d. cond (leb 1 k && leb k d) (standsAt (dispositionsIn f) k) (Located·refused 15 0 0)) ≡ standing a r c → Stands f k × (standing a r c ≡ standsAt (dispositionsIn f) k)
-    by (accepted d c′ n) e x = test e (leb 1 k && leb k d) refl x
-    by (refused m q p) e x = absurd (standing-not-refused x)
+    go : (l : Located) → l ≡ standing a r c → Asked f k l → Stands f k × (standing a r c ≡ standsAt (dispositionsIn f) k)
+    go l e (not-read x) = absurd (standing-not-refused e)
+    go l e (not-there x none) = absurd (standing-not-refused e)
+    go l e (there s) = (s, sym e)
 
 -- and within the flow, before the trailer
 pub found-within : (f : List ℕ) (k : ℕ) {a r c : ℕ} → find f k ≡ standing a r c → (1 ≤ a) × (120 * (a - 1 + r) + 120 ≤ length f)
-found-within f k {a} {r} {c} e =
+found-within f k e =
     let found = found-stands f k e in
-    let at : a ≡ suc (startsAt (dispositionsIn f) k) = first (found .1) in
-    let size : r ≡ length (getD (dispositionsIn f) (k - 1) []) = records (found .1) in
+    let same = standing-same (found .1) in
     let within = disposition-stands f k (found .0) .within in
     (omega arith, omega arith)
-  where
-    first : {x y z : ℕ} → standing a r c ≡ standing x y z → a ≡ x
-    first e = cc
-
-    records : {x y z : ℕ} → standing a r c ≡ standing x y z → r ≡ y
-    records e = cc

@@ -21,7 +21,8 @@ use Rattle.records.proofs.FirstFault.{right-not-refused}
 use Rattle.records.proofs.Stopping.{limits-unseen, trailer-exact}
 use Rattle.flow.specs.Order.{permitted, isDue, place, placeAfter, among}
 use Rattle.flow.specs.Steps.{opened, counted, step, countsAt, typed, judgeRecord, stopped}
-use Rattle.flow.specs.declared.order.Due.the-variants.{R59OrR51, OnlyR51}
+use Rattle.flow.specs.declared.order.Due.{Due}
+use Rattle.flow.specs.declared.order.Due.the-variants.{OnlyIm, OnlyR14, R16OrR20, OnlyR20, OnlyR30, OnlyR40, R50OrR59, R59OrR51, OnlyR51, OnlyR70, R14OrEf, Nothing}
 use Rattle.flow.specs.declared.order.Found.{Found}
 use Rattle.flow.specs.declared.order.Found.the-variants.{Of, Missing}
 use Rattle.flow.specs.declared.walk.Walk.{Walk}
@@ -59,6 +60,21 @@ stopped-step w k c =
     let count = on-from-limit (w .dispositions) (opened k) countLimit in
     let cents = on-from-limit (w .cents) c centsLimit in
     λ i. record { place = placeAfter (w .place .further) k; dispositions = count i; cents = cents i }
+
+-- nothing is due at one place alone
+pub due-nothing : (d : Due) → isDue (permitted d) ≡ false → d ≡ Nothing
+due-nothing OnlyIm e = absurd (true≢false e)
+due-nothing OnlyR14 e = absurd (true≢false e)
+due-nothing R16OrR20 e = absurd (true≢false e)
+due-nothing OnlyR20 e = absurd (true≢false e)
+due-nothing OnlyR30 e = absurd (true≢false e)
+due-nothing OnlyR40 e = absurd (true≢false e)
+due-nothing R50OrR59 e = absurd (true≢false e)
+due-nothing R59OrR51 e = absurd (true≢false e)
+due-nothing OnlyR51 e = absurd (true≢false e)
+due-nothing OnlyR70 e = absurd (true≢false e)
+due-nothing R14OrEf e = absurd (true≢false e)
+due-nothing Nothing e = refl
 
 -- only behind a trailer nothing is due
 pub last-kind : (n : ℕ) (k : Kind) → isDue (permitted (placeAfter n k .due)) ≡ false → k ≡ Ef

@@ -12,7 +12,8 @@ use Rattle.records.specs.Finding.{firstFault}
 use Rattle.records.specs.Judge.{judge as Record·judge}
 use Rattle.flow.specs.Examples.{Examples}
 use Rattle.flow.specs.Find.{find}
-use Rattle.flow.specs.Judge.{cut, go, judge}
+use Rattle.flow.specs.Judge.{go, judge}
+use Rattle.flow.specs.Records.{cut}
 use Rattle.flow.specs.Order.{among}
 use Rattle.flow.specs.Steps.{typed, judgeRecord}
 

@@ -1,13 +1,13 @@
 -- The lengths of a flow. Assumes nothing.
-use Prim.Native.Nat.{ℕ, _%_, _≤_}
+use Prim.Native.Nat.{ℕ, _%_}
 use mathlib.Core.Bool.{true, _&&_, and-eq-true-iff}
 use mathlib.Core.Path.{_≡_}
 use lib.Dec.{leb, eqb}
 use borrow.Author.Tests.{leb-true, eqb-true}
-use Rattle.flow.specs.Judge.{isLength}
+use Rattle.flow.specs.Records.{RightLength, isLength}
 
 -- what the test of a length says
-pub length-said : (n : ℕ) → isLength n ≡ true → (1 ≤ n) × (n % 120 ≡ 0) × (n ≤ 1199999880)
+pub length-said : (n : ℕ) → isLength n ≡ true → RightLength n
 length-said n e =
     let both = and-eq-true-iff (leb 1 n && eqb (n % 120) 0) (leb n 1199999880) .0 e in
     let first = and-eq-true-iff (leb 1 n) (eqb (n % 120) 0) .0 (both .0) in

@@ -9,7 +9,8 @@ use Rattle.records.specs.Context.{Header}
 use Rattle.records.specs.Finding.{right}
 use Rattle.records.specs.Finding.{refused as Finding·refused}
 use Rattle.records.specs.declared.kind.Kind.{Kind}
-use Rattle.flow.specs.Judge.{cut, recordAt, ended, go}
+use Rattle.flow.specs.Judge.{ended, go}
+use Rattle.flow.specs.Records.{cut, recordAt}
 use Rattle.flow.specs.Order.{permitted, isDue}
 use Rattle.flow.specs.Steps.{start, step, latest, judgeRecord, stopped}
 use Rattle.flow.specs.Verdict.{refused}

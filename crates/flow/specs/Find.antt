@@ -1,6 +1,6 @@
 -- Where disposition k is (document 01, "Questions and changes": its first record, its number of records, its amount, and its part of the
 -- flow; the reader's refusals, then 15). Assumes nothing.
-use Prim.Native.Nat.{ℕ, suc, _+_, _-_, _*_, _/_, _≤_}
+use Prim.Native.Nat.{ℕ, suc, _+_, _-_, _*_, _≤_}
 use mathlib.Core.Bool.{cond, _&&_}
 use mathlib.Core.List.{List, [], dropLast, flatten}
 use mathlib.Core.Path.{_≡_}
@@ -12,7 +12,8 @@ use Rattle.fields.specs.Digits.{number}
 use Rattle.records.specs.Field.{field}
 use Rattle.records.specs.Kinds.{hasType}
 use Rattle.records.specs.declared.kind.Kind.the-variants.{R14}
-use Rattle.flow.specs.Judge.{cut, judge}
+use Rattle.flow.specs.Judge.{judge}
+use Rattle.flow.specs.Records.{recordsOf}
 use Rattle.flow.specs.Verdict.{Verdict, accepted}
 use Rattle.flow.specs.Verdict.{refused as Verdict·refused}
 use Rattle.flow.specs.declared.location.Location.{Location}
@@ -27,9 +28,6 @@ pub data Located : Type 0 where
 abbrev pub located : Location → Located
 located (At first records cents) = standing first records cents
 located (Refused n r p) = refused n r p
-
-abbrev pub recordsOf : List ℕ → List (List ℕ)
-recordsOf f = cut (length f / 120) f
 
 -- the dispositions of an accepted flow: each 14 with the records behind it, up to the next 14 or the trailer
 abbrev pub dispositionsIn : List ℕ → List (List (List ℕ))
@@ -71,6 +69,7 @@ pub record Stands (f : List ℕ) (k : ℕ) : Type 0 where
   pub some : 1 ≤ k
   pub within : k ≤ dispositions
 
--- the index of the first 14 at index i of f's records or behind it, or of the trailer where there is none; an i behind the trailer itself
+-- the index of the first 14 at index i of f's records or behind it, or of the trailer where there is none; and i itself where it is
+-- behind the trailer
 abbrev pub openingFrom : List ℕ → ℕ → ℕ
 openingFrom f i = i + length (lead (hasType R14) (drop i (dropLast (recordsOf f))))

@@ -1,31 +1,18 @@
 -- What a flow is answered: number 1 by its length; then record by record, the first fault of the lowest record; then 4 where a record
 -- is still due (document 01, "Numbers a clerk may see"). Assumes nothing.
-use Prim.Native.Nat.{ℕ, zero, suc, _*_, _/_, _%_}
-use mathlib.Core.Bool.{Bool, cond, _&&_}
+use Prim.Native.Nat.{ℕ, suc}
+use mathlib.Core.Bool.{cond}
 use mathlib.Core.List.{List, [], _∷_}
-use lib.Dec.{leb, eqb}
-use lib.ListN.{length, take, drop}
+use lib.ListN.{length, take}
 use Rattle.records.specs.Context.{Header, headerOf}
 use Rattle.records.specs.Finding.{Finding, right}
 use Rattle.records.specs.Finding.{refused as Finding·refused}
 use Rattle.records.specs.declared.kind.Kind.{Kind}
 use Rattle.flow.specs.Order.{permitted, isDue}
+use Rattle.flow.specs.Records.{isLength, recordsOf}
 use Rattle.flow.specs.Steps.{start, step, latest, judgeRecord}
 use Rattle.flow.specs.Verdict.{Verdict, accepted, refused}
 use Rattle.flow.specs.declared.walk.Walk.{Walk}
-
--- one or more whole records, 9,999,999 at the most
-abbrev pub isLength : ℕ → Bool
-isLength n = leb 1 n && eqb (n % 120) 0 && leb n 1199999880
-
--- n records of 120 bytes
-unfoldable pub cut : ℕ → List ℕ → List (List ℕ)
-cut zero f = []
-cut (suc n) f = take 120 f ∷ cut n (drop 120 f)
-
--- the record at index i, counted from 0
-abbrev pub recordAt : ℕ → List ℕ → List ℕ
-recordAt i f = take 120 (drop (120 * i) f)
 
 -- a fault of the n-th record is the answer; behind a right record the rest decides
 abbrev pub after : ℕ → Finding → (Kind → ℕ → Verdict) → Verdict
@@ -43,4 +30,4 @@ go end header w company n (rec ∷ recs) =
     after (suc n) (judgeRecord header w company (suc n) rec) (λ k c. go end header (step w k c) (latest k company rec) (suc n) recs)
 
 unfoldable pub judge : List ℕ → Verdict
-judge f = cond (isLength (length f)) (go ended (headerOf (take 120 f)) start [] 0 (cut (length f / 120) f)) (refused 1 0 0)
+judge f = cond (isLength (length f)) (go ended (headerOf (take 120 f)) start [] 0 (recordsOf f)) (refused 1 0 0)

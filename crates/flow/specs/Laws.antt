@@ -1,20 +1,24 @@
 -- What is proved of reading a flow. `proofs/` has its proof under the law's name in small letters. Assumes nothing.
-use Prim.Native.Nat.{ℕ, _*_, _/_, _%_, _≤_, _<_}
+use Prim.Native.Nat.{ℕ, _*_, _≤_, _<_}
 use mathlib.Core.List.{List}
-use mathlib.Core.Logic.{_↔_}
+use mathlib.Core.Logic.{_↔_, _⊎_}
 use mathlib.Core.Path.{_≡_}
 use lib.ListN.{length}
-use Rattle.flow.specs.Judge.{cut, judge}
+use Rattle.flow.specs.Find.{located, find}
+use Rattle.flow.specs.Find.{refused as Located·refused}
+use Rattle.flow.specs.Judge.{judge}
+use Rattle.flow.specs.Records.{RightLength, recordsOf}
 use Rattle.flow.specs.Sums.{dispositionsOf, centsOf}
 use Rattle.flow.specs.Verdict.{accepted, refused, verdict}
 use Rattle.flow.specs.declared.answer.Answer.{Answer}
+use Rattle.flow.specs.declared.location.Location.{Location}
 
 -- number 1 is given exactly where the flow is not one or more whole records, or has more than 9,999,999 of them, and with record 0 and
 -- position 0
 abbrev pub LengthRefused : Type 0
 LengthRefused =
     (f : List ℕ) (r p : ℕ)
-    → (judge f ≡ refused 1 r p) ↔ ((r ≡ 0) × (p ≡ 0) × ¬ ((1 ≤ length f) × (length f % 120 ≡ 0) × (length f ≤ 1199999880)))
+    → (judge f ≡ refused 1 r p) ↔ ((r ≡ 0) × (p ≡ 0) × ¬ RightLength (length f))
 
 -- so above the ceiling the answer is 1
 abbrev pub Ceiling : Type 0
@@ -23,9 +27,18 @@ Ceiling = (f : List ℕ) → 1199999880 < length f → judge f ≡ refused 1 0 0
 -- an accepted flow is answered its exact counts, summed over its records
 abbrev pub AcceptedExact : Type 0
 AcceptedExact =
-    (f : List ℕ) (d c n : ℕ) → judge f ≡ accepted d c n → let recs = cut (length f / 120) f in
-    (d ≡ dispositionsOf recs) × (c ≡ centsOf recs) × (n * 120 ≡ length f)
+    (f : List ℕ) (d c n : ℕ) → judge f ≡ accepted d c n
+    → (d ≡ dispositionsOf (recordsOf f)) × (c ≡ centsOf (recordsOf f)) × (n * 120 ≡ length f)
 
 -- what an answer stands for on paper determines it
 abbrev pub AnswerDetermined : Type 0
 AnswerDetermined = (r s : Answer) → verdict r ≡ verdict s → r ≡ s
+
+abbrev pub LocationDetermined : Type 0
+LocationDetermined = (r s : Location) → located r ≡ located s → r ≡ s
+
+-- a question about disposition k is refused exactly where the flow is, by the same, or by 15 where no disposition has that number
+abbrev pub FindRefused : Type 0
+FindRefused =
+    (f : List ℕ) (k n r p : ℕ)
+    → (find f k ≡ Located·refused n r p) ↔ ((judge f ≡ refused n r p) ⊎ ((d c m : ℕ) × (judge f ≡ accepted d c m) × ¬ ((1 ≤ k) × (k ≤ d)) × (n ≡ 15) × (r ≡ 0) × (p ≡ 0)))

@@ -3,6 +3,7 @@ pub mod Find
 pub mod Judge
 pub mod Laws
 pub mod Order
+pub mod Records
 pub mod Steps
 pub mod Sums
 pub mod Verdict

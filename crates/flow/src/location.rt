@@ -66,8 +66,7 @@ pub fn find(flow: &[u8], k: u64) -> Location
     }
 }
 
-// The part of the flow that disposition k is, in the flow's own memory; an empty part where `find`
-// refuses.
+// The part of the caller's flow that disposition k is; an empty part where `find` refuses.
 pub fn disposition(flow: &[u8], k: u64) -> &[u8]
     ensures { λ r. ⌜ now r ≡ partOf (now (flow .entry)) k ⌝ }
 {
@@ -106,7 +105,7 @@ fn locate(flow: &[u8], k: u64) -> Location
     ensures { λ r. ⌜ located r ≡ standsAt (dispositionsIn (now (flow .entry))) k ⌝ }
 {
     let at = start_of(flow, k);
-    let end = opening(flow, at + 1);
+    let end = next_opening(flow, at + 1);
     let cents = amount(&flow[120 * at..120 * at + 120]);
     Location::At {
         first: count(at + 1),
@@ -124,7 +123,7 @@ fn start_of(flow: &[u8], k: u64) -> usize
     let mut at = 1;
     let mut j: u64 = 1;
     while j < k {
-        at = opening(flow, at + 1);
+        at = next_opening(flow, at + 1);
         j += 1;
     }
     at
@@ -132,7 +131,7 @@ fn start_of(flow: &[u8], k: u64) -> usize
 
 // The index of the first record 14 at an index or behind it, or that of the trailer where there is
 // none. An index behind the trailer comes back as it is.
-fn opening(flow: &[u8], from: usize) -> usize
+fn next_opening(flow: &[u8], from: usize) -> usize
     requires { ⌜ 120 ≤ length (now flow) ⌝ }
     ensures { λ r. ⌜ r ≡ openingFrom (now (flow .entry)) from ⌝ }
 {
@@ -159,6 +158,7 @@ fn amount(rec: &[u8]) -> u64
     }
 }
 
+// The same number, to count bytes and records of a slice with.
 fn index(n: u64) -> usize
     ensures { λ r. ⌜ r ≡ n ⌝ }
 {

@@ -1,11 +1,12 @@
 // Reading a flow.
-ghost use Prim.Native.Nat.{_+_, _*_, _/_, _≤_};
+ghost use Prim.Native.Nat.{_≤_};
 ghost use mathlib.Core.Bool.{true};
 ghost use mathlib.Core.List.{[]};
 ghost use mathlib.Core.Path.{_≡_};
 ghost use lib.ListN.{length};
 ghost use Rattle.records.specs.Context.{headed};
-ghost use Rattle.flow.specs.Judge.{isLength, cut, ended, go};
+ghost use Rattle.flow.specs.Judge.{ended, go};
+ghost use Rattle.flow.specs.Records.{isLength, recordsOf};
 ghost use Rattle.flow.specs.Judge.{judge as Judge·judge};
 ghost use Rattle.flow.specs.Steps.{start};
 ghost use Rattle.flow.specs.Steps.{latest as Steps·latest};
@@ -70,7 +71,7 @@ fn read_records(
     requires { ⌜ isLength (length (now flow)) ≡ true ⌝ }
     ensures { λ r. ⌜ verdict r ≡ go ended
         (headed (now (mittente .entry)) (now (abi .entry)) (now (date .entry)) (now (name .entry)) (now (currency .entry)))
-        start [] 0 (cut (length (now (flow .entry)) / 120) (now (flow .entry))) ⌝ }
+        start [] 0 (recordsOf (now (flow .entry))) ⌝ }
 {
     let mut walk = Walk::start();
     let mut company = &flow[0..0];

@@ -6,9 +6,9 @@ use printing::line_feed;
 
 // `found first 2 records 7 cents 45000 part 840 " 140000001" " 700000001"`, with the length of the
 // part and the first bytes of it and of its last record; or `refused 15 record 0 position 0 part 0`.
-pub(crate) fn print(flow: &[u8], k: u64) {
-    let part = flow::disposition(flow, k);
-    let location = flow::find(flow, k);
+pub(crate) fn print(bytes: &[u8], k: u64) {
+    let part = flow::disposition(bytes, k);
+    let location = flow::find(bytes, k);
     match location {
         Location::At {
             first,
@@ -45,7 +45,7 @@ fn start(bytes: &[u8]) -> &[u8] {
     if bytes.len() < 10 {
         return bytes;
     }
-    return &bytes[0..10];
+    &bytes[0..10]
 }
 
 // The last 120 bytes, or all where there are fewer.
@@ -54,5 +54,5 @@ fn last_record(part: &[u8]) -> &[u8] {
         return part;
     }
     let at = part.len() - 120;
-    return &part[at..];
+    &part[at..]
 }

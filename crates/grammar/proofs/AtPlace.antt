@@ -1,38 +1,29 @@
 -- A record at its place in the flow: what the walk finds of it, as the statements say it. Assumes nothing.
 use Prim.Native.Nat.{ℕ, zero, suc}
-use mathlib.Core.Bool.{true}
 use mathlib.Core.List.{List}
 use mathlib.Core.Logic.{_⊎_, inl, inr}
 use mathlib.Core.Path.{_≡_, refl, _∙_, ap}
 use native.Mathlib.Omega.{arith}
 use lib.ListN.{length}
 use Rattle.sequences.specs.All.{All}
-use Rattle.fields.proofs.Bytes.{equal-exact}
 use Rattle.records.specs.Bytes.{badByte}
 use Rattle.records.specs.Checks.{checks}
 use Rattle.records.specs.Context.{Header, Context, context}
 use Rattle.records.specs.Field.{field}
-use Rattle.records.specs.Finding.{Finding, right, refused}
+use Rattle.records.specs.Finding.{Finding, right, refused, Hold}
 use Rattle.records.specs.Judge.{asked, judge}
-use Rattle.records.specs.Kinds.{typeOf, hasType}
+use Rattle.records.specs.Kinds.{typeOf}
 use Rattle.records.specs.declared.kind.Kind.{Kind}
-use Rattle.records.proofs.ByKind.{right-asked}
+use Rattle.records.proofs.ByKind.{type-said, type-tested, right-asked}
+use Rattle.records.proofs.Found.{right-exact, broken-exact}
 use Rattle.flow.specs.Order.{permitted}
 use Rattle.flow.specs.Steps.{countsAt, judgeRecord}
 use Rattle.flow.specs.declared.walk.Walk.{Walk}
 use Rattle.flow.proofs.Among.{In, Has, HasNone, has-or-none}
 use Rattle.flow.proofs.Places.{bad-byte as judged-bad-byte, judged-of, judged-none}
-use Rattle.grammar.specs.Fault.{Hold, Fault, bad-byte, wrong-type, broken}
+use Rattle.grammar.specs.Fault.{Fault, bad-byte, wrong-type, broken}
 use Rattle.grammar.specs.Rules.{Printable, Formed}
-use Rattle.grammar.proofs.Found.{right-exact, broken-exact}
 use Rattle.grammar.proofs.Rules.{printable-exact, bad-byte-exact}
-
--- the type at 2-3, as a test and as it is said
-pub type-said : (k : Kind) (rec : List ℕ) → hasType k rec ≡ true → field 2 3 rec ≡ typeOf k
-type-said k rec t = equal-exact (field 2 3 rec) (typeOf k) .0 t
-
-pub type-tested : (k : Kind) (rec : List ℕ) → field 2 3 rec ≡ typeOf k → hasType k rec ≡ true
-type-tested k rec e = equal-exact (field 2 3 rec) (typeOf k) .1 e
 
 -- what the checks of a record of the kind are asked with, at a state of the walk
 abbrev pub asks : Header → Walk → List ℕ → ℕ → Kind → Context
@@ -67,8 +58,7 @@ module _ (h : Header) (w : Walk) (company : List ℕ) (n : ℕ) (rec : List ℕ)
       let said = bad-byte-exact rec (suc (length bs)) .1 (bs, b, cs, e, printable, bad, refl) in
       judged-bad-byte h w company n rec whole (λ z. omega arith) ∙ ap (refused 2) (said .0)
   fault-judged m p (wrong-type printable none) = judged-none h w company n rec whole (printable-exact rec .1 printable) (λ k i t. none k (type-said k rec t) i)
-  fault-judged m p (broken k held q r others printable type may e holds) =
-      of-kind k printable type may ∙ broken-exact k (asks h w company n k) rec m p whole .1 (held, others, e, holds)
+  fault-judged m p (broken k q r printable type may first) = of-kind k printable type may ∙ broken-exact k (asks h w company n k) rec m p whole .1 first
 
   -- one of the two it is
   by-checks : (k : Kind) (x : Finding) → judge k (asks h w company n k) rec ≡ x → All Printable rec → field 2 3 rec ≡ typeOf k → May w k → Judgement h w company n rec
@@ -77,8 +67,7 @@ module _ (h : Header) (w : Walk) (company : List ℕ) (n : ℕ) (rec : List ℕ)
       let found : judge k (asks h w company n k) rec ≡ right k (asked k rec) = e ∙ cc in
       inl (k, record { may = may; formed = record { whole = whole; printable = printable; type = type }; keeps = right-exact k (asks h w company n k) rec whole .0 found })
   by-checks k (refused m p) e printable type may =
-      let split = broken-exact k (asks h w company n k) rec m p whole .0 e in
-      inr (m, p, broken k (split .0) m p (split .1) printable type may (split .2) (split .3))
+      inr (m, p, broken k m p printable type may (broken-exact k (asks h w company n k) rec m p whole .0 e))
 
   pub judgement : Judgement h w company n rec
   judgement = bytes (badByte rec) refl

@@ -4,13 +4,14 @@ use Prim.Native.Nat.{ℕ, suc, _+_}
 use mathlib.Core.Bool.{cond}
 use mathlib.Core.List.{List, [], _∷_, _++_, map, head-eq-of-cons-eq, tail-eq-of-cons-eq, nil≢cons}
 use mathlib.Core.Logic.{_↔_}
-use mathlib.Core.Path.{_≡_, refl, sym, _∙_, ap, subst}
+use mathlib.Core.Path.{_≡_, refl, sym, _∙_, subst}
 use native.Mathlib.Omega.{arith}
 use lib.ListN.{length, take, length-map}
 use Rattle.sequences.proofs.All.{all-at}
 use Rattle.sequences.proofs.Map.{map-split}
 use Rattle.records.specs.Checks.{checks}
 use Rattle.records.specs.Context.{Header, Context, headerOf}
+use Rattle.records.specs.Finding.{Hold, FirstBroken}
 use Rattle.records.specs.Judge.{asked}
 use Rattle.records.specs.Kinds.{typeOf, opens}
 use Rattle.records.specs.declared.kind.Kind.{Kind}
@@ -24,7 +25,7 @@ use Rattle.flow.specs.declared.order.Place.{Place}
 use Rattle.flow.specs.declared.walk.Walk.{Walk}
 use Rattle.flow.proofs.Cut.{Whole}
 use Rattle.flow.proofs.Among.{In}
-use Rattle.grammar.specs.Fault.{HaveKinds, MayFollow, contextBehind, Hold, RightBehind, EachRight, Fault, FaultBehind, bad-byte, wrong-type, broken}
+use Rattle.grammar.specs.Fault.{HaveKinds, MayFollow, contextBehind, RightBehind, EachRight, Fault, FaultBehind, bad-byte, wrong-type, broken}
 use Rattle.grammar.specs.Grammar.{Typed, kindsOf, recordsIn}
 use Rattle.grammar.specs.Shape.{InOrder}
 use Rattle.grammar.proofs.AtPlace.{asks, May, RightAt, FaultAt, right-judged, fault-judged}
@@ -54,8 +55,8 @@ fault-same :
     → (rec : List ℕ) {n p : ℕ} → Fault may asked-so rec n p → Fault may′ asked-so′ rec n p
 fault-same mays asks-same rec (bad-byte bs b cs e printable bad) = bad-byte bs b cs e printable bad
 fault-same mays asks-same rec (wrong-type printable none) = wrong-type printable (λ k e may. none k e (mays k .1 may))
-fault-same mays asks-same rec (broken k held n p others printable type may e holds) =
-    broken k held n p others printable type (mays k .0 may) (sym (ap (λ (ctx : Context). checks k ctx rec) (asks-same k)) ∙ e) holds
+fault-same mays asks-same rec (broken k n p printable type may first) =
+    broken k n p printable type (mays k .0 may) (subst (λ (ctx : Context). FirstBroken (checks k ctx rec) n p) (asks-same k) first)
 
 -- right records from the front of the flow f on
 abbrev pub FromStart : List ℕ → List Typed → Type 0

@@ -1,8 +1,8 @@
 -- The records of a flow and its bytes: cut apart and joined again. Assumes nothing.
 use Prim.Native.Nat.{ℕ}
-use mathlib.Core.List.{List, [], _∷_, _++_, append-nil, map, map-append, flatten}
-use mathlib.Core.Path.{_≡_, refl, _∙_, ap}
-use Rattle.sequences.proofs.Flatten.{flatten-append}
+use mathlib.Core.List.{List, [], _∷_, _++_, append-nil, map, map-map, map-append, flatten}
+use mathlib.Core.Path.{_≡_, sym, _∙_, ap}
+use Rattle.sequences.proofs.Flatten.{flatten-append, flatten-flatten, map-flatten}
 use Rattle.records.specs.declared.kind.Kind.the-variants.{Im, Ef}
 use Rattle.grammar.specs.Grammar.{Typed, Parts, recordsIn, bytesOf}
 
@@ -11,10 +11,7 @@ abbrev pub typedOf : Parts → List Typed
 typedOf p = record { kind = Im; bytes = p .header } ∷ (flatten (p .dispositions) ++ (record { kind = Ef; bytes = p .trailer } ∷ []))
 
 bytes-within : (ds : List (List Typed)) → flatten (recordsIn (flatten ds)) ≡ flatten (map (λ (d : List Typed). flatten (recordsIn d)) ds)
-unfolding flatten
-bytes-within [] = refl
-bytes-within (d ∷ ds) =
-    ap flatten (map-append (λ (r : Typed). r .bytes) d (flatten ds)) ∙ flatten-append (recordsIn d) (recordsIn (flatten ds)) ∙ ap (λ (l : List ℕ). flatten (recordsIn d) ++ l) (bytes-within ds)
+bytes-within ds = ap flatten (map-flatten (λ (r : Typed). r .bytes) ds) ∙ sym (flatten-flatten (map recordsIn ds)) ∙ ap flatten (map-map flatten recordsIn ds)
 
 pub parts-joined : (p : Parts) → flatten (recordsIn (typedOf p)) ≡ bytesOf p
 unfolding flatten

@@ -8,19 +8,19 @@ use lib.ListN.{length, take, length-map}
 use Rattle.sequences.proofs.All.{all-at, all-before}
 use Rattle.records.specs.Context.{headerOf}
 use Rattle.records.specs.declared.kind.Kind.{Kind}
-use Rattle.flow.specs.Find.{recordsOf}
-use Rattle.flow.specs.Judge.{isLength, ended, go, judge}
+use Rattle.flow.specs.Judge.{ended, go, judge}
+use Rattle.flow.specs.Records.{RightLength, isLength, recordsOf}
 use Rattle.flow.specs.Order.{permitted, isDue, place}
 use Rattle.flow.specs.Steps.{start}
 use Rattle.flow.specs.Verdict.{Verdict, accepted, refused}
-use Rattle.flow.specs.declared.order.Due.{Due}
-use Rattle.flow.specs.declared.order.Due.the-variants.{OnlyIm, OnlyR14, R16OrR20, OnlyR20, OnlyR30, OnlyR40, R50OrR59, R59OrR51, OnlyR51, OnlyR70, R14OrEf, Nothing}
+use Rattle.flow.specs.declared.order.Due.the-variants.{OnlyIm}
 use Rattle.flow.specs.declared.order.Place.{Place}
 use Rattle.flow.specs.declared.walk.Walk.{Walk}
 use Rattle.flow.proofs.Accepted.{accepted-not-refused, length-tested, length-refused}
 use Rattle.flow.proofs.Cut.{Whole, cut-whole}
+use Rattle.flow.proofs.Exact.{due-nothing}
 use Rattle.flow.proofs.Lengths.{length-said}
-use Rattle.grammar.specs.Fault.{RightLength, HaveKinds, EachRight, FaultBehind, FirstFault, wrong-length, in-record, still-due}
+use Rattle.grammar.specs.Fault.{HaveKinds, EachRight, FaultBehind, FirstFault, wrong-length, in-record, still-due}
 use Rattle.grammar.specs.Grammar.{Typed, kindsOf, recordsIn}
 use Rattle.grammar.specs.Laws.{FirstFaultExact}
 use Rattle.grammar.specs.Shape.{InOrder}
@@ -32,7 +32,7 @@ use Rattle.grammar.proofs.Walked.{stateBehind, codeBehind, walked-allow
 abbrev pub judgeFrom : List ℕ → List (List ℕ) → Verdict
 judgeFrom f recs = go ended (headerOf (take 120 f)) start [] 0 recs
 
-pub judged : (f : List ℕ) → RightLength f → judge f ≡ judgeFrom f (recordsOf f)
+pub judged : (f : List ℕ) → RightLength (length f) → judge f ≡ judgeFrom f (recordsOf f)
 unfolding judge
 judged f sized = rw (length-tested (length f) sized)
 
@@ -53,20 +53,6 @@ stops-so f rs rec rest m p walked whole fault =
     ∙ ap (λ (n : ℕ). refused m n p) same
 
 -- a record is due exactly where the records are not all of a flow in order
-due-nothing : (d : Due) → isDue (permitted d) ≡ false → d ≡ Nothing
-due-nothing OnlyIm e = absurd (true≢false e)
-due-nothing OnlyR14 e = absurd (true≢false e)
-due-nothing R16OrR20 e = absurd (true≢false e)
-due-nothing OnlyR20 e = absurd (true≢false e)
-due-nothing OnlyR30 e = absurd (true≢false e)
-due-nothing OnlyR40 e = absurd (true≢false e)
-due-nothing R50OrR59 e = absurd (true≢false e)
-due-nothing R59OrR51 e = absurd (true≢false e)
-due-nothing OnlyR51 e = absurd (true≢false e)
-due-nothing OnlyR70 e = absurd (true≢false e)
-due-nothing R14OrEf e = absurd (true≢false e)
-due-nothing Nothing e = refl
-
 module _ (f : List ℕ) (rs : List Typed) (walked : FromStart f rs) where
   pub complete-order : isDue (permitted (stateBehind start rs .place .due)) ≡ false → InOrder (kindsOf rs)
   complete-order e =
@@ -84,7 +70,7 @@ renamed f {m} {s} {q} {n} {r} {p} e fault =
     let position : q ≡ p = cc in
     subst (λ (x : ℕ). FirstFault f x r p) number (subst (λ (x : ℕ). FirstFault f m x p) at-record (subst (λ (x : ℕ). FirstFault f m s x) position fault))
 
-module _ (f : List ℕ) (n r p : ℕ) (sized : RightLength f) where
+module _ (f : List ℕ) (n r p : ℕ) (sized : RightLength (length f)) where
   at-end : (rs : List Typed) → recordsOf f ≡ recordsIn rs → FromStart f rs → (b : Bool) → isDue (permitted (stateBehind start rs .place .due)) ≡ b → cond b (refused 4 (suc (length rs)) 0) (accepted (stateBehind start rs .dispositions) (stateBehind start rs .cents) (length rs)) ≡ refused n r p → FirstFault f n r p
   at-end rs same walked false t e = absurd (accepted-not-refused (sym e))
   at-end rs same walked true t e =

@@ -1,36 +1,37 @@
 -- A flow is accepted exactly where it is one of the grammar, with its exact sums. Assumes nothing.
 use Prim.Native.Nat.{ℕ, suc, _+_, _*_, _/_, _^_, _≤_, _<_}
-use mathlib.Core.Bool.{Bool, true, false, cond}
 use mathlib.Core.List.{List, [], _∷_, _++_, append-nil, map, map-append, flatten, nil≢cons, head-eq-of-cons-eq, tail-eq-of-cons-eq}
 use mathlib.Core.Logic.{_↔_, _⊎_, inl, inr}
 use mathlib.Core.Path.{_≡_, refl, sym, _∙_, ap, subst}
 use native.Mathlib.Omega.{arith}
 use lib.ListN.{length, take, length-append, length-map}
 use lib.Seq.{take-at}
-use Rattle.sequences.specs.Sum.{sum}
 use Rattle.sequences.proofs.All.{all-at}
+use Rattle.sequences.proofs.Flatten.{flatten-count}
 use Rattle.sequences.proofs.Map.{map-split}
 use Rattle.fields.specs.Digits.{number}
 use Rattle.fields.proofs.Decimal.{number-below}
 use Rattle.records.specs.Checks.{checks}
 use Rattle.records.specs.Context.{Header, headerOf}
 use Rattle.records.specs.Field.{field}
+use Rattle.records.specs.Finding.{Hold}
 use Rattle.records.specs.Judge.{asked}
 use Rattle.records.specs.declared.kind.Kind.{Kind}
 use Rattle.records.specs.declared.kind.Kind.the-variants.{Im, Ef}
 use Rattle.records.proofs.Rows.{field-length}
-use Rattle.flow.specs.Find.{recordsOf}
-use Rattle.flow.specs.Judge.{isLength, ended, judge}
-use Rattle.flow.specs.Order.{permitted, isDue, place}
+use Rattle.flow.specs.Judge.{ended, judge}
+use Rattle.flow.specs.Records.{RightLength, recordsOf}
+use Rattle.flow.specs.Order.{place}
 use Rattle.flow.specs.Steps.{start, step, latest}
 use Rattle.flow.specs.Verdict.{Verdict, accepted, refused}
 use Rattle.flow.specs.declared.order.Due.the-variants.{OnlyR14}
 use Rattle.flow.specs.declared.order.Place.{Place}
 use Rattle.flow.specs.declared.walk.Walk.{Walk}
-use Rattle.flow.proofs.Accepted.{accepted-not-refused}
+use Rattle.flow.proofs.Accepted.{accepted-not-refused, ended-so}
 use Rattle.flow.proofs.Cut.{Whole, flatten-length, records-joined, joined-records}
+use Rattle.flow.proofs.Dispositions.{accepted-records}
 use Rattle.flow.proofs.Lengths.{length-said}
-use Rattle.grammar.specs.Fault.{RightLength, Hold, FirstFault}
+use Rattle.grammar.specs.Fault.{FirstFault}
 use Rattle.grammar.specs.Grammar.{Typed, Parts, kindsOf, recordsIn, codeOf, bytesOf, dispositionCount, totalCents, recordCount, Numbered, Right, Grammar}
 use Rattle.grammar.specs.Laws.{GrammarExact, RightOrFaulty}
 use Rattle.grammar.specs.Rules.{TrailerRules}
@@ -100,12 +101,7 @@ pub parts-order : (p : Parts) → 1 ≤ dispositionCount p → InShape (p .dispo
 parts-order p some shape =
     subst (λ (ks : List Kind). InOrder (Im ∷ ks)) (sym (map-append (λ (r : Typed). r .kind) (flatten (p .dispositions)) (record { kind = Ef; bytes = p .trailer } ∷ []))) (in-order (in-shape (p .dispositions) some shape))
 
--- what the walk counts behind all of them
-flatten-count : (ds : List (List Typed)) → length (flatten ds) ≡ sum (map (λ (d : List Typed). length d) ds)
-unfolding flatten
-flatten-count [] = refl
-flatten-count (d ∷ ds) = length-append d (flatten ds) ∙ ap (λ (n : ℕ). length d + n) (flatten-count ds)
-
+-- what the walk counts behind the header, and behind all of them
 abbrev behindHeader : Walk
 behindHeader = step start Im 0
 
@@ -188,19 +184,11 @@ module _ (p : Parts) (some : 1 ≤ dispositionCount p) (shape : InShape (p .disp
 header-first : (p : Parts) (f : List ℕ) → bytesOf p ≡ f → length (p .header) ≡ 120 → take 120 f ≡ p .header
 header-first p f e whole = ap (take 120) (sym e) ∙ take-at (p .header) _ 120 whole
 
--- an answer behind the last record
-ended-so : (w : Walk) (n d c m : ℕ) → ended w n ≡ accepted d c m → (isDue (permitted (w .place .due)) ≡ false) × (w .dispositions ≡ d) × (w .cents ≡ c) × (n ≡ m)
-ended-so w n d c m = go (isDue (permitted (w .place .due))) refl
-  where
-    go : (b : Bool) → isDue (permitted (w .place .due)) ≡ b → cond b (refused 4 (suc n) 0) (accepted (w .dispositions) (w .cents) n) ≡ accepted d c m → (isDue (permitted (w .place .due)) ≡ false) × (w .dispositions ≡ d) × (w .cents ≡ c) × (n ≡ m)
-    go true t e = absurd (accepted-not-refused e)
-    go false t e = (t, cc, cc, cc)
-
 -- from the answer to the grammar
-module _ (f : List ℕ) (d c n : ℕ) (sized : RightLength f) where
+module _ (f : List ℕ) (d c n : ℕ) (sized : RightLength (length f)) where
   at-end : (rs : List Typed) → recordsOf f ≡ recordsIn rs → FromStart f rs → ended (stateBehind start rs) (length rs) ≡ accepted d c n → Grammar f d c n
   at-end rs same walked e =
-      let told = ended-so (stateBehind start rs) (length rs) d c n e in
+      let told = ended-so (stateBehind start rs) (length rs) e in
       let apart = take-apart rs (complete-order f rs walked (told .0)) in
       let p = apart .parts in
       let bytes : bytesOf p ≡ f = sym (parts-joined p) ∙ ap (λ (l : List Typed). flatten (recordsIn l)) (sym (apart .same)) ∙ ap flatten (sym same) ∙ records-joined f (length f / 120) (omega arith) in
@@ -224,12 +212,9 @@ module _ (f : List ℕ) (d c n : ℕ) (sized : RightLength f) where
       absurd (accepted-not-refused (sym (stops-so f rs rec rest m q walked size fault) ∙ e))
 
 grammar-of : (f : List ℕ) (d c n : ℕ) → judge f ≡ accepted d c n → Grammar f d c n
-unfolding judge
-grammar-of f d c n = by-length (isLength (length f)) refl
-  where
-    by-length : (b : Bool) → isLength (length f) ≡ b → cond b (judgeFrom f (recordsOf f)) (refused 1 0 0) ≡ accepted d c n → Grammar f d c n
-    by-length false t e = absurd (accepted-not-refused e)
-    by-length true t e = at-outcome f d c n (length-said (length f) t) refl (whole-records f) (outcome (headerOf (take 120 f)) start [] 0 (recordsOf f) (whole-records f)) e
+grammar-of f d c n e =
+    let read = accepted-records f e in
+    at-outcome f d c n (length-said (length f) (read .0)) refl (whole-records f) (outcome (headerOf (take 120 f)) start [] 0 (recordsOf f) (whole-records f)) (read .1)
 
 -- from the grammar to the answer
 walked-whole : (h : Header) (w : Walk) (code : List ℕ) (i : ℕ) (rs : List Typed) → Walked h w code i rs → Whole (recordsIn rs)
@@ -272,7 +257,7 @@ module _ (f : List ℕ) (d c n : ℕ) (g : Grammar f d c n) where
       let counts = all-counted p (g .right .some) grammar-shape in
       let size : length f ≡ 120 * recordCount p = ap (λ (l : List ℕ). length l) (sym grammar-bytes) ∙ flatten-length (recordsIn rs) grammar-whole ∙ ap (λ (m : ℕ). 120 * m) (length-map rs (λ (x : Typed). x .bytes) ∙ counts .2) in
       let few = few-records p (g .right) in
-      let sized : RightLength f = (omega arith, omega arith, omega arith) in
+      let sized : RightLength (length f) = (omega arith, omega arith, omega arith) in
       let last-due = order-complete f rs walked (parts-order p (g .right .some) grammar-shape) in
       judged f sized ∙ ap (judgeFrom f) grammar-records ∙ ends-so f rs walked ∙ rw last-due (λ i. accepted ((counts .0 ∙ g .dispositions) i) ((counts .1 ∙ g .cents) i) ((counts .2 ∙ g .records) i))
 

@@ -4,7 +4,6 @@ pub mod Bytes
 pub mod Codes
 pub mod Dispositions
 pub mod FirstFault
-pub mod Found
 pub mod Grammar
 pub mod Order
 pub mod Parts

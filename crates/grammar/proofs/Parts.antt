@@ -7,7 +7,6 @@ use native.Mathlib.Nat.{le-of-suc-le-suc, not-suc-le-zero}
 use native.Mathlib.Omega.{arith}
 use lib.ListN.{length, take, drop, getD, length-append, length-map, List·getD-map}
 use lib.Seq.{take-all, split-at}
-use borrow.Author.Tests.{le-leb}
 use Rattle.sequences.specs.All.{All}
 use Rattle.sequences.specs.Groups.{groups}
 use Rattle.sequences.specs.Part.{part}
@@ -23,17 +22,17 @@ use Rattle.records.specs.Field.{field}
 use Rattle.records.specs.Kinds.{typeOf, hasType, opens}
 use Rattle.records.specs.declared.kind.Kind.{Kind}
 use Rattle.records.specs.declared.kind.Kind.the-variants.{Im, R14, Ef}
-use Rattle.records.proofs.ByKind.{opens-type}
-use Rattle.flow.specs.Find.{Located, standing, refused, recordsOf, dispositionsIn, startsAt, find, bytesAt, partOf}
-use Rattle.flow.specs.Judge.{recordAt, judge}
+use Rattle.records.proofs.ByKind.{type-tested, opens-type}
+use Rattle.flow.specs.Find.{Located, standing, refused, dispositionsIn, startsAt, find, bytesAt, partOf}
+use Rattle.flow.specs.Judge.{judge}
+use Rattle.flow.specs.Records.{recordAt, recordsOf}
 use Rattle.flow.specs.Verdict.{accepted}
 use Rattle.flow.proofs.Accepted.{accepted-exact}
 use Rattle.flow.proofs.Cut.{Whole, flatten-length, part-joined}
-use Rattle.flow.proofs.Dispositions.{dispositions-counted, disposition-stands, found-stands}
+use Rattle.flow.proofs.Dispositions.{dispositions-counted, disposition-stands, find-so, standing-same, found-stands}
 use Rattle.grammar.specs.Grammar.{Typed, kindsOf, recordsIn, opening, RightDisposition, Numbered, Grammar}
 use Rattle.grammar.specs.Laws.{DispositionsExact, centsAt, firstAt, endAt, PartsExact, PlacesExact, OpeningExact, PartEmpty}
 use Rattle.grammar.specs.Rules.{Digits, Says, Formed, MemberRules}
-use Rattle.grammar.proofs.AtPlace.{type-tested}
 use Rattle.grammar.proofs.Dispositions.{Detail, detail-opens, Opened, opened-by, opened-so, Member}
 use Rattle.grammar.proofs.Grammar.{grammar-records, grammar-whole, grammar-bytes, grammar-exact}
 
@@ -89,12 +88,11 @@ module _ (f : List ℕ) (d c n : ℕ) (e : judge f ≡ accepted d c n) where
   g : Grammar f d c n
   g = grammar-exact f d c n .0 e
 
-  find-so : (k : ℕ) → k < d
+  stands-so : (k : ℕ) → k < d
       → find f (suc k) ≡ standing (suc (suc (length (flatten (take k (dispositionsIn f)))))) (length (getD (dispositionsIn f) k [])) (number (field 34 46 (getD (getD (dispositionsIn f) k []) 0 [])))
-  unfolding find
-  find-so k h =
+  stands-so k h =
       let one : suc k - 1 ≡ k = omega arith in
-      rw (e, le-leb 1 (suc k) (omega arith), le-leb (suc k) d h, one)
+      find-so f k e h ∙ rw one
 
   count-so : length (dispositionsIn f) ≡ d
   count-so = dispositions-counted f e
@@ -125,7 +123,7 @@ module _ (f : List ℕ) (d c n : ℕ) (e : judge f ≡ accepted d c n) where
       let joined : f ≡ flatten (xs ++ (here ++ zs)) = sym bytes-so ∙ ap flatten all in
       let first : suc (suc (length (flatten (take k found)))) - 1 ≡ length xs = omega arith in
       let bytes = ap (λ (m : ℕ). part (120 * m) (120 * length here) f) first ∙ ap (part (120 * length xs) (120 * length here)) joined ∙ part-joined xs here zs front within in
-      (within, ap (λ (l : Located). bytesAt l f) (find-so k h) ∙ bytes)
+      (within, ap (λ (l : Located). bytesAt l f) (stands-so k h) ∙ bytes)
 
   -- the flow has the header, their records and the trailer
   size-so : length f ≡ 120 * (2 + length (flatten (dispositionsIn f)))
@@ -150,21 +148,21 @@ module _ (f : List ℕ) (d c n : ℕ) (e : judge f ≡ accepted d c n) where
   sum-so : sum (map (λ (k : ℕ). centsAt (find f k)) (upTo d)) ≡ c
   sum-so =
       let found = dispositionsIn f in
-      let numbered = by-number (λ (k : ℕ). centsAt (find f k)) (λ (x : List (List ℕ)). number (field 34 46 (getD x 0 []))) found [] (λ k h. ap centsAt (find-so k (omega (arith, count-so)))) in
+      let numbered = by-number (λ (k : ℕ). centsAt (find f k)) (λ (x : List (List ℕ)). number (field 34 46 (getD x 0 []))) found [] (λ k h. ap centsAt (stands-so k (omega (arith, count-so)))) in
       ap (λ (m : ℕ). sum (map (λ (k : ℕ). centsAt (find f k)) (upTo m))) (sym count-so) ∙ ap sum numbered
       ∙ ap (λ (l : List (List (List ℕ))). sum (map (λ (x : List (List ℕ)). number (field 34 46 (getD x 0 []))) l)) (dispositions-exact f d c n g)
       ∙ ap sum (map-map (λ (x : List (List ℕ)). number (field 34 46 (getD x 0 []))) recordsIn (g .parts .dispositions)) ∙ g .cents
 
   -- where each starts and ends, in records
   first-so : (k : ℕ) → k < d → firstAt (find f (suc k)) ≡ 2 + length (flatten (take k (dispositionsIn f)))
-  first-so k h = ap firstAt (find-so k h) ∙ omega arith
+  first-so k h = ap firstAt (stands-so k h) ∙ omega arith
 
   end-so : (k : ℕ) → k < d → endAt (find f (suc k)) ≡ 2 + length (flatten (take (suc k) (dispositionsIn f)))
   end-so k h =
       let found = dispositionsIn f in
       let next = ap (λ (l : List (List ℕ)). length l) (flatten-next found k (omega (arith, count-so))) in
       let join = length-append (flatten (take k found)) (getD found k []) in
-      ap endAt (find-so k h) ∙ omega arith
+      ap endAt (stands-so k h) ∙ omega arith
 
   places-so : (firstAt (find f 1) ≡ 2) × ((k : ℕ) → 1 ≤ k → k < d → firstAt (find f (suc k)) ≡ endAt (find f k)) × (endAt (find f d) ≡ n)
   unfolding flatten
@@ -228,9 +226,6 @@ opening-says abi n d r = go d (opened-so d (r .order)) (r .records)
         let rules = subst (λ (k : Kind). MemberRules k abi n (x .bytes)) e (members .0 .1) in
         (members .0 .0 .type ∙ ap typeOf e, rules .number-said, rules .others .amount)
 
-same-location : {a b c x y z : ℕ} → standing a b c ≡ standing x y z → (a ≡ x) × (c ≡ z)
-same-location e = (cc, cc)
-
 pub opening-exact : OpeningExact
 opening-exact f k first records cents e =
     let found = found-stands f k e in
@@ -241,12 +236,12 @@ opening-exact f k first records cents e =
     let ds = g .parts .dispositions in
     let abi = headerOf (g .parts .header) .abi in
     let less : k - 1 < length ds = omega (arith, g .dispositions) in
-    let told = same-location (found .1) in
+    let told = standing-same (found .1) in
     let start : startsAt (dispositionsIn f) k ≡ first - 1 = omega (arith, told .0) in
     let own : getD (getD (dispositionsIn f) (k - 1) []) 0 [] ≡ opening (getD ds (k - 1) []) =
     ap (λ (l : List (List (List ℕ))). getD (getD l (k - 1) []) 0 []) (dispositions-exact f (s .dispositions) (s .cents) (s .records) g) ∙ ap (λ (l : List (List ℕ)). getD l 0 []) (List·getD-map recordsIn ds (k - 1) []) in
     let here : opening (getD ds (k - 1) []) ≡ recordAt (first - 1) f = sym own ∙ disposition-stands f k s .opening ∙ ap (λ (m : ℕ). recordAt m f) start in
     let one : 1 + (k - 1) ≡ k = omega arith in
     let says = opening-says abi (1 + (k - 1)) (getD ds (k - 1) []) (numbered-at abi 1 ds (k - 1) less (g .right .each)) in
-    let amount = ap (λ (r : List ℕ). number (field 34 46 r)) (sym here ∙ sym own) ∙ sym (told .1) in
+    let amount = ap (λ (r : List ℕ). number (field 34 46 r)) (sym here ∙ sym own) ∙ sym (told .2) in
     (ap (field 2 3) (sym here) ∙ says .0, subst (λ (m : ℕ). Says m (field 4 10 (recordAt (first - 1) f))) one (subst (λ (r : List ℕ). Says (1 + (k - 1)) (field 4 10 r)) here (says .1)), (subst (λ (r : List ℕ). Digits (field 34 46 r)) here (says .2), amount))

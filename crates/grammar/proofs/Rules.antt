@@ -24,12 +24,11 @@ use Rattle.records.specs.Checks.{isPresent, isDate, isListed, agrees, numberChe
 use Rattle.records.specs.Constants.{causale, sign, currency}
 use Rattle.records.specs.Context.{Context}
 use Rattle.records.specs.Field.{field, byteAt}
-use Rattle.records.specs.Finding.{Check, check}
+use Rattle.records.specs.Finding.{Check, check, Hold}
 use Rattle.records.specs.declared.kind.Kind.{Kind}
 use Rattle.records.specs.declared.kind.Kind.the-variants.{Im, R14, R16, R20, R30, R40, R50, R59, R51, R70, Ef}
 use Rattle.records.proofs.Printable.{no-bad-byte}
-use Rattle.grammar.specs.Fault.{Hold}
-use Rattle.grammar.specs.Rules.{Digits, Blank, Present, Date, Printable, HeaderRules, DispositionRules, CoordinatesRules, BesideNumber, MemberRules, TrailerRules}
+use Rattle.grammar.specs.Rules.{Digits, Blank, Present, Printable, HeaderRules, DispositionRules, CoordinatesRules, BesideNumber, MemberRules, TrailerRules}
 
 -- tests joined, and what they say
 either : {A B : Type 0} {a b : Bool} → (a ≡ true) ↔ A → (b ≡ true) ↔ B → ((a || b) ≡ true) ↔ (A ⊎ B)
@@ -67,9 +66,6 @@ present-exact bs = fails (blanks-exact bs)
 -- six digits that name a day
 day-exact : (bs : List ℕ) → (isDate bs ≡ true) ↔ Gregorian (dayOf bs)
 day-exact bs = (day-said (dayOf bs), day-tested (dayOf bs))
-
-pub true-day-exact : (bs : List ℕ) → ((isDigits bs ≡ true) × (isDate bs ≡ true)) ↔ Date bs
-true-day-exact bs = Iff·and (digits-exact bs) (day-exact bs)
 
 -- one of the listed bytes
 pub listed-exact : (b : ℕ) (xs : List ℕ) → (isListed b xs ≡ true) ↔ List·Memᴰ b xs

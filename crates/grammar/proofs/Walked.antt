@@ -13,7 +13,7 @@ use Rattle.records.specs.Field.{field}
 use Rattle.records.specs.Judge.{asked}
 use Rattle.records.specs.Kinds.{hasType, opens}
 use Rattle.records.specs.declared.kind.Kind.the-variants.{R14}
-use Rattle.records.proofs.ByKind.{opens-type}
+use Rattle.records.proofs.ByKind.{type-tested, opens-type}
 use Rattle.flow.specs.Judge.{go}
 use Rattle.flow.specs.Steps.{opened, step, latest}
 use Rattle.flow.specs.Sums.{dispositionsOf, centsOf}
@@ -23,7 +23,7 @@ use Rattle.flow.specs.declared.walk.Walk.{Walk}
 use Rattle.flow.proofs.Cut.{Whole}
 use Rattle.grammar.specs.Fault.{latestCode}
 use Rattle.grammar.specs.Grammar.{Typed, kindsOf, recordsIn}
-use Rattle.grammar.proofs.AtPlace.{type-tested, RightAt, FaultAt, Judgement, right-judged, fault-judged, judgement}
+use Rattle.grammar.proofs.AtPlace.{RightAt, FaultAt, Judgement, right-judged, fault-judged, judgement}
 use Rattle.grammar.proofs.Order.{placeBehind, Allowed}
 
 -- the state, and the company code, behind records

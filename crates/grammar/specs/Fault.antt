@@ -1,7 +1,7 @@
 -- The first fault of a flow, said without looking for it (document 01, "Numbers a clerk may see": 1; then the lowest record; inside it 2
 -- at the lowest byte, then 3, then rising field position; 4 where every record present is right). Assumes nothing.
-use Prim.Native.Nat.{ℕ, suc, _+_, _%_, _≤_}
-use mathlib.Core.Bool.{true, false, cond, _&&_}
+use Prim.Native.Nat.{ℕ, suc, _+_}
+use mathlib.Core.Bool.{cond, _&&_}
 use mathlib.Core.List.{List, [], _∷_, _++_, map}
 use mathlib.Core.Path.{_≡_}
 use lib.ListN.{length, take}
@@ -9,18 +9,14 @@ use Rattle.sequences.specs.All.{All}
 use Rattle.records.specs.Checks.{isPresent, checks}
 use Rattle.records.specs.Context.{Context, context, headerOf}
 use Rattle.records.specs.Field.{field}
-use Rattle.records.specs.Finding.{Check, check}
+use Rattle.records.specs.Finding.{Hold, FirstBroken}
 use Rattle.records.specs.Kinds.{typeOf, hasType, opens}
 use Rattle.records.specs.declared.kind.Kind.{Kind}
 use Rattle.records.specs.declared.kind.Kind.the-variants.{R14}
-use Rattle.flow.specs.Find.{recordsOf}
+use Rattle.flow.specs.Records.{RightLength, recordsOf}
 use Rattle.flow.specs.Sums.{dispositionsOf, centsOf}
 use Rattle.grammar.specs.Rules.{Printable}
 use Rattle.grammar.specs.Shape.{InOrder}
-
--- one or more whole records, 9,999,999 at the most
-abbrev pub RightLength : List ℕ → Type 0
-RightLength f = (1 ≤ length f) × (length f % 120 ≡ 0) × (length f ≤ 1199999880)
 
 -- the types of the records are those of the kinds
 abbrev pub HaveKinds : List Kind → List (List ℕ) → Type 0
@@ -44,11 +40,6 @@ contextBehind f before k =
     context (headerOf (take 120 f)) (latestCode [] before)
     (record { dispositions = dispositionsOf before + cond (opens k) 1 0; cents = centsOf before; records = suc (length before) })
 
--- each check of the list holds
-abbrev pub Hold : List Check → Type 0
-Hold [] = Unit
-Hold (check b n p ∷ cs) = (b ≡ true) × Hold cs
-
 -- the record is right behind the records `before` of the flow f
 pub record RightBehind (f : List ℕ) (before : List (List ℕ)) (rec : List ℕ) : Type 0 where
   pub kind : Kind
@@ -69,9 +60,7 @@ pub data Fault (may : Kind → Type 0) (asked : Kind → Context) (rec : List �
   -- a type that may not stand there
   wrong-type : All Printable rec → ((k : Kind) → field 2 3 rec ≡ typeOf k → ¬ may k) → Fault may asked rec 3 2
   -- a check of the table that fails, and those before it hold
-  broken :
-      (k : Kind) (held : List Check) (n p : ℕ) (others : List Check) → All Printable rec → field 2 3 rec ≡ typeOf k → may k
-      → checks k (asked k) rec ≡ held ++ (check false n p ∷ others) → Hold held → Fault may asked rec n p
+  broken : (k : Kind) (n p : ℕ) → All Printable rec → field 2 3 rec ≡ typeOf k → may k → FirstBroken (checks k (asked k) rec) n p → Fault may asked rec n p
 
 -- a fault behind the records `before` of the flow f
 abbrev pub FaultBehind : List ℕ → List (List ℕ) → List ℕ → ℕ → ℕ → Type 0
@@ -79,8 +68,8 @@ FaultBehind f before rec n p = Fault (MayFollow before) (contextBehind f before)
 
 -- the first fault of a flow, by number, record and position
 pub data FirstFault (f : List ℕ) : ℕ → ℕ → ℕ → Type 0 where
-  wrong-length : ¬ RightLength f → FirstFault f 1 0 0
+  wrong-length : ¬ RightLength (length f) → FirstFault f 1 0 0
   in-record :
-      (before : List (List ℕ)) (rec : List ℕ) (behind : List (List ℕ)) (n p : ℕ) → RightLength f → recordsOf f ≡ before ++ (rec ∷ behind)
+      (before : List (List ℕ)) (rec : List ℕ) (behind : List (List ℕ)) (n p : ℕ) → RightLength (length f) → recordsOf f ≡ before ++ (rec ∷ behind)
       → EachRight f before → FaultBehind f before rec n p → FirstFault f n (suc (length before)) p
-  still-due : RightLength f → EachRight f (recordsOf f) → ((ks : List Kind) → HaveKinds ks (recordsOf f) → ¬ InOrder ks) → FirstFault f 4 (suc (length (recordsOf f))) 0
+  still-due : RightLength (length f) → EachRight f (recordsOf f) → ((ks : List Kind) → HaveKinds ks (recordsOf f) → ¬ InOrder ks) → FirstFault f 4 (suc (length (recordsOf f))) 0

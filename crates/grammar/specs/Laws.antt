@@ -1,5 +1,5 @@
--- What is proved of reading a flow and of finding a disposition, without a word of the walk. `proofs/` has its proof under the law's name
--- in small letters. Assumes nothing.
+-- What is proved of reading a flow and of finding a disposition, against statements that know neither the walk nor a search for the
+-- first fault. `proofs/` has its proof under the law's name in small letters. Assumes nothing.
 use Prim.Native.Nat.{ℕ, suc, _+_, _-_, _≤_, _<_}
 use mathlib.Core.List.{List, [], map, flatten}
 use mathlib.Core.Logic.{_↔_, _⊎_}
@@ -11,7 +11,8 @@ use Rattle.records.specs.Field.{field}
 use Rattle.records.specs.Kinds.{typeOf}
 use Rattle.records.specs.declared.kind.Kind.the-variants.{R14}
 use Rattle.flow.specs.Find.{Located, standing, refused, dispositionsIn, find, partOf}
-use Rattle.flow.specs.Judge.{recordAt, judge}
+use Rattle.flow.specs.Judge.{judge}
+use Rattle.flow.specs.Records.{recordAt}
 use Rattle.flow.specs.Verdict.{accepted}
 use Rattle.flow.specs.Verdict.{refused as Verdict·refused}
 use Rattle.grammar.specs.Fault.{FirstFault}

@@ -7,7 +7,7 @@ use lib.Dec.{eqb}
 use lib.ListN.{length}
 use borrow.Author.Tests.{eq-eqb}
 use Rattle.fields.specs.Bytes.{isEqual}
-use Rattle.fields.proofs.Bytes.{isEqual-true}
+use Rattle.fields.proofs.Bytes.{equal-exact}
 use Rattle.records.specs.Checks.{checks}
 use Rattle.records.specs.Context.{Context}
 use Rattle.records.specs.Field.{field}
@@ -60,6 +60,17 @@ type-named Ef = refl
 pub types-differ : TypesDiffer
 types-differ k l e = sym (type-named k) ∙ ap named-any e ∙ type-named l
 
+-- the type at 2-3, as a test and as it is said
+pub type-said : (k : Kind) (rec : List ℕ) → hasType k rec ≡ true → field 2 3 rec ≡ typeOf k
+type-said k rec t = equal-exact (field 2 3 rec) (typeOf k) .0 t
+
+pub type-tested : (k : Kind) (rec : List ℕ) → field 2 3 rec ≡ typeOf k → hasType k rec ≡ true
+type-tested k rec e = equal-exact (field 2 3 rec) (typeOf k) .1 e
+
+-- a record has one type
+pub one-type : (k l : Kind) (rec : List ℕ) → hasType k rec ≡ true → hasType l rec ≡ true → k ≡ l
+one-type k l rec t u = types-differ k l (sym (type-said k rec t) ∙ type-said l rec u)
+
 -- the type of a record that opens a disposition is 14
 opens-typeOf : (k : Kind) → opens k ≡ isEqual (typeOf k) (typeOf R14)
 unfolding isEqual
@@ -76,7 +87,7 @@ opens-typeOf R70 = refl
 opens-typeOf Ef = refl
 
 pub opens-type : (k : Kind) (rec : List ℕ) → hasType k rec ≡ true → opens k ≡ hasType R14 rec
-opens-type k rec e = rw (isEqual-true (field 2 3 rec) (typeOf k) e) (opens-typeOf k)
+opens-type k rec e = rw (type-said k rec e) (opens-typeOf k)
 
 -- what an answer stands for determines it
 pub judged-determined : JudgedDetermined

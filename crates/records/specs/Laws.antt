@@ -1,10 +1,13 @@
 -- What is proved of the record rules. `proofs/` has its proof under the law's name in small letters. Assumes nothing.
 use Prim.Native.Nat.{ℕ, _<_}
+use mathlib.Core.Bool.{true}
 use mathlib.Core.List.{List}
+use mathlib.Core.Logic.{_↔_}
 use mathlib.Core.Path.{_≡_}
 use lib.ListN.{length}
+use Rattle.records.specs.Checks.{checks}
 use Rattle.records.specs.Context.{Context}
-use Rattle.records.specs.Finding.{right, refused, finding}
+use Rattle.records.specs.Finding.{right, refused, Hold, FirstBroken, inOrder, finding}
 use Rattle.records.specs.Judge.{asked, judge}
 use Rattle.records.specs.Kinds.{typeOf}
 use Rattle.records.specs.Limits.{countLimit, centsLimit, stopped}
@@ -19,6 +22,18 @@ TypesDiffer = (k l : Kind) → typeOf k ≡ typeOf l → k ≡ l
 -- a record that is right is of the kind that it was judged as, and asks for that kind's cents
 abbrev pub RightAsked : Type 0
 RightAsked = (k l : Kind) (ctx : Context) (rec : List ℕ) (c : ℕ) → judge k ctx rec ≡ right l c → (k ≡ l) × (c ≡ asked k rec)
+
+-- the checks of every kind stand in the order of document 01: rising position, and for one field 5 before what compares its digits
+abbrev pub ChecksInOrder : Type 0
+ChecksInOrder = (k : Kind) (ctx : Context) (rec : List ℕ) → inOrder (checks k ctx rec) ≡ true
+
+-- a record is right exactly where each check of its kind holds
+abbrev pub RightExact : Type 0
+RightExact = (k : Kind) (ctx : Context) (rec : List ℕ) → length rec ≡ 120 → (judge k ctx rec ≡ right k (asked k rec)) ↔ Hold (checks k ctx rec)
+
+-- and refused exactly by the first that fails
+abbrev pub BrokenExact : Type 0
+BrokenExact = (k : Kind) (ctx : Context) (rec : List ℕ) (n p : ℕ) → length rec ≡ 120 → (judge k ctx rec ≡ refused n p) ↔ FirstBroken (checks k ctx rec) n p
 
 -- number 1 is given to a record for its length alone
 abbrev pub OneForLength : Type 0

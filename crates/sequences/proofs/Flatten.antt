@@ -1,10 +1,11 @@
 -- Lists joined to one. Assumes nothing.
-use Prim.Native.Nat.{ℕ, zero, suc, _≤_, _<_}
+use Prim.Native.Nat.{ℕ, zero, suc, _+_, _≤_, _<_}
 use mathlib.Core.List.{List, [], _∷_, _++_, append-nil, append-assoc, map, map-append, flatten}
 use mathlib.Core.Path.{_≡_, refl, sym, _∙_, ap}
 use native.Mathlib.Nat.{le-of-suc-le-suc, not-suc-le-zero}
 use native.Mathlib.Omega.{arith}
 use lib.ListN.{length, take, getD, length-append}
+use Rattle.sequences.specs.Sum.{sum}
 
 pub flatten-append : {A : Type 0} (xss yss : List (List A)) → flatten (xss ++ yss) ≡ flatten xss ++ flatten yss
 unfolding flatten
@@ -37,3 +38,9 @@ flatten-taken [] (suc k) = omega arith
 flatten-taken (x ∷ xs) (suc k) =
     let rest = flatten-taken xs k in
     rw (length-append, length-append) (omega arith)
+
+-- as many elements as the lists have together
+pub flatten-count : {A : Type 0} (xss : List (List A)) → length (flatten xss) ≡ sum (map (λ (xs : List A). length xs) xss)
+unfolding flatten
+flatten-count [] = refl
+flatten-count (xs ∷ xss) = length-append xs (flatten xss) ∙ ap (λ (n : ℕ). length xs + n) (flatten-count xss)

@@ -1,9 +1,9 @@
 //! Named cases for where disposition k is (document 01, "Questions and
 //! changes"): a flow, and the numbers asked of it.
 //!
-//! In the right flows the dispositions differ in length and amount, and text
-//! that reads as a record 14 or EF stands where none is. The refused flows
-//! hold whole dispositions before their fault, so that an answer from a flow
+//! Among the right flows are dispositions of every length and order, and text
+//! that reads as a record 14 or EF where none is. Most of the refused flows
+//! hold a whole disposition before their fault, so that an answer from a flow
 //! that was not read to its end would be told.
 
 use crate::fields::{write_digits, MAX_AMOUNT};
@@ -49,7 +49,7 @@ const LARGE: [u64; 13] = [
 ];
 
 /// What is asked of a refused flow of at most two dispositions.
-const ASKED_IN_VAIN: [u64; 4] = [0, 1, 3, u64::MAX];
+const ASKED_OF_REFUSED: [u64; 5] = [0, 1, 2, 3, u64::MAX];
 
 /// A disposition, by those of its records that differ from one to another.
 type Variant = &'static str;
@@ -168,7 +168,7 @@ impl Cases {
 
     /// Flows that end too early.
     fn cut(&mut self) {
-        let asked = ASKED_IN_VAIN.to_vec();
+        let asked = ASKED_OF_REFUSED.to_vec();
         self.push("no byte", Vec::new(), asked.clone());
         for (name, types) in CUT {
             self.push(name, Flow::of(types).bytes(), asked.clone());
@@ -188,10 +188,10 @@ impl Cases {
     fn refused(&mut self) {
         for (name, changes) in FAULTS {
             let flow = Flow::of(TWO).with_all(changes);
-            self.push(name, flow.bytes(), ASKED_IN_VAIN.to_vec());
+            self.push(name, flow.bytes(), ASKED_OF_REFUSED.to_vec());
         }
         let flow = Flow::of(AND_14);
-        self.push("14 after EF", flow.bytes(), ASKED_IN_VAIN.to_vec());
+        self.push("14 after EF", flow.bytes(), ASKED_OF_REFUSED.to_vec());
     }
 }
 

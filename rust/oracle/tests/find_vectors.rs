@@ -17,7 +17,8 @@
 //! - a 14 or EF looked for at other positions than 2-3, or with a blank before
 //!   it: the look-alikes;
 //! - an answer before the flow is read to its end, or 15 before the reader's
-//!   refusal: the flows cut or refused, whose first disposition is whole;
+//!   refusal: the flows cut or refused, of most of which the first disposition
+//!   is whole;
 //! - a refusal's part that is not empty: the 0 at the end of its line.
 
 use std::collections::HashSet;
@@ -271,7 +272,7 @@ fn every_answer_is_the_one_written_by_hand() {
     for (case, (name, answer)) in refused.iter().zip(REFUSED) {
         assert_eq!((case.name, case.answer), (name, answer));
         let line = format!("{answer} part 0");
-        let due = [0, 1, 3, MAX].map(|k| (k, line.as_str()));
+        let due = [0, 1, 2, 3, MAX].map(|k| (k, line.as_str()));
         assert_eq!(case.asked, due, "{name}");
     }
 }
@@ -312,7 +313,7 @@ fn the_input_gives_back_the_flows() {
             case.name
         );
     }
-    assert!(input.contains("# find: no byte\n=\n?0\n?1\n?3\n?18446744073709551615\n"));
+    assert!(input.contains("# find: no byte\n=\n?0\n?1\n?2\n?3\n?18446744073709551615\n"));
 }
 
 /// One file holds both kinds of cases, and fits the program that reads it.

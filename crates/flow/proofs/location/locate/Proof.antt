@@ -25,11 +25,11 @@ found c = getD (dispositionsIn (c .before .before .args .flow .now)) (c .before 
 stood : (c : tie.After-start-of) → Disposition (c .before .before .args .flow .now) (c .start-of .result) (found c)
 stood c = rw (c .start-of .ensures) (disposition-stands (c .before .before .args .flow .now) (c .before .before .args .k) (c .before .before .pre))
 
-add-opening : tie.Need-add-opening
-add-opening c = let within = stood c .within in omega arith
+add-next-opening : tie.Need-add-next-opening
+add-next-opening c = let within = stood c .within in omega arith
 
-opening-requires : tie.Need-opening-requires
-opening-requires c κs = accepted-length _ (c .before .before .pre .read) .0
+next-opening-requires : tie.Need-next-opening-requires
+next-opening-requires c κs = accepted-length _ (c .before .before .pre .read) .0
 
 mul-amount : tie.Need-mul-amount
 mul-amount c = let within = stood (c .before) .within in omega arith
@@ -77,7 +77,7 @@ returns c =
     let d = stood start in
     let records = found start in
     let first : c .before .count .result ≡ suc (startsAt (dispositionsIn f) (start .before .before .args .k)) = c .before .count .ensures ∙ add-one at ∙ ap suc (start .start-of .ensures) in
-    let end : c .before .before .before .before .opening .result ≡ at + length records = c .before .before .before .before .opening .ensures ∙ d .next in
+    let end : c .before .before .before .before .next-opening .result ≡ at + length records = c .before .before .before .before .next-opening .ensures ∙ d .next in
     let size : c .count2 .result ≡ length records = c .count2 .ensures ∙ omega arith in
     let cents : c .before .before .amount .result ≡ number (field 34 46 (getD records 0 [])) = c .before .before .amount .ensures ∙ ap (λ (r : List ℕ). number (field 34 46 r)) (record-part at f ∙ sym (d .opening)) in
     λ i. standing (first i) (size i) (cents i)
@@ -87,8 +87,8 @@ locate-spec =
     tie.close
     (tie.spec
     start-of-requires
-    add-opening
-    opening-requires
+    add-next-opening
+    next-opening-requires
     mul-amount
     mul-amount-2
     add-amount

@@ -25,14 +25,14 @@ stands c =
     let below = s .within in
     record { dispositions = s .dispositions; cents = s .cents; records = s .records; read = s .read; some = c .loop .inv .0; within = omega arith }
 
-add-opening : tie.Need-add-opening Inv-loop μ-loop
-add-opening c =
+add-next-opening : tie.Need-add-next-opening Inv-loop μ-loop
+add-next-opening c =
     let d = disposition-stands _ _ (stands (c .before)) in
     let within = d .within in
     omega arith
 
-opening-requires : tie.Need-opening-requires Inv-loop μ-loop
-opening-requires c κs = accepted-length _ (c .before .before .before .pre .read) .0
+next-opening-requires : tie.Need-next-opening-requires Inv-loop μ-loop
+next-opening-requires c κs = accepted-length _ (c .before .before .before .pre .read) .0
 
 add-j : tie.Need-add-j Inv-loop μ-loop
 add-j c = omega arith
@@ -46,7 +46,7 @@ loop-again c =
     let f = at .before .before .args .flow .now in
     let s = stands at in
     let on : openingFrom f (at .loop .at + 1) ≡ startsAt (dispositionsIn f) (at .loop .j + 1) = ap (λ (i : ℕ). openingFrom f (i + 1)) (at .loop .inv .2) ∙ disposition-stands f (at .loop .j) s .next ∙ sym (starts-next f (at .loop .j) s) in
-    (omega arith, omega arith, c .opening .ensures ∙ on)
+    (omega arith, omega arith, c .next-opening .ensures ∙ on)
 
 returns : tie.Need-returns Inv-loop μ-loop
 returns c =
@@ -60,8 +60,8 @@ start-of-spec =
     Inv-loop
     μ-loop
     loop-holds
-    add-opening
-    opening-requires
+    add-next-opening
+    next-opening-requires
     add-j
     loop-less
     loop-again

@@ -5,7 +5,8 @@ use native.Mathlib.Omega.{arith}
 use lib.ListN.{length}
 use borrow.Author.Needs.{needs}
 use borrow.Author.Tests.{not-true, not-false}
-use Rattle.flow.specs.Judge.{isLength, judge}
+use Rattle.flow.specs.Judge.{judge}
+use Rattle.flow.specs.Records.{isLength}
 use Rattle.flow.proofs.Lengths.{length-said}
 use Rattle.flow.proofs.reader.read.Statement.{statement}
 use Rattle.flow.proofs.reader.read.Tie as tie

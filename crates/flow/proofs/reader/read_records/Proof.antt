@@ -9,7 +9,7 @@ use borrow.Author.Needs.{needs}
 use Rattle.sequences.specs.Part.{part}
 use Rattle.records.specs.Context.{headed}
 use Rattle.records.specs.Finding.{finding}
-use Rattle.flow.specs.Judge.{recordAt}
+use Rattle.flow.specs.Records.{recordAt}
 use Rattle.flow.specs.Steps.{judgeRecord}
 use Rattle.flow.proofs.Lengths.{length-said}
 use Rattle.flow.proofs.Cut.{record-part}

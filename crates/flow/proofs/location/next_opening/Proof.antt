@@ -1,4 +1,4 @@
--- `flow::opening` meets its contract: behind each record that is no 14, the first one from there on is the first of all. Assumes nothing.
+-- `flow::next_opening` meets its contract: behind each record that is no 14, the first one from there on is the first of all. Assumes nothing.
 use Prim.Native.Nat.{_+_, _-_}
 use mathlib.Core.Bool.{cond}
 use mathlib.Core.Path.{_≡_, refl, sym, _∙_, ap}
@@ -8,11 +8,11 @@ use borrow.Author.Needs.{needs}
 use Rattle.records.specs.Kinds.{hasType}
 use Rattle.records.specs.declared.kind.Kind.the-variants.{R14}
 use Rattle.flow.specs.Find.{openingFrom}
-use Rattle.flow.specs.Judge.{recordAt}
+use Rattle.flow.specs.Records.{recordAt}
 use Rattle.flow.proofs.Dispositions.{opening-next, opening-end}
 use Rattle.flow.proofs.Cut.{record-part}
-use Rattle.flow.proofs.location.opening.Statement.{statement}
-use Rattle.flow.proofs.location.opening.Tie as tie
+use Rattle.flow.proofs.location.next_opening.Statement.{statement}
+use Rattle.flow.proofs.location.next_opening.Tie as tie
 
 abbrev Inv-loop : tie.InvT-loop
 Inv-loop flow from trailer i₀ i = openingFrom flow i ≡ openingFrom flow from
@@ -73,8 +73,8 @@ loop-again c = rw (c .if1 .left) at (sym (decides (c .before)))
 returns-2 : tie.Need-returns-2 Inv-loop μ-loop
 returns-2 c = sym (opening-end (c .before .before .before .args .flow .now) (c .before .loop .i) (omega arith)) ∙ c .before .loop .inv
 
-pub opening-spec : {M : Type 1} → statement M
-opening-spec =
+pub next-opening-spec : {M : Type 1} → statement M
+next-opening-spec =
     tie.close
     (tie.spec
     Inv-loop
