@@ -128,7 +128,7 @@ record-in-front d m k ks i = go d i
     go OnlyR30 (inl e) = is R30 OnlyR30 e (from-reasons R30 (R40 ∷ []))
     go OnlyR40 (inl e) = is R40 OnlyR40 e (from-reasons R40 [])
     go R50OrR59 (inl e) = is R50 R50OrR59 e (λ l. (R50 ∷ [], l .0, one-50, l .1, cons R50 (l .2)))
-    go R50OrR59 (inr (inl e)) = is R59 R50OrR59 e (λ l. let o = further m ks (ltb m 4) refl l in (replicate (suc (o .0)) R59, o .1, some-59 (suc (o .0)) (omega arith) (o .2), o .4, o .5))
+    go R50OrR59 (inr (inl e)) = is R59 R50OrR59 e (λ l. let o = further m ks (ltb m 4) refl l in (replicate (suc (o .0)) R59, o .1, some-59 (suc (o .0)) (omega arith) (omega (arith, o .2)), o .4, o .5))
     go R59OrR51 (inl e) = is R59 R59OrR51 e (λ l few. let o = further m ks (ltb m 4) refl l in (suc (o .0), o .1, o .3 few, o .4, o .5))
     go R59OrR51 (inr (inl e)) = is R51 R59OrR51 e (λ l few. (0, l .0, omega arith, l .1, cons R51 (l .2)))
     go OnlyR51 (inl e) = is R51 OnlyR51 e (λ l. (l .0, l .1, cons R51 (l .2)))
