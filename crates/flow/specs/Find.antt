@@ -60,7 +60,7 @@ bytesAt (refused n r p) f = []
 abbrev pub partOf : List ℕ → ℕ → List ℕ
 partOf f k = bytesAt (find f k) f
 
--- disposition k stands in the flow f, which is accepted
+-- For the contracts of private functions: disposition k stands in the flow f, which is accepted
 pub record Stands (f : List ℕ) (k : ℕ) : Type 0 where
   pub dispositions : ℕ
   pub cents : ℕ
@@ -69,7 +69,7 @@ pub record Stands (f : List ℕ) (k : ℕ) : Type 0 where
   pub some : 1 ≤ k
   pub within : k ≤ dispositions
 
--- the index of the first 14 at index i of f's records or behind it, or of the trailer where there is none; and i itself where it is
+-- and the index of the first 14 at index i of f's records or behind it, or of the trailer where there is none; and i itself where it is
 -- behind the trailer
 abbrev pub openingFrom : List ℕ → ℕ → ℕ
 openingFrom f i = i + length (lead (hasType R14) (drop i (dropLast (recordsOf f))))

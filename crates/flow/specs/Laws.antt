@@ -1,4 +1,5 @@
--- What is proved of reading a flow and of asking where a disposition is. `proofs/` has its proof under the law's name in small letters. Assumes nothing.
+-- What is proved of reading a flow and of asking where a disposition is. `proofs/` has its proof under the law's name in small letters.
+-- Assumes nothing.
 use Prim.Native.Nat.{ℕ, _*_, _≤_, _<_}
 use mathlib.Core.List.{List}
 use mathlib.Core.Logic.{_↔_, _⊎_}

@@ -10,19 +10,17 @@ use lib.ListN.{length, take, length-map}
 use Rattle.sequences.proofs.All.{all-at}
 use Rattle.sequences.proofs.Map.{map-split}
 use Rattle.records.specs.Checks.{checks}
-use Rattle.records.specs.Context.{Header, Context, headerOf}
+use Rattle.records.specs.Context.{Context, headerOf}
 use Rattle.records.specs.Finding.{Hold, FirstBroken}
-use Rattle.records.specs.Judge.{asked}
 use Rattle.records.specs.Kinds.{typeOf, opens}
 use Rattle.records.specs.declared.kind.Kind.{Kind}
 use Rattle.records.proofs.ByKind.{types-differ}
 use Rattle.records.proofs.FirstFault.{right-not-refused}
 use Rattle.flow.specs.Order.{permitted, place}
-use Rattle.flow.specs.Steps.{start, step, latest}
+use Rattle.flow.specs.Steps.{start}
 use Rattle.flow.specs.Sums.{dispositionsOf, centsOf}
 use Rattle.flow.specs.declared.order.Due.the-variants.{OnlyIm}
 use Rattle.flow.specs.declared.order.Place.{Place}
-use Rattle.flow.specs.declared.walk.Walk.{Walk}
 use Rattle.flow.proofs.Cut.{Whole}
 use Rattle.flow.proofs.Among.{In}
 use Rattle.grammar.specs.Fault.{HaveKinds, MayFollow, contextBehind, RightBehind, EachRight, Fault, FaultBehind, bad-byte, wrong-type, broken}
@@ -30,7 +28,7 @@ use Rattle.grammar.specs.Grammar.{Typed, kindsOf, recordsIn}
 use Rattle.grammar.specs.Shape.{InOrder}
 use Rattle.grammar.proofs.AtPlace.{asks, May, RightAt, FaultAt, right-judged, fault-judged}
 use Rattle.grammar.proofs.Order.{placeBehind, may-go-on, went-on}
-use Rattle.grammar.proofs.Walked.{stateBehind, codeBehind, Walked, walked-append, walked-allowed, state-place, Outcome, all-right, stops, outcome, state-counts}
+use Rattle.grammar.proofs.Walked.{stateBehind, codeBehind, Walked, walked-append, walked-allowed, AllFormed, walked-formed, state-place, Outcome, all-right, stops, outcome, state-counts}
 
 -- types tell their kinds
 kinds-differ : (ks ls : List Kind) → map typeOf ks ≡ map typeOf ls → ks ≡ ls
@@ -42,11 +40,11 @@ kinds-differ (k ∷ ks) (l ∷ ls) e =
     let rest = kinds-differ ks ls (tail-eq-of-cons-eq e) in
     cc
 
-pub have-kinds : (h : Header) (w : Walk) (code : List ℕ) (i : ℕ) (rs : List Typed) → Walked h w code i rs → HaveKinds (kindsOf rs) (recordsIn rs)
-have-kinds h w code i [] walked = refl
-have-kinds h w code i (r ∷ rs) walked =
-    let one = walked .0 .formed .type in
-    let rest = have-kinds h (step w (r .kind) (asked (r .kind) (r .bytes))) (latest (r .kind) code (r .bytes)) (suc i) rs (walked .1) in
+pub have-kinds : (rs : List Typed) → AllFormed rs → HaveKinds (kindsOf rs) (recordsIn rs)
+have-kinds [] formed = refl
+have-kinds (r ∷ rs) formed =
+    let one = formed .0 .type in
+    let rest = have-kinds rs (formed .1) in
     cc
 
 -- a fault where the same kinds may stand and are asked the same
@@ -70,15 +68,18 @@ abbrev pub FaultNext : List ℕ → List Typed → List ℕ → ℕ → ℕ → 
 FaultNext f rs rec n p = FaultAt (headerOf (take 120 f)) (stateBehind start rs) (codeBehind [] rs) (suc (0 + length rs)) rec n p
 
 module _ (f : List ℕ) (rs : List Typed) (walked : FromStart f rs) where
+  pub formed-so : AllFormed rs
+  formed-so = walked-formed (headerOf (take 120 f)) start [] 0 rs walked
+
   -- the kinds of the records are those that their types name
   pub same-kinds : (ks : List Kind) → HaveKinds ks (recordsIn rs) → ks ≡ kindsOf rs
-  same-kinds ks e = kinds-differ ks (kindsOf rs) (e ∙ sym (have-kinds (headerOf (take 120 f)) start [] 0 rs walked))
+  same-kinds ks e = kinds-differ ks (kindsOf rs) (e ∙ sym (have-kinds rs formed-so))
 
   pub may-follow : (k : Kind) → May (stateBehind start rs) k → MayFollow (recordsIn rs) k
   may-follow k may =
       let here : In k (permitted (placeBehind (place OnlyIm) (kindsOf rs) .due)) = subst (λ (p : Place). In k (permitted (p .due))) (state-place start rs) may in
       let goes = may-go-on (kindsOf rs) k (walked-allowed (headerOf (take 120 f)) start [] 0 rs walked) here in
-      record { kinds = kindsOf rs; rest = goes .0; have = have-kinds (headerOf (take 120 f)) start [] 0 rs walked; order = goes .1 }
+      record { kinds = kindsOf rs; rest = goes .0; have = have-kinds rs formed-so; order = goes .1 }
 
   pub follows-may : (k : Kind) → MayFollow (recordsIn rs) k → May (stateBehind start rs) k
   follows-may k follow =
@@ -87,7 +88,7 @@ module _ (f : List ℕ) (rs : List Typed) (walked : FromStart f rs) where
 
   context-behind : (k : Kind) → asks (headerOf (take 120 f)) (stateBehind start rs) (codeBehind [] rs) (suc (0 + length rs)) k ≡ contextBehind f (recordsIn rs) k
   context-behind k =
-      let counts = state-counts (headerOf (take 120 f)) start [] 0 rs walked in
+      let counts = state-counts start [] rs formed-so in
       let opened : ℕ = cond (opens k) 1 0 in
       let dispositions : stateBehind start rs .dispositions + opened ≡ dispositionsOf (recordsIn rs) + opened = omega arith in
       let cents : stateBehind start rs .cents ≡ centsOf (recordsIn rs) = omega arith in

@@ -24,7 +24,7 @@ use Rattle.grammar.specs.Fault.{HaveKinds, EachRight, FaultBehind, First
 use Rattle.grammar.specs.Grammar.{Typed, kindsOf, recordsIn}
 use Rattle.grammar.specs.Laws.{FirstFaultExact}
 use Rattle.grammar.specs.Shape.{InOrder}
-use Rattle.grammar.proofs.Behind.{have-kinds, FromStart, FaultNext, same-kinds, fault-behind, fault-next, walked-of, each-of}
+use Rattle.grammar.proofs.Behind.{have-kinds, FromStart, formed-so, FaultNext, same-kinds, fault-behind, fault-next, walked-of, each-of}
 use Rattle.grammar.proofs.Order.{order-sound, order-runs}
 use Rattle.grammar.proofs.Walked.{stateBehind, codeBehind, walked-allowed, state-place, go-behind, go-stops, Outcome, all-right, stops, outcome}
 
@@ -119,7 +119,7 @@ fault-refused f n r p (still-due sized each none) =
     let rs = walked .0 in
     let count : suc (length rs) ≡ suc (length (recordsOf f)) = ap suc (sym (length-map rs (λ (x : Typed). x .bytes))) ∙ ap (λ (l : List (List ℕ)). suc (length l)) (walked .1) in
     judged f sized ∙ ap (judgeFrom f) (sym (walked .1)) ∙ ends-so f rs (walked .2)
-    ∙ due-refused (stateBehind start rs) (length rs) (λ e. none (kindsOf rs) (subst (HaveKinds (kindsOf rs)) (walked .1) (have-kinds (headerOf (take 120 f)) start [] 0 rs (walked .2))) (complete-order f rs (walked .2) e))
+    ∙ due-refused (stateBehind start rs) (length rs) (λ e. none (kindsOf rs) (subst (HaveKinds (kindsOf rs)) (walked .1) (have-kinds rs (formed-so f rs (walked .2)))) (complete-order f rs (walked .2) e))
     ∙ ap (λ (x : ℕ). refused 4 x 0) count
 
 pub first-fault-exact : FirstFaultExact

@@ -15,14 +15,13 @@ use Rattle.records.specs.Checks.{checks}
 use Rattle.records.specs.Context.{Header, headerOf}
 use Rattle.records.specs.Field.{field}
 use Rattle.records.specs.Finding.{Hold}
-use Rattle.records.specs.Judge.{asked}
 use Rattle.records.specs.declared.kind.Kind.{Kind}
 use Rattle.records.specs.declared.kind.Kind.the-variants.{Im, Ef}
 use Rattle.records.proofs.Rows.{field-length}
 use Rattle.flow.specs.Judge.{ended, judge}
 use Rattle.flow.specs.Records.{RightLength, recordsOf}
 use Rattle.flow.specs.Order.{place}
-use Rattle.flow.specs.Steps.{start, step, latest}
+use Rattle.flow.specs.Steps.{start, step}
 use Rattle.flow.specs.Verdict.{Verdict, accepted, refused}
 use Rattle.flow.specs.declared.order.Due.the-variants.{OnlyR14}
 use Rattle.flow.specs.declared.order.Place.{Place}
@@ -44,7 +43,7 @@ use Rattle.grammar.proofs.Dispositions.{InShape, numbered-shape, dispos
 use Rattle.grammar.proofs.FirstFault.{judgeFrom, judged, whole-records, ends-so, stops-so, complete-order, order-complete, first-fault-exact}
 use Rattle.grammar.proofs.Order.{Allowed, allowed-before, allowed-behind, order-runs}
 use Rattle.grammar.proofs.Rules.{digits-exact, header-rules, trailer-rules}
-use Rattle.grammar.proofs.Walked.{stateBehind, codeBehind, Walked, walked-append, state-append, state-place, Outcome, all-right, stops, outcome}
+use Rattle.grammar.proofs.Walked.{stateBehind, codeBehind, Walked, walked-append, walked-formed, formed-whole, state-append, state-place, Outcome, all-right, stops, outcome}
 
 -- records in the order of a flow are a header, dispositions and a trailer
 pub record TakenApart (rs : List Typed) : Type 0 where
@@ -217,11 +216,6 @@ grammar-of f d c n e =
     at-outcome f d c n (length-said (length f) (read .0)) refl (whole-records f) (outcome (headerOf (take 120 f)) start [] 0 (recordsOf f) (whole-records f)) (read .1)
 
 -- from the grammar to the answer
-walked-whole : (h : Header) (w : Walk) (code : List ℕ) (i : ℕ) (rs : List Typed) → Walked h w code i rs → Whole (recordsIn rs)
-walked-whole h w code i [] walked = tt
-walked-whole h w code i (r ∷ rs) walked =
-    (walked .0 .formed .whole, walked-whole h (step w (r .kind) (asked (r .kind) (r .bytes))) (latest (r .kind) code (r .bytes)) (suc i) rs (walked .1))
-
 -- the trailer counts at most 9,999,999 records
 few-records : (p : Parts) → Right p → recordCount p < 10000000
 few-records p r =
@@ -239,7 +233,7 @@ module _ (f : List ℕ) (d c n : ℕ) (g : Grammar f d c n) where
   grammar-walked = parts-exact (g .parts) (g .right .some) grammar-shape .1 (g .right)
 
   pub grammar-whole : Whole (recordsIn (typedOf (g .parts)))
-  grammar-whole = walked-whole (headerOf (g .parts .header)) start [] 0 (typedOf (g .parts)) grammar-walked
+  grammar-whole = formed-whole (typedOf (g .parts)) (walked-formed (headerOf (g .parts .header)) start [] 0 (typedOf (g .parts)) grammar-walked)
 
   pub grammar-bytes : flatten (recordsIn (typedOf (g .parts))) ≡ f
   grammar-bytes = parts-joined (g .parts) ∙ g .bytes

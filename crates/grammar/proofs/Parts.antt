@@ -238,10 +238,12 @@ opening-exact f k first records cents e =
     let less : k - 1 < length ds = omega (arith, g .dispositions) in
     let told = standing-same (found .1) in
     let start : startsAt (dispositionsIn f) k ≡ first - 1 = omega (arith, told .0) in
-    let own : getD (getD (dispositionsIn f) (k - 1) []) 0 [] ≡ opening (getD ds (k - 1) []) =
-    ap (λ (l : List (List (List ℕ))). getD (getD l (k - 1) []) 0 []) (dispositions-exact f (s .dispositions) (s .cents) (s .records) g) ∙ ap (λ (l : List (List ℕ)). getD l 0 []) (List·getD-map recordsIn ds (k - 1) []) in
+    let same = dispositions-exact f (s .dispositions) (s .cents) (s .records) g in
+    let own : getD (getD (dispositionsIn f) (k - 1) []) 0 [] ≡ opening (getD ds (k - 1) []) = ap (λ (l : List (List (List ℕ))). getD (getD l (k - 1) []) 0 []) same ∙ ap (λ (l : List (List ℕ)). getD l 0 []) (List·getD-map recordsIn ds (k - 1) []) in
     let here : opening (getD ds (k - 1) []) ≡ recordAt (first - 1) f = sym own ∙ disposition-stands f k s .opening ∙ ap (λ (m : ℕ). recordAt m f) start in
     let one : 1 + (k - 1) ≡ k = omega arith in
     let says = opening-says abi (1 + (k - 1)) (getD ds (k - 1) []) (numbered-at abi 1 ds (k - 1) less (g .right .each)) in
     let amount = ap (λ (r : List ℕ). number (field 34 46 r)) (sym here ∙ sym own) ∙ sym (told .2) in
-    (ap (field 2 3) (sym here) ∙ says .0, subst (λ (m : ℕ). Says m (field 4 10 (recordAt (first - 1) f))) one (subst (λ (r : List ℕ). Says (1 + (k - 1)) (field 4 10 r)) here (says .1)), (subst (λ (r : List ℕ). Digits (field 34 46 r)) here (says .2), amount))
+    let number-said = subst (λ (r : List ℕ). Says (1 + (k - 1)) (field 4 10 r)) here (says .1) in
+    let digits = subst (λ (r : List ℕ). Digits (field 34 46 r)) here (says .2) in
+    (ap (field 2 3) (sym here) ∙ says .0, subst (λ (m : ℕ). Says m (field 4 10 (recordAt (first - 1) f))) one number-said, (digits, amount))

@@ -6,6 +6,7 @@ use mathlib.Core.Logic.{_↔_, inl, inr}
 use mathlib.Core.Path.{_≡_, refl, sym, _∙_, ap, subst}
 use native.Mathlib.Omega.{arith}
 use lib.ListN.{length}
+use Rattle.sequences.specs.All.{All}
 use Rattle.fields.specs.Digits.{number}
 use Rattle.records.specs.Checks.{isPresent}
 use Rattle.records.specs.Context.{Header}
@@ -23,6 +24,7 @@ use Rattle.flow.specs.declared.walk.Walk.{Walk}
 use Rattle.flow.proofs.Cut.{Whole}
 use Rattle.grammar.specs.Fault.{latestCode}
 use Rattle.grammar.specs.Grammar.{Typed, kindsOf, recordsIn}
+use Rattle.grammar.specs.Rules.{Formed}
 use Rattle.grammar.proofs.AtPlace.{RightAt, FaultAt, Judgement, right-judged, fault-judged, judgement}
 use Rattle.grammar.proofs.Order.{placeBehind, Allowed}
 
@@ -67,6 +69,18 @@ state-append w (b ∷ bs) cs = state-append (step w (b .kind) (asked (b .kind) (
 pub walked-allowed : (h : Header) (w : Walk) (code : List ℕ) (i : ℕ) (rs : List Typed) → Walked h w code i rs → Allowed (w .place) (kindsOf rs)
 walked-allowed h w code i [] r = tt
 walked-allowed h w code i (x ∷ rs) r = (r .0 .may, walked-allowed h (step w (x .kind) (asked (x .kind) (x .bytes))) (latest (x .kind) code (x .bytes)) (suc i) rs (r .1))
+
+-- and has the form of its kind
+abbrev pub AllFormed : List Typed → Type 0
+AllFormed rs = All (λ (r : Typed). Formed (r .kind) (r .bytes)) rs
+
+pub walked-formed : (h : Header) (w : Walk) (code : List ℕ) (i : ℕ) (rs : List Typed) → Walked h w code i rs → AllFormed rs
+walked-formed h w code i [] r = tt
+walked-formed h w code i (x ∷ rs) r = (r .0 .formed, walked-formed h (step w (x .kind) (asked (x .kind) (x .bytes))) (latest (x .kind) code (x .bytes)) (suc i) rs (r .1))
+
+pub formed-whole : (rs : List Typed) → AllFormed rs → Whole (recordsIn rs)
+formed-whole [] formed = tt
+formed-whole (r ∷ rs) formed = (formed .0 .whole, formed-whole rs (formed .1))
 
 pub state-place : (w : Walk) (rs : List Typed) → stateBehind w rs .place ≡ placeBehind (w .place) (kindsOf rs)
 state-place w [] = refl
@@ -121,15 +135,15 @@ outcome h w code i (rec ∷ recs) whole =
 
 -- what the walk carries behind records is what they say themselves
 pub state-counts :
-    (h : Header) (w : Walk) (code : List ℕ) (i : ℕ) (rs : List Typed) → Walked h w code i rs
+    (w : Walk) (code : List ℕ) (rs : List Typed) → AllFormed rs
     → (stateBehind w rs .dispositions ≡ w .dispositions + dispositionsOf (recordsIn rs)) × (stateBehind w rs .cents ≡ w .cents + centsOf (recordsIn rs)) × (codeBehind code rs ≡ latestCode code (recordsIn rs))
 unfolding dispositionsOf centsOf latestCode
-state-counts h w code i [] walked = (omega arith, omega arith, refl)
-state-counts h w code i (r ∷ rs) walked =
+state-counts w code [] formed = (omega arith, omega arith, refl)
+state-counts w code (r ∷ rs) formed =
     let k = r .kind in
     let rec = r .bytes in
-    let opens-so : opens k ≡ hasType R14 rec = opens-type k rec (type-tested k rec (walked .0 .formed .type)) in
-    let rest = state-counts h (step w k (asked k rec)) (latest k code rec) (suc i) rs (walked .1) in
+    let opens-so : opens k ≡ hasType R14 rec = opens-type k rec (type-tested k rec (formed .0 .type)) in
+    let rest = state-counts (step w k (asked k rec)) (latest k code rec) rs (formed .1) in
     let count : opened k ≡ cond (hasType R14 rec) 1 0 = ap (λ (b : Bool). cond b 1 0) opens-so in
     let cents : asked k rec ≡ cond (hasType R14 rec) (number (field 34 46 rec)) 0 = ap (λ (b : Bool). cond b (number (field 34 46 rec)) 0) opens-so in
     let latest-code : latest k code rec ≡ cond (hasType R14 rec && isPresent (field 92 96 rec)) (field 92 96 rec) code = ap (λ (b : Bool). cond (b && isPresent (field 92 96 rec)) (field 92 96 rec) code) opens-so in

@@ -33,7 +33,7 @@ RightOrFaulty =
     (f : List ℕ) → let right = (d c n : ℕ) × Grammar f d c n in let faulty = (n r p : ℕ) × FirstFault f n r p in
     (right ⊎ faulty) × ¬ (right × faulty)
 
--- the dispositions that are found in a flow are those of the grammar, which has no other way to take it apart
+-- the dispositions that are found in a flow are those of the grammar, however that takes it apart
 abbrev pub DispositionsExact : Type 0
 DispositionsExact = (f : List ℕ) (d c n : ℕ) (g : Grammar f d c n) → dispositionsIn f ≡ map recordsIn (g .parts .dispositions)
 

@@ -1,5 +1,5 @@
 //! The cases of `oracle vectors flow` for where a disposition is, against
-//! answers written by hand from document 01.
+//! literal answers from document 01.
 //!
 //! What the lines below would catch:
 //! - k counted from 0, k = 0 taken for 1, k cut to 8, 16 or 32 bits or taken as
@@ -245,7 +245,7 @@ fn due_of_36() -> Vec<(u64, String)> {
 }
 
 #[test]
-fn every_answer_is_the_one_written_by_hand() {
+fn every_answer_is_the_literal_one() {
     let (input, output) = find_files();
     let given = given(&input, &output);
     assert_eq!(given.len(), FOUND.len() + 1 + REFUSED.len());

@@ -2,7 +2,7 @@
 use Prim.Native.Nat.{ℕ}
 use mathlib.Core.Bool.{_&&_}
 use mathlib.Core.List.{List}
-use mathlib.Core.Path.{_≡_, sym, _∙_, ap}
+use mathlib.Core.Path.{_≡_, refl, sym, _∙_, ap}
 use lib.Dec.{leb}
 use borrow.Author.Needs.{needs}
 use borrow.Author.Tests.{not-true, not-false}
@@ -44,7 +44,7 @@ module _ (c : tie.After-is-number) where
 
 returns : tie.Need-returns
 unfolding find
-returns c = rw (read (c .before), tested (c .before) ∙ not-true _ (c .if1 .taken))
+returns c = rw (read (c .before), tested (c .before) ∙ not-true _ (c .if1 .taken)) refl
 
 locate-requires : tie.Need-locate-requires
 locate-requires c κs = stands _ _ (read (c .before)) (tested (c .before) ∙ not-false _ (c .if1 .left))
