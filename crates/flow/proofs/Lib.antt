@@ -2,6 +2,7 @@ pub mod Accepted
 pub mod Among
 pub mod Cut
 pub mod Dispositions
+pub mod EachDue
 pub mod Exact
 pub mod Examples
 pub mod Lengths

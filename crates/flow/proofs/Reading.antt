@@ -1,63 +1,84 @@
 -- The loop over the records of a flow: behind each right record, what is left decides as the whole does. Assumes nothing.
-use Prim.Native.Nat.{ℕ, suc, _-_, _*_, _≤_, _<_}
+use Prim.Native.Nat.{ℕ, suc, _≤_}
 use mathlib.Core.Bool.{Bool, true, false}
-use mathlib.Core.List.{List, []}
+use mathlib.Core.List.{List, [], _∷_}
 use mathlib.Core.Path.{_≡_, refl, sym, _∙_, ap}
 use native.Mathlib.Omega.{arith}
-use lib.ListN.{drop}
 use Rattle.records.specs.Context.{Header}
 use Rattle.records.specs.Finding.{right}
 use Rattle.records.specs.Finding.{refused as Finding·refused}
+use Rattle.records.specs.Kinds.{opens}
 use Rattle.records.specs.declared.kind.Kind.{Kind}
 use Rattle.flow.specs.Judge.{ended, go}
-use Rattle.flow.specs.Records.{cut, recordAt}
 use Rattle.flow.specs.Order.{permitted, isDue}
-use Rattle.flow.specs.Steps.{start, step, latest, judgeRecord, stopped}
-use Rattle.flow.specs.Verdict.{refused}
+use Rattle.flow.specs.Steps.{start, opened, step, latest, judgeRecord, stopped}
+use Rattle.flow.specs.Verdict.{Verdict, refused}
 use Rattle.flow.specs.declared.walk.Walk.{Walk}
-use Rattle.flow.proofs.Cut.{cut-next, cut-end}
 use Rattle.flow.proofs.Exact.{record-alike, stopped-step, exact-at-end}
 
--- behind i right records: the state w is the exact one, stopped, and is exact where nothing is due
-pub record Reading (header : Header) (f : List ℕ) (n : ℕ) (w : Walk) (company : List ℕ) (i : ℕ) : Type 0 where
+-- behind i right records of all, with the rest to come: the state w is the exact one, stopped, and is exact where nothing is due; it has
+-- counted no more dispositions than records
+pub record Reading (end : Walk → ℕ → Verdict) (header : Header) (all : List (List ℕ)) (w : Walk) (company : List ℕ) (i : ℕ) (rest : List (List ℕ)) : Type 0 where
   pub exact : Walk
   pub stops : w ≡ stopped exact
   pub final : isDue (permitted (exact .place .due)) ≡ false → stopped exact ≡ exact
-  pub left : go ended header start [] 0 (cut n f) ≡ go ended header exact company i (cut (n - i) (drop (120 * i) f))
+  pub few : exact .dispositions ≤ i
+  pub left : go end header start [] 0 all ≡ go end header exact company i rest
 
-pub begin : (header : Header) (f : List ℕ) (n : ℕ) → Reading header f n start [] 0
-begin header f n = let all : n - 0 ≡ n = omega arith in record { exact = start; stops = refl; final = λ e. refl; left = rw all }
+pub begin : (end : Walk → ℕ → Verdict) (header : Header) (all : List (List ℕ)) → Reading end header all start [] 0 all
+begin end header all = record { exact = start; stops = refl; final = λ e. refl; few = omega arith; left = refl }
 
-module _ {header : Header} {f : List ℕ} {n : ℕ} {w : Walk} {company : List ℕ} {i : ℕ} (r : Reading header f n w company i) where
-  -- the exact state finds of the next record what the stopped one does
-  found-alike : judgeRecord header (r .exact) company (suc i) (recordAt i f) ≡ judgeRecord header w company (suc i) (recordAt i f)
-  found-alike =
-      sym (record-alike header (r .exact) company (suc i) (recordAt i f)) ∙ ap (λ (v : Walk). judgeRecord header v company (suc i) (recordAt i f)) (sym (r .stops))
+-- a record opens one disposition at the most
+one-at-most : (k : Kind) → opened k ≤ 1
+one-at-most k = by (opens k) refl
+  where
+    by : (b : Bool) → opens k ≡ b → opened k ≤ 1
+    by true e = rw e (omega arith)
+    by false e = rw e (omega arith)
 
-  -- a right record
-  pub go-on :
-      (k : Kind) (c : ℕ) → i < n → judgeRecord header w company (suc i) (recordAt i f) ≡ right k c
-      → Reading header f n (stopped (step w k c)) (latest k company (recordAt i f)) (suc i)
-  unfolding go
-  go-on k c h e =
-      let found = found-alike ∙ e in
-      record {
-        exact = step (r .exact) k c;
-        stops = ap (λ (v : Walk). stopped (step v k c)) (r .stops) ∙ stopped-step (r .exact) k c;
-        final = exact-at-end header (r .exact) company (suc i) (recordAt i f) k c found;
-        left = r .left ∙ rw (cut-next n i f h, found);
-      }
+module _
+    {end : Walk → ℕ → Verdict} {header : Header} {all : List (List ℕ)} {w : Walk} {company : List ℕ} {i : ℕ} {rest : List (List ℕ)} (r : Reading end header all w company i rest)
+    (rec : List ℕ) (recs : List (List ℕ)) (next : rest ≡ rec ∷ recs)
+  where
+    -- the exact state finds of the next record what the stopped one does
+    found-alike : judgeRecord header (r .exact) company (suc i) rec ≡ judgeRecord header w company (suc i) rec
+    found-alike =
+        sym (record-alike header (r .exact) company (suc i) rec) ∙ ap (λ (v : Walk). judgeRecord header v company (suc i) rec) (sym (r .stops))
 
-  -- a fault
-  pub refuse : (m p : ℕ) → i < n → judgeRecord header w company (suc i) (recordAt i f) ≡ Finding·refused m p → refused m (suc i) p ≡ go ended header start [] 0 (cut n f)
-  unfolding go
-  refuse m p h e = sym (r .left ∙ rw (cut-next n i f h, found-alike ∙ e))
+    -- a right record
+    pub go-on :
+        (k : Kind) (c : ℕ) → judgeRecord header w company (suc i) rec ≡ right k c
+        → Reading end header all (stopped (step w k c)) (latest k company rec) (suc i) recs
+    unfolding go
+    go-on k c e =
+        let found = found-alike ∙ e in
+        let few = r .few in
+        record {
+          exact = step (r .exact) k c;
+          stops = ap (λ (v : Walk). stopped (step v k c)) (r .stops) ∙ stopped-step (r .exact) k c;
+          final = exact-at-end header (r .exact) company (suc i) rec k c found;
+          few = omega (arith, one-at-most k);
+          left = r .left ∙ rw (next, found);
+        }
 
-  -- the end
-  pub finish : n ≤ i → ended w i ≡ go ended header start [] 0 (cut n f)
-  unfolding go
-  finish h = ap (λ (v : Walk). ended v i) (r .stops) ∙ end-alike (isDue (permitted (r .exact .place .due))) refl ∙ sym (r .left ∙ rw (cut-end n i (drop (120 * i) f) h))
-    where
-      end-alike : (b : Bool) → isDue (permitted (r .exact .place .due)) ≡ b → ended (stopped (r .exact)) i ≡ ended (r .exact) i
-      end-alike true e = rw e
-      end-alike false e = ap (λ (v : Walk). ended v i) (r .final e)
+    -- a fault
+    pub refuse : (m p : ℕ) → judgeRecord header w company (suc i) rec ≡ Finding·refused m p → refused m (suc i) p ≡ go end header start [] 0 all
+    unfolding go
+    refuse m p e = sym (r .left ∙ rw (next, found-alike ∙ e))
+
+-- the end: what the stopped state is answered there, the exact one is
+pub finish :
+    {end : Walk → ℕ → Verdict} {header : Header} {all : List (List ℕ)} {w : Walk} {company : List ℕ} {i : ℕ} {rest : List (List ℕ)} (r : Reading end header all w company i rest)
+    → rest ≡ [] → end (stopped (r .exact)) i ≡ end (r .exact) i → end w i ≡ go end header start [] 0 all
+unfolding go
+finish {end = end} {i = i} r none alike = ap (λ (v : Walk). end v i) (r .stops) ∙ alike ∙ sym (r .left ∙ rw none)
+
+-- so it is where a flow has ended
+pub ended-alike :
+    {header : Header} {all : List (List ℕ)} {w : Walk} {company : List ℕ} {i : ℕ} {rest : List (List ℕ)} (r : Reading ended header all w company i rest)
+    → ended (stopped (r .exact)) i ≡ ended (r .exact) i
+ended-alike {i = i} r = by (isDue (permitted (r .exact .place .due))) refl
+  where
+    by : (b : Bool) → isDue (permitted (r .exact .place .due)) ≡ b → ended (stopped (r .exact)) i ≡ ended (r .exact) i
+    by true e = rw e
+    by false e = ap (λ (v : Walk). ended v i) (r .final e)

@@ -35,9 +35,12 @@ counted w k = w .dispositions + opened k
 abbrev pub step : Walk → Kind → ℕ → Walk
 step w k c = record { place = placeAfter (w .place .further) k; dispositions = counted w k; cents = w .cents + c }
 
--- the latest company code present, behind a record of the kind
+-- the latest company code present, behind a record of the kind that has the code; and behind the record itself
+abbrev pub latestOf : Kind → List ℕ → List ℕ → List ℕ
+latestOf k company code = cond (opens k && isPresent code) code company
+
 abbrev pub latest : Kind → List ℕ → List ℕ → List ℕ
-latest k company rec = cond (opens k && isPresent (field 92 96 rec)) (field 92 96 rec) company
+latest k company rec = latestOf k company (field 92 96 rec)
 
 abbrev pub countsAt : Walk → ℕ → Kind → Counts
 countsAt w n k = record { dispositions = counted w k; cents = w .cents; records = n }

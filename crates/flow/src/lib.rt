@@ -16,5 +16,6 @@ pub use location::disposition;
 pub use location::find;
 pub use order::Due;
 pub use order::Place;
+pub use reader::latest_company;
 pub use reader::read;
 pub use walk::Walk;

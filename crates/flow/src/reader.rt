@@ -8,8 +8,7 @@ ghost use Rattle.records.specs.Context.{headed};
 ghost use Rattle.flow.specs.Judge.{ended, go};
 ghost use Rattle.flow.specs.Records.{isLength, recordsOf};
 ghost use Rattle.flow.specs.Judge.{judge as Judge·judge};
-ghost use Rattle.flow.specs.Steps.{start};
-ghost use Rattle.flow.specs.Steps.{latest as Steps·latest};
+ghost use Rattle.flow.specs.Steps.{start, latestOf};
 ghost use Rattle.flow.specs.Verdict.{verdict};
 use crate::answer::Answer;
 use crate::walk::Walk;
@@ -89,7 +88,7 @@ fn read_records(
             }
             Judged::Right(right) => {
                 let kind = right.kind;
-                let latest = latest_company(company, rec, kind);
+                let latest = latest_company(company, field(rec, 92, 96), kind);
                 company = latest;
                 walk = walk.next(right);
             }
@@ -99,14 +98,13 @@ fn read_records(
     end(walk, count(i))
 }
 
-// The latest company code present, behind a record of the kind.
-fn latest_company<'a>(company: &'a [u8], rec: &'a [u8], kind: Kind) -> &'a [u8]
-    ensures { λ r. ⌜ now r ≡ Steps·latest kind (now (company .entry)) (now (rec .entry)) ⌝ }
+// The latest company code present, behind a record of the kind that has the code at 92-96.
+pub fn latest_company<'a>(company: &'a [u8], code: &'a [u8], kind: Kind) -> &'a [u8]
+    ensures { λ r. ⌜ now r ≡ latestOf kind (now (company .entry)) (now (code .entry)) ⌝ }
 {
     if !records::opens(kind) {
         return company;
     }
-    let code = field(rec, 92, 96);
     if fields::all_blank(code) {
         return company;
     }

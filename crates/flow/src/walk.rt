@@ -5,7 +5,7 @@ ghost use mathlib.Core.Path.{_≡_};
 ghost use Rattle.records.specs.Context.{headed};
 ghost use Rattle.records.specs.Finding.{finding};
 ghost use Rattle.records.specs.Limits.{countLimit};
-ghost use Rattle.flow.specs.Order.{isDue, permitted};
+ghost use Rattle.flow.specs.Order.{isDue, mayClose, permitted};
 ghost use Rattle.flow.specs.Steps.{step, stopped, counted, judgeRecord};
 ghost use Rattle.flow.specs.Steps.{start as Steps·start};
 use crate::order::Due;
@@ -122,6 +122,15 @@ impl Walk {
         let place = self.place;
         let due = place.due;
         if let Due::Nothing = due { true } else { false }
+    }
+
+    // Whether the trailer may come next.
+    pub fn may_close(self) -> bool
+        ensures { λ r. ⌜ r ≡ mayClose (permitted (self .place .due)) ⌝ }
+    {
+        let place = self.place;
+        let due = place.due;
+        if let Due::R14OrEf = due { true } else { false }
     }
 
     // The dispositions up to and with a record of the kind.

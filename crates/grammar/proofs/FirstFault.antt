@@ -28,9 +28,12 @@ use Rattle.grammar.proofs.Behind.{have-kinds, FromStart, formed-so, Fau
 use Rattle.grammar.proofs.Order.{order-sound, order-runs}
 use Rattle.grammar.proofs.Walked.{stateBehind, codeBehind, walked-allowed, state-place, go-behind, go-stops, Outcome, all-right, stops, outcome}
 
--- behind right records the flow is judged by what is left
+-- the walk over records with the header of the flow f, and `end` behind the last
+abbrev pub walkOver : (Walk → ℕ → Verdict) → List ℕ → List (List ℕ) → Verdict
+walkOver end f recs = go end (headerOf (take 120 f)) start [] 0 recs
+
 abbrev pub judgeFrom : List ℕ → List (List ℕ) → Verdict
-judgeFrom f recs = go ended (headerOf (take 120 f)) start [] 0 recs
+judgeFrom f recs = walkOver ended f recs
 
 pub judged : (f : List ℕ) → RightLength (length f) → judge f ≡ judgeFrom f (recordsOf f)
 unfolding judge
@@ -39,18 +42,20 @@ judged f sized = rw (length-tested (length f) sized)
 pub whole-records : (f : List ℕ) → Whole (recordsOf f)
 whole-records f = cut-whole (length f / 120) f (omega arith)
 
-pub ends-so : (f : List ℕ) (rs : List Typed) → FromStart f rs → judgeFrom f (recordsIn rs) ≡ ended (stateBehind start rs) (length rs)
-unfolding go
-ends-so f rs walked =
-    let same : 0 + length rs ≡ length rs = omega arith in
-    ap (judgeFrom f) (sym (append-nil (recordsIn rs))) ∙ go-behind ended (headerOf (take 120 f)) start [] 0 rs [] walked ∙ ap (ended (stateBehind start rs)) same
+-- behind right records the walk ends, or stops at a fault
+module _ (end : Walk → ℕ → Verdict) (f : List ℕ) (rs : List Typed) (walked : FromStart f rs) where
+  pub ends-so : walkOver end f (recordsIn rs) ≡ end (stateBehind start rs) (length rs)
+  unfolding go
+  ends-so =
+      let same : 0 + length rs ≡ length rs = omega arith in
+      ap (walkOver end f) (sym (append-nil (recordsIn rs))) ∙ go-behind end (headerOf (take 120 f)) start [] 0 rs [] walked ∙ ap (end (stateBehind start rs)) same
 
-pub stops-so : (f : List ℕ) (rs : List Typed) (rec : List ℕ) (rest : List (List ℕ)) (m p : ℕ) → FromStart f rs → length rec ≡ 120 → FaultNext f rs rec m p → judgeFrom f (recordsIn rs ++ (rec ∷ rest)) ≡ refused m (suc (length (recordsIn rs))) p
-stops-so f rs rec rest m p walked whole fault =
-    let same : suc (0 + length rs) ≡ suc (length (recordsIn rs)) = omega (arith, length-map rs (λ (r : Typed). r .bytes)) in
-    go-behind ended (headerOf (take 120 f)) start [] 0 rs (rec ∷ rest) walked
-    ∙ go-stops ended (headerOf (take 120 f)) (stateBehind start rs) (codeBehind [] rs) (0 + length rs) rec rest m p whole fault
-    ∙ ap (λ (n : ℕ). refused m n p) same
+  pub stops-so : (rec : List ℕ) (rest : List (List ℕ)) (m p : ℕ) → length rec ≡ 120 → FaultNext f rs rec m p → walkOver end f (recordsIn rs ++ (rec ∷ rest)) ≡ refused m (suc (length (recordsIn rs))) p
+  stops-so rec rest m p whole fault =
+      let same : suc (0 + length rs) ≡ suc (length (recordsIn rs)) = omega (arith, length-map rs (λ (r : Typed). r .bytes)) in
+      go-behind end (headerOf (take 120 f)) start [] 0 rs (rec ∷ rest) walked
+      ∙ go-stops end (headerOf (take 120 f)) (stateBehind start rs) (codeBehind [] rs) (0 + length rs) rec rest m p whole fault
+      ∙ ap (λ (n : ℕ). refused m n p) same
 
 -- a record is due exactly where the records are not all of a flow in order
 module _ (f : List ℕ) (rs : List Typed) (walked : FromStart f rs) where
@@ -82,10 +87,10 @@ module _ (f : List ℕ) (n r p : ℕ) (sized : RightLength (length f)) where
 
   at-outcome : {recs : List (List ℕ)} → recordsOf f ≡ recs → Whole recs → Outcome (headerOf (take 120 f)) start [] 0 recs → judgeFrom f recs ≡ refused n r p → FirstFault f n r p
   at-outcome same whole (all-right rs walked) e =
-      at-end rs same walked (isDue (permitted (stateBehind start rs .place .due))) refl (sym (ends-so f rs walked) ∙ e)
+      at-end rs same walked (isDue (permitted (stateBehind start rs .place .due))) refl (sym (ends-so ended f rs walked) ∙ e)
   at-outcome same whole (stops rs rec rest m q walked fault) e =
       let size = all-at (λ (l : List ℕ). length l ≡ 120) (recordsIn rs) rec rest whole in
-      renamed f (sym (stops-so f rs rec rest m q walked size fault) ∙ e)
+      renamed f (sym (stops-so ended f rs walked rec rest m q size fault) ∙ e)
       (in-record (recordsIn rs) rec rest m q sized same (each-of f rs walked) (fault-behind f rs walked rec m q fault))
 
 fault-found : (f : List ℕ) (n r p : ℕ) → judge f ≡ refused n r p → FirstFault f n r p
@@ -112,13 +117,13 @@ fault-refused f n r p (in-record before rec behind m q sized same each fault) =
     let walked = walked-of f before (all-before (λ (l : List ℕ). length l ≡ 120) before (rec ∷ behind) whole) each in
     let rs = walked .0 in
     let next = fault-next f rs (walked .2) rec n p (subst (λ (l : List (List ℕ)). FaultBehind f l rec n p) (sym (walked .1)) fault) in
-    judged f sized ∙ ap (judgeFrom f) (same ∙ ap (λ (l : List (List ℕ)). l ++ (rec ∷ behind)) (sym (walked .1))) ∙ stops-so f rs rec behind n p (walked .2) size next
+    judged f sized ∙ ap (judgeFrom f) (same ∙ ap (λ (l : List (List ℕ)). l ++ (rec ∷ behind)) (sym (walked .1))) ∙ stops-so ended f rs (walked .2) rec behind n p size next
     ∙ ap (λ (l : List (List ℕ)). refused n (suc (length l)) p) (walked .1)
 fault-refused f n r p (still-due sized each none) =
     let walked = walked-of f (recordsOf f) (whole-records f) each in
     let rs = walked .0 in
     let count : suc (length rs) ≡ suc (length (recordsOf f)) = ap suc (sym (length-map rs (λ (x : Typed). x .bytes))) ∙ ap (λ (l : List (List ℕ)). suc (length l)) (walked .1) in
-    judged f sized ∙ ap (judgeFrom f) (sym (walked .1)) ∙ ends-so f rs (walked .2)
+    judged f sized ∙ ap (judgeFrom f) (sym (walked .1)) ∙ ends-so ended f rs (walked .2)
     ∙ due-refused (stateBehind start rs) (length rs) (λ e. none (kindsOf rs) (subst (HaveKinds (kindsOf rs)) (walked .1) (have-kinds rs (formed-so f rs (walked .2)))) (complete-order f rs (walked .2) e))
     ∙ ap (λ (x : ℕ). refused 4 x 0) count
 

@@ -180,7 +180,7 @@ module _ (p : Parts) (some : 1 ≤ dispositionCount p) (shape : InShape (p .disp
       (omega arith, omega arith, omega (arith, length-append (flatten (p .dispositions)) end))
 
 -- the header of a flow is its first 120 bytes
-header-first : (p : Parts) (f : List ℕ) → bytesOf p ≡ f → length (p .header) ≡ 120 → take 120 f ≡ p .header
+pub header-first : (p : Parts) (f : List ℕ) → bytesOf p ≡ f → length (p .header) ≡ 120 → take 120 f ≡ p .header
 header-first p f e whole = ap (take 120) (sym e) ∙ take-at (p .header) _ 120 whole
 
 -- from the answer to the grammar
@@ -205,10 +205,10 @@ module _ (f : List ℕ) (d c n : ℕ) (sized : RightLength (length f)) where
       }
 
   at-outcome : {recs : List (List ℕ)} → recordsOf f ≡ recs → Whole recs → Outcome (headerOf (take 120 f)) start [] 0 recs → judgeFrom f recs ≡ accepted d c n → Grammar f d c n
-  at-outcome same whole (all-right rs walked) e = at-end rs same walked (sym (ends-so f rs walked) ∙ e)
+  at-outcome same whole (all-right rs walked) e = at-end rs same walked (sym (ends-so ended f rs walked) ∙ e)
   at-outcome same whole (stops rs rec rest m q walked fault) e =
       let size = all-at (λ (l : List ℕ). length l ≡ 120) (recordsIn rs) rec rest whole in
-      absurd (accepted-not-refused (sym (stops-so f rs rec rest m q walked size fault) ∙ e))
+      absurd (accepted-not-refused (sym (stops-so ended f rs walked rec rest m q size fault) ∙ e))
 
 grammar-of : (f : List ℕ) (d c n : ℕ) → judge f ≡ accepted d c n → Grammar f d c n
 grammar-of f d c n e =
@@ -229,7 +229,7 @@ module _ (f : List ℕ) (d c n : ℕ) (g : Grammar f d c n) where
   pub grammar-shape : InShape (g .parts .dispositions)
   grammar-shape = numbered-shape (headerOf (g .parts .header) .abi) 1 (g .parts .dispositions) (g .right .each)
 
-  grammar-walked : Walked (headerOf (g .parts .header)) start [] 0 (typedOf (g .parts))
+  pub grammar-walked : Walked (headerOf (g .parts .header)) start [] 0 (typedOf (g .parts))
   grammar-walked = parts-exact (g .parts) (g .right .some) grammar-shape .1 (g .right)
 
   pub grammar-whole : Whole (recordsIn (typedOf (g .parts)))
@@ -242,18 +242,21 @@ module _ (f : List ℕ) (d c n : ℕ) (g : Grammar f d c n) where
   pub grammar-records : recordsOf f ≡ recordsIn (typedOf (g .parts))
   grammar-records = ap recordsOf (sym grammar-bytes) ∙ joined-records (recordsIn (typedOf (g .parts))) grammar-whole
 
+  -- and are right from its front on
+  pub grammar-start : FromStart f (typedOf (g .parts))
+  grammar-start = subst (λ (l : List ℕ). Walked (headerOf l) start [] 0 (typedOf (g .parts))) (sym (header-first (g .parts) f (g .bytes) (g .right .header-formed .whole))) grammar-walked
+
   answer-of : judge f ≡ accepted d c n
   answer-of =
       let p = g .parts in
       let rs = typedOf p in
-      let head = header-first p f (g .bytes) (g .right .header-formed .whole) in
-      let walked : FromStart f rs = subst (λ (l : List ℕ). Walked (headerOf l) start [] 0 rs) (sym head) grammar-walked in
+      let walked : FromStart f rs = grammar-start in
       let counts = all-counted p (g .right .some) grammar-shape in
       let size : length f ≡ 120 * recordCount p = ap (λ (l : List ℕ). length l) (sym grammar-bytes) ∙ flatten-length (recordsIn rs) grammar-whole ∙ ap (λ (m : ℕ). 120 * m) (length-map rs (λ (x : Typed). x .bytes) ∙ counts .2) in
       let few = few-records p (g .right) in
       let sized : RightLength (length f) = (omega arith, omega arith, omega arith) in
       let last-due = order-complete f rs walked (parts-order p (g .right .some) grammar-shape) in
-      judged f sized ∙ ap (judgeFrom f) grammar-records ∙ ends-so f rs walked ∙ rw last-due (λ i. accepted ((counts .0 ∙ g .dispositions) i) ((counts .1 ∙ g .cents) i) ((counts .2 ∙ g .records) i))
+      judged f sized ∙ ap (judgeFrom f) grammar-records ∙ ends-so ended f rs walked ∙ rw last-due (λ i. accepted ((counts .0 ∙ g .dispositions) i) ((counts .1 ∙ g .cents) i) ((counts .2 ∙ g .records) i))
 
 pub grammar-exact : GrammarExact
 grammar-exact f d c n = (grammar-of f d c n, answer-of f d c n)

@@ -1,4 +1,6 @@
 pub mod ByKind
+pub mod Checked
+pub mod EachKind
 pub mod FirstFault
 pub mod Found
 pub mod Listed

@@ -8,6 +8,15 @@ use Rattle.sequences.specs.Part.{part}
 abbrev pub field : ℕ → ℕ → List ℕ → List ℕ
 field a e rec = part (a - 1) (e - (a - 1)) rec
 
+-- positions first to last, both with, as document 01 writes them
+infix 30 _to_
+pub data Span : Type 0 where
+  _to_ : ℕ → ℕ → Span
+
+-- how many there are
+abbrev pub width : Span → ℕ
+width (a to e) = e - (a - 1)
+
 -- the byte at position p
 abbrev pub byteAt : ℕ → List ℕ → ℕ
 byteAt p rec = getD rec (p - 1) 0

@@ -25,6 +25,20 @@ typeOf Ef = text "EF"
 abbrev pub hasType : Kind → List ℕ → Bool
 hasType k rec = isEqual (field 2 3 rec) (typeOf k)
 
+-- the record that heads a flow
+abbrev pub heads : Kind → Bool
+heads Im = true
+heads R14 = false
+heads R16 = false
+heads R20 = false
+heads R30 = false
+heads R40 = false
+heads R50 = false
+heads R59 = false
+heads R51 = false
+heads R70 = false
+heads Ef = false
+
 -- the record that opens a disposition, and has its amount
 abbrev pub opens : Kind → Bool
 opens Im = false
@@ -38,3 +52,17 @@ opens R59 = false
 opens R51 = false
 opens R70 = false
 opens Ef = false
+
+-- the record that closes a flow
+abbrev pub closes : Kind → Bool
+closes Im = false
+closes R14 = false
+closes R16 = false
+closes R20 = false
+closes R30 = false
+closes R40 = false
+closes R50 = false
+closes R59 = false
+closes R51 = false
+closes R70 = false
+closes Ef = true

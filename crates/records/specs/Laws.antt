@@ -5,6 +5,7 @@ use mathlib.Core.List.{List}
 use mathlib.Core.Logic.{_↔_}
 use mathlib.Core.Path.{_≡_}
 use lib.ListN.{length}
+use Rattle.records.specs.Checked.{checked, Alike}
 use Rattle.records.specs.Checks.{checks}
 use Rattle.records.specs.Context.{Context}
 use Rattle.records.specs.Finding.{right, refused, Hold, FirstBroken, inOrder, finding}
@@ -26,6 +27,10 @@ RightAsked = (k l : Kind) (ctx : Context) (rec : List ℕ) (c : ℕ) → judge k
 -- the checks of every kind stand in the order of document 01: rising position, and for one field 5 before what compares its digits
 abbrev pub ChecksInOrder : Type 0
 ChecksInOrder = (k : Kind) (ctx : Context) (rec : List ℕ) → inOrder (checks k ctx rec) ≡ true
+
+-- and look at no other positions than those named
+abbrev pub ChecksByPosition : Type 0
+ChecksByPosition = (k : Kind) (ctx : Context) (rec other : List ℕ) → Alike (checked k) rec other → checks k ctx rec ≡ checks k ctx other
 
 -- a record is right exactly where each check of its kind holds
 abbrev pub RightExact : Type 0

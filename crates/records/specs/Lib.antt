@@ -1,4 +1,5 @@
 pub mod Bytes
+pub mod Checked
 pub mod Checks
 pub mod Constants
 pub mod Context

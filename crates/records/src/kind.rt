@@ -1,7 +1,7 @@
 // The eleven record types of a request flow.
 ghost use mathlib.Core.Path.{_≡_};
 ghost use Rattle.records.specs.Kinds.{typeOf, hasType};
-ghost use Rattle.records.specs.Kinds.{opens as Kinds·opens};
+ghost use Rattle.records.specs.Kinds.{heads as Kinds·heads, opens as Kinds·opens, closes as Kinds·closes};
 use crate::constants;
 use crate::position::field;
 
@@ -46,9 +46,23 @@ pub fn has_type(rec: &[u8], kind: Kind) -> bool
     fields::equal(field(rec, 2, 3), &code)
 }
 
+// Whether a record of the kind heads the flow.
+pub fn heads(kind: Kind) -> bool
+    ensures { λ r. ⌜ r ≡ Kinds·heads kind ⌝ }
+{
+    if let Kind::Im = kind { true } else { false }
+}
+
 // Whether a record of the kind opens a disposition.
 pub fn opens(kind: Kind) -> bool
     ensures { λ r. ⌜ r ≡ Kinds·opens kind ⌝ }
 {
     if let Kind::R14 = kind { true } else { false }
+}
+
+// Whether a record of the kind closes the flow.
+pub fn closes(kind: Kind) -> bool
+    ensures { λ r. ⌜ r ≡ Kinds·closes kind ⌝ }
+{
+    if let Kind::Ef = kind { true } else { false }
 }

@@ -7,3 +7,4 @@ pub mod Flatten
 pub mod Groups
 pub mod Map
 pub mod Part
+pub mod Tags

@@ -1,11 +1,11 @@
 -- Laws of `part` and `put`: a part's length, a part written back, and what stays outside it. Assumes nothing.
 use mathlib.Core.Path.{_≡_, sym, _∙_, ap}
-use mathlib.Core.List.{List, _++_, append-assoc}
-use Prim.Native.Nat.{ℕ, _+_, _-_, _≤_, _<_}
+use mathlib.Core.List.{List, [], _∷_, _++_, append-nil, append-assoc}
+use Prim.Native.Nat.{ℕ, zero, suc, _+_, _-_, _≤_, _<_}
 use native.Mathlib.Nat.{le-refl, add-zero}
 use native.Mathlib.Omega.{arith}
-use lib.ListN.{length, take, drop, getD, length-append, length-drop, take-append-drop}
-use lib.Seq.{length-take-le, drop-drop, drop-at, getD-take, getD-drop, take-append-seam, take-append-le, take-take, take-add}
+use lib.ListN.{length, take, drop, getD, length-append, length-take, length-drop, drop-of-length-le, take-append-drop}
+use lib.Seq.{length-take-le, take-length, take-nil, drop-drop, take-at, drop-at, getD-take, getD-drop, take-append-seam, take-append-le, take-take, take-add}
 use borrow.Rule.Slice.PartMut.{putMid}
 use Rattle.sequences.specs.Part.{part, put}
 
@@ -13,17 +13,28 @@ use Rattle.sequences.specs.Part.{part, put}
 pub part-length : (a n : ℕ) (xs : List ℕ) → a + n ≤ length xs → length (part a n xs) ≡ n
 part-length a n xs h = length-take-le n (drop a xs) (rw length-drop (omega arith))
 
+pub part-at-most : (a n : ℕ) (xs : List ℕ) → length (part a n xs) ≤ n
+part-at-most a n xs = rw length-take (omega arith)
+
 -- two parts in a row are one
 pub part-join : (a n m : ℕ) (xs : List ℕ) → part a (n + m) xs ≡ part a n xs ++ part (a + n) m xs
 part-join a n m xs = take-add n m (drop a xs) ∙ ap (λ (l : List ℕ). part a n xs ++ take m l) (drop-drop n a xs)
 
+-- the end of what was taken from the front
+drop-take : (b n : ℕ) (xs : List ℕ) → drop b (take (b + n) xs) ≡ take n (drop b xs)
+drop-take zero n xs = let all : 0 + n ≡ n = omega arith in rw all
+drop-take (suc b) n [] = rw (take-nil, take-nil)
+drop-take (suc b) n (x ∷ xs) = let on : suc b + n ≡ suc (b + n) = omega arith in rw on (drop-take b n xs)
+
+-- a part of a part
+pub part-part : (a n b m : ℕ) (xs : List ℕ) → b + m ≤ n → part b m (part a n xs) ≡ part (a + b) m xs
+part-part a n b m xs h =
+    let split : b + (n - b) ≡ n = omega arith in
+    ap (λ (k : ℕ). part b m (part a k xs)) (sym split) ∙ rw (drop-take, drop-drop) (take-take m (n - b) (drop (a + b) xs) (omega arith))
+
 -- an element of a part is one of the list
 pub part-getD : (a n : ℕ) (xs : List ℕ) (i : ℕ) → i < n → getD (part a n xs) i 0 ≡ getD xs (a + i) 0
 part-getD a n xs i h = rw (getD-take, getD-drop)
-
--- a part is the end of a longer one from the front
-part-of-take : (a n : ℕ) (xs : List ℕ) → a ≤ length xs → drop a (take (a + n) xs) ≡ part a n xs
-part-of-take a n xs h = rw take-add (drop-at (take a xs) (part a n xs) a (length-take-le a xs h))
 
 head : (xs : List ℕ) (i : ℕ) → getD (drop i xs) 0 0 ≡ getD xs i 0
 head xs i = rw (getD-drop, add-zero)
@@ -57,20 +68,45 @@ module _ (a : ℕ) (ys xs : List ℕ) (fits : a + length ys ≤ length xs) where
       let seam : drop end (put a ys xs) ≡ drop end xs = rw (← append-assoc) (drop-at (take a xs ++ ys) (drop end xs) end through) in
       rw (← split) (sym (drop-drop (n - end) end (put a ys xs)) ∙ ap (drop (n - end)) seam ∙ drop-drop (n - end) end xs)
 
-  -- so does each element outside it
+  -- each element that was written stands at its place
+  pub getD-put : (i : ℕ) → a ≤ i → i < a + length ys → getD (put a ys xs) i 0 ≡ getD ys (i - a) 0
+  getD-put i h k =
+      let place : a + (i - a) ≡ i = omega arith in
+      let within : i - a < length ys = omega arith in
+      ap (λ (j : ℕ). getD (put a ys xs) j 0) (sym place) ∙ sym (part-getD a (length ys) (put a ys xs) (i - a) within) ∙ ap (λ (l : List ℕ). getD l (i - a) 0) part-put
+
+  -- and each element outside it stays
   pub getD-put-before : (i : ℕ) → i < a → getD (put a ys xs) i 0 ≡ getD xs i 0
   getD-put-before i h = sym (getD-take a (put a ys xs) i 0 h) ∙ ap (λ (l : List ℕ). getD l i 0) (take-put a (le-refl a)) ∙ getD-take a xs i 0 h
 
   pub getD-put-behind : (i : ℕ) → a + length ys ≤ i → getD (put a ys xs) i 0 ≡ getD xs i 0
   getD-put-behind i h = sym (head (put a ys xs) i) ∙ ap (λ (l : List ℕ). getD l 0 0) (drop-put i h) ∙ head xs i
 
-  -- and each part that lies outside it
+  -- so does each part that lies outside it
   pub part-put-before : (b n : ℕ) → b + n ≤ a → part b n (put a ys xs) ≡ part b n xs
   part-put-before b n h =
-      sym (part-of-take b n (put a ys xs) (rw put-length (omega arith))) ∙ ap (drop b) (take-put (b + n) h) ∙ part-of-take b n xs (omega arith)
+      sym (drop-take b n (put a ys xs)) ∙ ap (drop b) (take-put (b + n) h) ∙ drop-take b n xs
 
   pub part-put-behind : (b n : ℕ) → a + length ys ≤ b → part b n (put a ys xs) ≡ part b n xs
   part-put-behind b n h = ap (take n) (drop-put b h)
+
+-- nothing written over
+pub put-nothing : (a : ℕ) (xs : List ℕ) → put a [] xs ≡ xs
+put-nothing a xs = let end : a + 0 ≡ a = omega arith in rw end (take-append-drop a xs)
+
+-- two lists joined are written over one behind the other
+pub put-append : (a : ℕ) (ys zs xs : List ℕ) → a + length ys + length zs ≤ length xs → put a (ys ++ zs) xs ≡ put (a + length ys) zs (put a ys xs)
+put-append a ys zs xs fits =
+    let end = a + length ys in
+    let within : end ≤ length xs = omega arith in
+    let behind = drop (end + length zs) xs in
+    let sizes : a + length (ys ++ zs) ≡ end + length zs = rw length-append (omega arith) in
+    let front : take end (put a ys xs) ≡ take a xs ++ ys = ap (take end) (sym (append-assoc (take a xs) ys (drop end xs))) ∙ take-at (take a xs ++ ys) (drop end xs) end (through a ys xs within) in
+    let back : drop (end + length zs) (put a ys xs) ≡ behind = drop-put a ys xs within (end + length zs) (omega arith) in
+    ap (λ (n : ℕ). take a xs ++ ((ys ++ zs) ++ drop n xs)) sizes
+    ∙ ap (λ (l : List ℕ). take a xs ++ l) (append-assoc ys zs behind)
+    ∙ sym (append-assoc (take a xs) ys (zs ++ behind))
+    ∙ (λ i. sym front i ++ (zs ++ sym back i))
 
 -- a part written back as it was
 pub put-part : (a n : ℕ) (xs : List ℕ) → a + n ≤ length xs → put a (part a n xs) xs ≡ xs
@@ -79,3 +115,12 @@ put-part a n xs h = rw (part-length, ← drop-drop n a xs, take-append-drop, tak
 -- a part lent as `&mut xs[a..e]` that comes back as ys is ys written over
 pub lent-is-put : (a e : ℕ) (xs ys : List ℕ) → length ys ≡ e - a → putMid a (e - a) xs ys ≡ put a ys xs
 lent-is-put a e xs ys l = rw (drop-drop, l)
+
+-- bytes that `bytes::copy` copied to a part of their length, lent so, are written over
+pub copied-over :
+    (a e : ℕ) (xs ys back : List ℕ) → a ≤ e → e ≤ length xs → length ys ≡ e - a
+    → back ≡ take (length ys) ys ++ drop (length ys) (part a (e - a) xs) → putMid a (e - a) xs back ≡ put a ys xs
+copied-over a e xs ys back begins ends size came =
+    let lent : length (part a (e - a) xs) ≤ length ys = omega (arith, part-length a (e - a) xs (omega arith)) in
+    let whole : back ≡ ys = came ∙ rw (take-length, drop-of-length-le (part a (e - a) xs) lent, append-nil) in
+    ap (putMid a (e - a) xs) whole ∙ lent-is-put a e xs ys size

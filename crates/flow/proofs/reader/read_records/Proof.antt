@@ -4,21 +4,26 @@ use mathlib.Core.List.{List}
 use mathlib.Core.Path.{_≡_, sym, _∙_, ap, ap₂}
 use native.Mathlib.Numerals.{add-one}
 use native.Mathlib.Omega.{arith}
-use lib.ListN.{length}
+use lib.ListN.{length, drop}
 use borrow.Author.Needs.{needs}
 use Rattle.sequences.specs.Part.{part}
 use Rattle.records.specs.Context.{headed}
 use Rattle.records.specs.Finding.{finding}
-use Rattle.flow.specs.Records.{recordAt}
+use Rattle.flow.specs.Judge.{ended}
+use Rattle.flow.specs.Records.{cut, recordAt, recordsOf}
 use Rattle.flow.specs.Steps.{judgeRecord}
 use Rattle.flow.proofs.Lengths.{length-said}
-use Rattle.flow.proofs.Cut.{record-part}
-use Rattle.flow.proofs.Reading.{Reading, begin, go-on, refuse, finish}
+use Rattle.flow.proofs.Cut.{cut-next, cut-end, record-part}
+use Rattle.flow.proofs.Reading.{Reading, begin, go-on, refuse, finish, ended-alike}
 use Rattle.flow.proofs.reader.read_records.Statement.{statement}
 use Rattle.flow.proofs.reader.read_records.Tie as tie
 
+-- the records from index i on
+abbrev left-at : List ℕ → ℕ → List (List ℕ)
+left-at flow i = cut (length flow / 120 - i) (drop (120 * i) flow)
+
 abbrev Inv-loop : tie.InvT-loop
-Inv-loop flow mittente abi date name currency walk₀ company₀ i₀ walk company i = (i ≤ length flow / 120) × (length flow ≤ 1199999880) × Reading (headed mittente abi date name currency) flow (length flow / 120) walk company i
+Inv-loop flow mittente abi date name currency walk₀ company₀ i₀ walk company i = (i ≤ length flow / 120) × (length flow ≤ 1199999880) × Reading ended (headed mittente abi date name currency) (recordsOf flow) walk company i (left-at flow i)
 
 abbrev μ-loop : tie.MeasureT-loop
 μ-loop flow mittente abi date name currency walk₀ company₀ i₀ walk company i = length flow / 120 - i
@@ -36,7 +41,10 @@ part-company-end : tie.Need-part-company-end Inv-loop μ-loop
 part-company-end c = search needs
 
 loop-holds : tie.Need-loop-holds Inv-loop μ-loop
-loop-holds c = (omega arith, length-said _ (c .before .before .before .before .before .before .before .before .pre) .2, rw (c .before .start .ensures) (begin _ _ _))
+loop-holds c =
+    let flow : List ℕ = c .before .before .before .before .before .before .before .before .args .flow .now in
+    let all : length flow / 120 - 0 ≡ length flow / 120 = omega arith in
+    (omega arith, length-said _ (c .before .before .before .before .before .before .before .before .pre) .2, rw (c .before .start .ensures, all) (begin _ _ _))
 
 mul-rec : tie.Need-mul-rec Inv-loop μ-loop
 mul-rec c = omega arith
@@ -87,10 +95,13 @@ returns : tie.Need-returns Inv-loop μ-loop
 returns c =
     let at = c .before .before .before .before .before .before .before in
     let told = found (c .before .before .before) ∙ ap finding (c .before .number .given .1) in
-    rw (c .before .before .before .before .count .ensures, add-one) (refuse (at .loop .inv .2) _ _ (c .before .before .before .before .before .before .loop-test .taken) told)
+    rw (c .before .before .before .before .count .ensures, add-one) (refuse (at .loop .inv .2) _ _ (cut-next _ _ _ (c .before .before .before .before .before .before .loop-test .taken)) _ _ told)
 
 enum-known-right : tie.Need-enum-known-right Inv-loop μ-loop
 enum-known-right c = search needs
+
+field-requires : tie.Need-field-requires Inv-loop μ-loop
+field-requires c κs = search needs
 
 latest-company-requires : tie.Need-latest-company-requires Inv-loop μ-loop
 latest-company-requires c κs = search needs
@@ -106,9 +117,10 @@ loop-less c = omega arith
 
 loop-again : tie.Need-loop-again Inv-loop μ-loop
 loop-again c =
-    let at = c .before .before .before .before .before .before .before .before .before in
-    let told = found (c .before .before .before .before .before) ∙ ap finding (c .before .before .before .right .given .1) in
-    (omega arith, at .loop .inv .1, rw (c .next .ensures, c .before .latest-company .ensures, handed at, add-one) (go-on (at .loop .inv .2) _ _ (c .before .before .before .before .before .before .before .before .loop-test .taken) told))
+    let at = c .before .before .before .before .before .before .before .before .before .before in
+    let told = found (c .before .before .before .before .before .before) ∙ ap finding (c .before .before .before .before .right .given .1) in
+    let within = c .before .before .before .before .before .before .before .before .before .loop-test .taken in
+    (omega arith, at .loop .inv .1, rw (c .next .ensures, c .before .latest-company .ensures, c .before .before .field .ensures, handed at, add-one) (go-on (at .loop .inv .2) _ _ (cut-next _ _ _ within) _ _ told))
 
 count-requires-2 : tie.Need-count-requires-2 Inv-loop μ-loop
 count-requires-2 c κs = search needs
@@ -119,7 +131,7 @@ end-requires c κs = omega (arith, c .count2 .ensures)
 returns-2 : tie.Need-returns-2 Inv-loop μ-loop
 returns-2 c =
     let at = c .before .before .before in
-    c .end .ensures ∙ rw (c .before .count2 .ensures) (finish (at .loop .inv .2) (c .before .before .loop-test .left))
+    c .end .ensures ∙ rw (c .before .count2 .ensures) (finish (at .loop .inv .2) (cut-end _ _ _ (c .before .before .loop-test .left)) (ended-alike (at .loop .inv .2)))
 
 pub read-records-spec : {M : Type 1} → statement M
 read-records-spec =
@@ -144,6 +156,7 @@ read-records-spec =
     enum-known-number
     returns
     enum-known-right
+    field-requires
     latest-company-requires
     next-requires
     add-i

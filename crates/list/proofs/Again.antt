@@ -1,0 +1,189 @@
+-- A right record and the record that its own item encodes: alike at every position that is checked, so that the one is right at its place
+-- where the other is. Assumes nothing.
+use Prim.Native.Nat.{ℕ, suc, _+_, _-_, _≤_, _<_}
+use mathlib.Core.Bool.{Bool, true, false, true≢false}
+use mathlib.Core.List.{List, [], _∷_, _++_}
+use mathlib.Core.Logic.{_⊎_, inl, inr}
+use mathlib.Core.Path.{_≡_, refl, sym, _∙_, ap, subst}
+use native.Mathlib.Omega.{arith}
+use lib.ListN.{length, getD}
+use Rattle.sequences.specs.All.{All}
+use Rattle.sequences.specs.Part.{part, put}
+use Rattle.sequences.proofs.All.{all-append}
+use Rattle.sequences.proofs.Part.{part-length}
+use Rattle.fields.specs.Digits.{number, digits}
+use Rattle.fields.proofs.Decimal.{written-length, read-written}
+use Rattle.records.specs.Bytes.{badFrom, badByte}
+use Rattle.records.specs.Checked.{checked, Alike}
+use Rattle.records.specs.Checks.{checks}
+use Rattle.records.specs.Constants.{causale, sign, currency}
+use Rattle.records.specs.Context.{Header}
+use Rattle.records.specs.Field.{field}
+use Rattle.records.specs.Finding.{Check, Hold}
+use Rattle.records.specs.Judge.{asked}
+use Rattle.records.specs.Kinds.{typeOf, heads}
+use Rattle.records.specs.declared.kind.Kind.{Kind}
+use Rattle.records.specs.declared.kind.Kind.the-variants.{Im, R14, R16, R20, R30, R40, R50, R59, R51, R70, Ef}
+use Rattle.records.proofs.Checked.{checks-by-position}
+use Rattle.records.proofs.EachKind.{each-kind}
+use Rattle.flow.specs.Steps.{counted, latestOf, latest}
+use Rattle.flow.specs.declared.walk.Walk.{Walk}
+use Rattle.grammar.specs.Rules.{Says, Printable, Formed, MemberRules}
+use Rattle.grammar.proofs.AtPlace.{asks, RightAt}
+use Rattle.grammar.proofs.Rules.{digits-exact, printable-exact, header-rules, member-rules}
+use Rattle.list.specs.Encode.{Placed, place, fill, blanks, carriedAt, supplied, bodyPlaced, encodeItem}
+use Rattle.list.specs.Items.{Item, item, Proper}
+use Rattle.list.specs.ReadBack.{gather}
+use Rattle.list.specs.Table.{carried, hasItem}
+use Rattle.list.proofs.Carried.{body-fits, gather-length, gather-matches}
+use Rattle.list.proofs.Encoded.{type-length, encoded-length, encoded-type}
+use Rattle.list.proofs.Placing.{Fits, Matches, Agrees, AllPlaced, matches-agrees, fill-agrees, fill-all, all-part}
+use Rattle.list.proofs.Spanned.{Spanned, spanned-append, spanned-covers, body-spanned, supplied-spanned, spanned-fits, writtenSpans, written-within, checked-written, checked-within, alike-by-bytes}
+use Rattle.list.proofs.Spans.{carried-within}
+
+-- the digits of a number that a field says are the field
+pub says-digits : (w v : ℕ) (bs : List ℕ) → length bs ≡ w → Says v bs → bs ≡ digits w v
+says-digits w v bs size said =
+    sym (read-written bs (digits-exact bs .1 (said .0))) ∙ (λ i. digits (size i) (said .1 i))
+
+-- bytes that stand in the record
+stands : (rec : List ℕ) (p w : ℕ) (bs : List ℕ) → length bs ≡ w → part (p - 1) w rec ≡ bs → Matches rec (place p bs)
+stands rec p w bs size e = ap (λ (n : ℕ). part (p - 1) n rec) size ∙ e
+
+heads-im : (k : Kind) → heads k ≡ true → k ≡ Im
+heads-im = each-kind (λ (k : Kind). heads k ≡ true → k ≡ Im) (λ e. refl, (λ e. absurd (true≢false (sym e)), (λ e. absurd (true≢false (sym e)), (λ e. absurd (true≢false (sym e)), (λ e. absurd (true≢false (sym e)), (λ e. absurd (true≢false (sym e)), (λ e. absurd (true≢false (sym e)), (λ e. absurd (true≢false (sym e)), (λ e. absurd (true≢false (sym e)), (λ e. absurd (true≢false (sym e)), (λ e. absurd (true≢false (sym e)), tt)))))))))))
+
+-- what is supplied stands in a record that keeps the rules of its kind
+module _ (n : ℕ) (bank abi rec : List ℕ) (same : bank ≡ abi) (whole : length rec ≡ 120) where
+  number-stands : Says n (field 4 10 rec) → Matches rec (place 4 (digits 7 n))
+  number-stands said =
+      let size : length (field 4 10 rec) ≡ 7 = part-length 3 7 rec (omega (arith, whole)) in
+      stands rec 4 7 (digits 7 n) (written-length 7 n) (says-digits 7 n (field 4 10 rec) size said)
+
+  abi-length : field 48 52 rec ≡ bank → length abi ≡ 5
+  abi-length e = ap (λ (l : List ℕ). length l) (sym (e ∙ same)) ∙ part-length 47 5 rec (omega (arith, whole))
+
+  disposition-stands : MemberRules R14 bank n rec → All (Matches rec) (supplied R14 n abi)
+  disposition-stands m =
+      let bank-said = m .others .bank .1 in
+      (number-stands (m .number-said), (m .others .causale-code, (m .others .sign-code, (stands rec 48 5 abi (abi-length bank-said) (bank-said ∙ same), (m .others .currency-code, tt)))))
+
+  member-stands : (k : Kind) → (heads k ≡ true → ⊥) → MemberRules k bank n rec → All (Matches rec) (supplied k n abi)
+  member-stands Im f m = absurd (f refl)
+  member-stands R14 f m = disposition-stands m
+  member-stands R16 f m = (number-stands (m .number-said), tt)
+  member-stands R20 f m = (number-stands (m .number-said), tt)
+  member-stands R30 f m = (number-stands (m .number-said), tt)
+  member-stands R40 f m = (number-stands (m .number-said), tt)
+  member-stands R50 f m = (number-stands (m .number-said), tt)
+  member-stands R59 f m = (number-stands (m .number-said), tt)
+  member-stands R51 f m = (number-stands (m .number-said), tt)
+  member-stands R70 f m = (number-stands (m .number-said), tt)
+  member-stands Ef f m = tt
+
+  member-abi : (k : Kind) → k ≡ R14 → MemberRules k bank n rec → length abi ≡ 5
+  member-abi k e m = abi-length (subst (λ (l : Kind). MemberRules l bank n rec) e m .others .bank .1)
+
+-- what is supplied to a record, by the rules that it keeps
+pub record Supplied (k : Kind) (n : ℕ) (abi rec : List ℕ) : Type 0 where
+  pub places : All (Matches rec) (supplied k n abi)
+  pub bank : k ≡ R14 → length abi ≡ 5
+
+header-supplied : (k : Kind) (n : ℕ) (abi rec : List ℕ) → k ≡ Im → field 114 114 rec ≡ currency → Supplied k n abi rec
+header-supplied k n abi rec e code =
+    record { places = subst (λ (l : Kind). All (Matches rec) (supplied l n abi)) (sym e) (code, tt); bank = λ f. absurd (im-not-14 (sym e ∙ f)) }
+  where
+    im-not-14 : Im ≡ R14 → ⊥
+    im-not-14 e = true≢false (ap heads e)
+
+-- a record of kind k that is right at its place; `header` is the body of the header meant, whose ABI is the header's
+module _
+    (h : Header) (w : Walk) (company : List ℕ) (i : ℕ) (k : Kind) (rec header : List ℕ) (right-at : RightAt h w company i k rec) (listed : hasItem k ≡ true)
+    (meant : heads k ≡ false → h .abi ≡ carriedAt Im 9 13 header)
+  where
+    abbrev abi : List ℕ
+    abi = carriedAt Im 9 13 header
+
+    abbrev own : Item
+    own = item k (gather (carried k) rec)
+
+    -- the record that its item encodes
+    abbrev pub again : List ℕ
+    again = encodeItem (counted w k) header own
+
+    whole : length rec ≡ 120
+    whole = right-at .formed .whole
+
+    pub own-proper : Proper own
+    own-proper = record { listed = listed; sized = sym (gather-length (carried k) rec (carried-within k) whole) }
+
+    supplied-so : Supplied k (counted w k) abi rec
+    supplied-so = by (heads k) refl
+      where
+        by : (b : Bool) → heads k ≡ b → Supplied k (counted w k) abi rec
+        by true e =
+            let kind : k ≡ Im = heads-im k e in
+            let keeps : Hold (checks Im (asks h w company i Im) rec) = subst (λ (l : Kind). Hold (checks l (asks h w company i l) rec)) kind (right-at .keeps) in
+            header-supplied k (counted w k) abi rec kind (header-rules (asks h w company i Im) rec .0 keeps .currency-code)
+        by false e =
+            let not-im : k ≡ Im → ⊥ = λ f. true≢false (sym (ap heads f) ∙ e) in
+            let not-ef : k ≡ Ef → ⊥ = λ f. true≢false (sym listed ∙ ap hasItem f) in
+            let m = member-rules k (asks h w company i k) rec not-im not-ef .0 (right-at .keeps) .0 in
+            record {
+              places = member-stands (counted w k) (h .abi) abi rec (meant e) whole k (λ t. true≢false (sym t ∙ e)) m;
+              bank = λ f. member-abi (counted w k) (h .abi) abi rec (meant e) whole k f m;
+            }
+
+    abbrev placed : List Placed
+    placed = place 2 (typeOf k) ∷ (supplied k (counted w k) abi ++ bodyPlaced (carried k) (gather (carried k) rec))
+
+    all-stand : All (Matches rec) placed
+    all-stand =
+        let type : part 1 (length (typeOf k)) rec ≡ typeOf k = ap (λ (n : ℕ). part 1 n rec) (type-length k) ∙ right-at .formed .type in
+        (type, all-append (Matches rec) (supplied k (counted w k) abi) (bodyPlaced (carried k) (gather (carried k) rec)) (supplied-so .places) (gather-matches (carried k) rec (carried-within k) whole))
+
+    all-spanned : Spanned placed (writtenSpans k)
+    all-spanned = ((refl, type-length k), spanned-append (supplied k (counted w k) abi) (bodyPlaced (carried k) (gather (carried k) rec)) _ (carried k) (supplied-spanned (counted w k) abi k (supplied-so .bank)) (body-spanned (carried k) (gather (carried k) rec) (gather-length (carried k) rec (carried-within k) whole)))
+
+    all-agree : (j : ℕ) (ps : List Placed) → All (Matches rec) ps → All (Agrees j rec) ps
+    all-agree j [] stand = tt
+    all-agree j (q ∷ ps) stand = (matches-agrees j rec q (stand .0), all-agree j ps (stand .1))
+
+    pub again-whole : length again ≡ 120
+    again-whole = encoded-length (counted w k) header own own-proper
+
+    pub again-alike : Alike (checked k) rec again
+    unfolding encodeItem
+    again-alike = alike-by-bytes (checked k) rec again whole again-whole (checked-within k) (λ j small t.
+        let covered = spanned-covers placed (writtenSpans k) j all-spanned (checked-written k listed j small t) in
+        sym (fill-agrees j rec placed blanks (spanned-fits placed (writtenSpans k) all-spanned (written-within k)) refl (all-agree j placed all-stand) (inl covered)))
+
+    -- its bytes are the record's, and blanks
+    all-printable : (ps : List Placed) → All (Matches rec) ps → All (AllPlaced Printable) ps
+    all-printable [] stand = tt
+    all-printable (place p bs ∷ ps) stand =
+        (subst (All Printable) (stand .0) (all-part Printable (p - 1) (length bs) rec (right-at .formed .printable)), all-printable ps (stand .1))
+
+    pub again-formed : Formed k again
+    unfolding encodeItem badFrom
+    again-formed =
+        record {
+          whole = again-whole;
+          printable = fill-all Printable placed blanks (all-printable placed all-stand) (printable-exact blanks .0 refl);
+          type = encoded-type (counted w k) header own own-proper;
+        }
+
+    pub again-right : RightAt h w company i k again
+    again-right =
+        record {
+          may = right-at .may;
+          formed = again-formed;
+          keeps = subst Hold (checks-by-position k (asks h w company i k) rec again again-alike) (right-at .keeps);
+        }
+
+-- alike records ask for the same cents, and leave the same company code
+pub alike-asked : (k : Kind) (rec other : List ℕ) → Alike (checked k) rec other → asked k rec ≡ asked k other
+alike-asked k rec other = each-kind (λ (k : Kind). Alike (checked k) rec other → asked k rec ≡ asked k other) (λ a. refl, (λ a. ap number (a .1 .1 .1 .1 .0), (λ a. refl, (λ a. refl, (λ a. refl, (λ a. refl, (λ a. refl, (λ a. refl, (λ a. refl, (λ a. refl, (λ a. refl, tt))))))))))) k
+
+pub alike-latest : (k : Kind) (company rec other : List ℕ) → Alike (checked k) rec other → latest k company rec ≡ latest k company other
+alike-latest k company rec other = each-kind (λ (k : Kind). Alike (checked k) rec other → latest k company rec ≡ latest k company other) (λ a. refl, (λ a. ap (λ (code : List ℕ). latestOf R14 company code) (a .1 .1 .1 .1 .1 .1 .1 .1 .0), (λ a. refl, (λ a. refl, (λ a. refl, (λ a. refl, (λ a. refl, (λ a. refl, (λ a. refl, (λ a. refl, (λ a. refl, tt))))))))))) k

@@ -1,0 +1,103 @@
+-- The record that an item encodes: its length, its type, and its carried bytes. Assumes nothing.
+use Prim.Native.Nat.{ℕ, _+_, _-_, _≤_}
+use mathlib.Core.Bool.{true}
+use mathlib.Core.List.{List, [], _∷_, _++_}
+use mathlib.Core.Logic.{_⊎_, inl, inr}
+use mathlib.Core.Path.{_≡_, refl, sym, _∙_, ap}
+use native.Mathlib.Omega.{arith}
+use lib.ListN.{length}
+use Rattle.sequences.specs.All.{All}
+use Rattle.sequences.specs.Part.{part, put}
+use Rattle.sequences.proofs.All.{all-append}
+use Rattle.sequences.proofs.Part.{part-at-most, part-put, put-length}
+use Rattle.fields.specs.Digits.{digits}
+use Rattle.fields.proofs.Decimal.{written-length}
+use Rattle.records.specs.Field.{Span, _to_, width, field}
+use Rattle.records.specs.Kinds.{typeOf}
+use Rattle.records.specs.declared.kind.Kind.{Kind}
+use Rattle.records.specs.declared.kind.Kind.the-variants.{Im, R14}
+use Rattle.records.proofs.EachKind.{each-kind}
+use Rattle.list.specs.Encode.{Placed, place, fill, blanks, carriedAt, supplied, bodyPlaced, encodeItem}
+use Rattle.list.specs.Items.{Item, Proper}
+use Rattle.list.specs.ReadBack.{gather}
+use Rattle.list.specs.Table.{carried, bodyLength}
+use Rattle.list.proofs.Carried.{body-fits, body-outside, gather-placed, inOne, gather-at}
+use Rattle.list.proofs.Placing.{Fits, Outside, fill-length, fill-outside, fill-append}
+use Rattle.list.proofs.Spans.{carried-within, carried-rising, carried-behind}
+
+-- a type has two bytes
+pub type-length : (k : Kind) → length (typeOf k) ≡ 2
+type-length = each-kind (λ (k : Kind). length (typeOf k) ≡ 2) (refl, (refl, (refl, (refl, (refl, (refl, (refl, (refl, (refl, (refl, (refl, tt)))))))))))
+
+pub blanks-length : length blanks ≡ 120
+blanks-length = refl
+
+-- what is supplied lies within the record, and behind the type
+module _ (n : ℕ) (abi : List ℕ) (short : length abi ≤ 5) where
+  number-length : length (digits 7 n) ≡ 7
+  number-length = written-length 7 n
+
+  supplied-fits : (k : Kind) → All Fits (supplied k n abi)
+  supplied-fits =
+      let number : 3 + length (digits 7 n) ≤ 120 = omega (arith, number-length) in
+      let bank : 47 + length abi ≤ 120 = omega arith in
+      each-kind (λ (k : Kind). All Fits (supplied k n abi)) ((omega arith, tt), ((number, (omega arith, (omega arith, (bank, (omega arith, tt))))), ((number, tt), ((number, tt), ((number, tt), ((number, tt), ((number, tt), ((number, tt), ((number, tt), ((number, tt), (tt, tt)))))))))))
+
+supplied-outside : (n : ℕ) (abi : List ℕ) (k : Kind) → All (Outside 1 2) (supplied k n abi)
+supplied-outside n abi = each-kind (λ (k : Kind). All (Outside 1 2) (supplied k n abi)) ((inl (omega arith), tt), ((inl (omega arith), (inl (omega arith), (inl (omega arith), (inl (omega arith), (inl (omega arith), tt))))), ((inl (omega arith), tt), ((inl (omega arith), tt), ((inl (omega arith), tt), ((inl (omega arith), tt), ((inl (omega arith), tt), ((inl (omega arith), tt), ((inl (omega arith), tt), ((inl (omega arith), tt), (tt, tt)))))))))))
+
+-- the ABI that is copied has five bytes, or none
+pub abi-short : (header : List ℕ) → length (carriedAt Im 9 13 header) ≤ 5
+abi-short header = part-at-most 5 5 header
+
+module _ (n : ℕ) (header : List ℕ) (it : Item) (proper : Proper it) where
+  abbrev kind : Kind
+  kind = it .kind
+
+  -- what is placed behind the type
+  abbrev own : List Placed
+  own = supplied kind n (carriedAt Im 9 13 header)
+
+  abbrev body : List Placed
+  body = bodyPlaced (carried kind) (it .body)
+
+  abbrev withType : List ℕ
+  withType = put 1 (typeOf kind) blanks
+
+  type-within : 1 + length (typeOf kind) ≤ length blanks
+  type-within = rw type-length (omega arith)
+
+  type-size : length withType ≡ 120
+  type-size = put-length 1 (typeOf kind) blanks type-within
+
+  body-size : bodyLength kind ≡ length (it .body)
+  body-size = sym (proper .sized)
+
+  own-fits : All Fits own
+  own-fits = supplied-fits n (carriedAt Im 9 13 header) (abi-short header) kind
+
+  all-fit : All Fits (own ++ body)
+  all-fit = all-append Fits own body own-fits (body-fits (carried kind) (it .body) (carried-within kind) body-size)
+
+  pub encoded-length : length (encodeItem n header it) ≡ 120
+  unfolding encodeItem fill
+  encoded-length = fill-length (own ++ body) withType all-fit type-size
+
+  pub encoded-type : field 2 3 (encodeItem n header it) ≡ typeOf kind
+  unfolding encodeItem fill
+  encoded-type =
+      let outside : All (Outside 1 2) (own ++ body) = all-append (Outside 1 2) own body (supplied-outside n (carriedAt Im 9 13 header) kind) (body-outside 1 2 (carried kind) (it .body) (carried-behind kind)) in
+      fill-outside 1 2 (own ++ body) withType all-fit type-size outside
+      ∙ ap (λ (m : ℕ). part 1 m withType) (sym (type-length kind))
+      ∙ part-put 1 (typeOf kind) blanks type-within
+
+  pub encoded-body : gather (carried kind) (encodeItem n header it) ≡ it .body
+  unfolding encodeItem fill
+  encoded-body =
+      ap (gather (carried kind)) (fill-append own body withType)
+      ∙ gather-placed (carried kind) (it .body) (fill own withType) (carried-within kind) (carried-rising kind) body-size (fill-length own withType own-fits type-size)
+
+  -- positions that the body carries stand in the record as they stand in the body
+  pub encoded-at : (a e : ℕ) → inOne (carried kind) a e ≡ true → field a e (encodeItem n header it) ≡ carriedAt kind a e (it .body)
+  encoded-at a e t =
+      sym (gather-at (carried kind) a e (encodeItem n header it) (carried-within kind) encoded-length t) ∙ ap (carriedAt kind a e) encoded-body

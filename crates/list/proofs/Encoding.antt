@@ -1,0 +1,153 @@
+-- The records that items encode, and their items again. Assumes nothing.
+use Prim.Native.Nat.{ℕ, suc, _+_, _-_, _*_, _≤_}
+use mathlib.Core.Bool.{true}
+use mathlib.Core.List.{List, [], _∷_, _++_, append-nil, map, map-append, flatten}
+use mathlib.Core.Path.{_≡_, refl, sym, _∙_, ap, subst}
+use native.Mathlib.Omega.{arith}
+use lib.ListN.{length, drop, length-append}
+use lib.Seq.{length-take-le}
+use Rattle.sequences.specs.All.{All}
+use Rattle.sequences.specs.Part.{part}
+use Rattle.sequences.proofs.All.{all-append}
+use Rattle.sequences.proofs.Flatten.{flatten-append}
+use Rattle.sequences.proofs.Part.{part-at-most}
+use Rattle.fields.specs.Bytes.{isEqual}
+use Rattle.fields.specs.Digits.{digits}
+use Rattle.fields.proofs.Decimal.{written-length}
+use Rattle.records.specs.Constants.{currency}
+use Rattle.records.specs.Field.{field}
+use Rattle.records.specs.Kinds.{typeOf}
+use Rattle.records.specs.declared.kind.Kind.{Kind}
+use Rattle.records.specs.declared.kind.Kind.the-variants.{Im, Ef}
+use Rattle.records.proofs.EachKind.{each-kind}
+use Rattle.flow.specs.Records.{recordsOf}
+use Rattle.flow.specs.Steps.{opened}
+use Rattle.flow.proofs.Cut.{Whole, flatten-length, joined-records}
+use Rattle.list.specs.Encode.{Placed, place, blanks, carriedAt, headerBehind, lastHeader, dispositionsOf, centsOf, encodeItem, trailerPlaced, encodeTrailer, encodeFrom, recordsFor, trailerFor, encode}
+use Rattle.list.specs.Items.{Item, item, Proper}
+use Rattle.list.specs.ReadBack.{gather, itemOf, itemsOf}
+use Rattle.list.specs.Table.{rows, carried, firstKind, kindIn}
+use Rattle.list.proofs.Encoded.{encoded-length, encoded-type, encoded-body}
+use Rattle.list.proofs.Placing.{Fits, Matches, InRow, fill-length, row-stands}
+
+-- a record's kind, by its type
+kind-typed : (k : Kind) → firstKind (λ (l : Kind). isEqual (typeOf k) (typeOf l)) rows ≡ k
+unfolding firstKind isEqual
+kind-typed = each-kind (λ (k : Kind). firstKind (λ (l : Kind). isEqual (typeOf k) (typeOf l)) rows ≡ k) (refl, (refl, (refl, (refl, (refl, (refl, (refl, (refl, (refl, (refl, (refl, tt)))))))))))
+
+pub kind-in : (k : Kind) (rec : List ℕ) → field 2 3 rec ≡ typeOf k → kindIn rec ≡ k
+kind-in k rec e = ap (λ (t : List ℕ). firstKind (λ (l : Kind). isEqual t (typeOf l)) rows) e ∙ kind-typed k
+
+-- EF
+module _ (header : List ℕ) (d c n : ℕ) where
+  abbrev copied : List ℕ
+  copied = carriedAt Im 4 45 header
+
+  copied-short : length copied ≤ 42
+  copied-short = part-at-most 0 42 header
+
+  trailer-fits : All Fits (trailerPlaced copied d c n)
+  trailer-fits =
+      let short = copied-short in
+      (omega arith, (omega arith, (omega (arith, written-length 7 d), (omega (arith, written-length 15 c), (omega (arith, written-length 15 0), (omega (arith, written-length 7 n), (omega arith, tt)))))))
+
+  trailer-row : InRow (trailerPlaced copied d c n)
+  trailer-row =
+      let short = copied-short in
+      let count = written-length 7 d in
+      let sum = written-length 15 c in
+      let zeros = written-length 15 0 in
+      let records = written-length 7 n in (
+        (omega arith, (omega arith, (omega arith, (omega arith, (omega arith, (omega arith, tt)))))),
+        (
+          (omega arith, (omega arith, (omega arith, (omega arith, (omega arith, tt))))),
+          (
+            (omega arith, (omega arith, (omega arith, (omega arith, tt)))),
+            (
+              (omega arith, (omega arith, (omega arith, tt))),
+              (
+                (omega arith, (omega arith, tt)),
+                ((omega arith, tt), (tt, tt)),
+              ),
+            ),
+          ),
+        ),
+      )
+
+  pub trailer-length : length (encodeTrailer header d c n) ≡ 120
+  unfolding encodeTrailer
+  trailer-length = fill-length (trailerPlaced copied d c n) blanks trailer-fits refl
+
+  -- each of its fields stands
+  stands : All (Matches (encodeTrailer header d c n)) (trailerPlaced copied d c n)
+  unfolding encodeTrailer
+  stands = row-stands (trailerPlaced copied d c n) blanks trailer-fits refl trailer-row
+
+  pub trailer-type : field 2 3 (encodeTrailer header d c n) ≡ typeOf Ef
+  trailer-type = stands .0
+
+  pub trailer-copied : 45 ≤ length header → field 4 45 (encodeTrailer header d c n) ≡ copied
+  trailer-copied long =
+      let size : length copied ≡ 42 = length-take-le 42 (drop 0 header) (omega arith) in
+      ap (λ (m : ℕ). part 3 m (encodeTrailer header d c n)) (sym size) ∙ stands .1 .0
+
+  pub trailer-dispositions : field 46 52 (encodeTrailer header d c n) ≡ digits 7 d
+  trailer-dispositions = ap (λ (m : ℕ). part 45 m (encodeTrailer header d c n)) (sym (written-length 7 d)) ∙ stands .1 .1 .0
+
+  pub trailer-cents : field 53 67 (encodeTrailer header d c n) ≡ digits 15 c
+  trailer-cents = ap (λ (m : ℕ). part 52 m (encodeTrailer header d c n)) (sym (written-length 15 c)) ∙ stands .1 .1 .1 .0
+
+  pub trailer-zeros : field 68 82 (encodeTrailer header d c n) ≡ digits 15 0
+  trailer-zeros = ap (λ (m : ℕ). part 67 m (encodeTrailer header d c n)) (sym (written-length 15 0)) ∙ stands .1 .1 .1 .1 .0
+
+  pub trailer-records : field 83 89 (encodeTrailer header d c n) ≡ digits 7 n
+  trailer-records = ap (λ (m : ℕ). part 82 m (encodeTrailer header d c n)) (sym (written-length 7 n)) ∙ stands .1 .1 .1 .1 .1 .0
+
+  pub trailer-currency : field 114 114 (encodeTrailer header d c n) ≡ currency
+  trailer-currency = stands .1 .1 .1 .1 .1 .1 .0
+
+-- records of 120 bytes
+pub encoded-whole : (n : ℕ) (header : List ℕ) (is : List Item) → All Proper is → Whole (encodeFrom n header is)
+unfolding encodeFrom
+encoded-whole n header [] proper = tt
+encoded-whole n header (it ∷ is) proper = (encoded-length (n + opened (it .kind)) header it (proper .0), encoded-whole (n + opened (it .kind)) (headerBehind header it) is (proper .1))
+
+pub encoded-count : (n : ℕ) (header : List ℕ) (is : List Item) → length (encodeFrom n header is) ≡ length is
+unfolding encodeFrom
+encoded-count n header [] = refl
+encoded-count n header (it ∷ is) = ap suc (encoded-count (n + opened (it .kind)) (headerBehind header it) is)
+
+-- whose items are those that they were encoded from
+one-item : (n : ℕ) (header : List ℕ) (it : Item) → Proper it → itemOf (encodeItem n header it) ≡ it ∷ []
+one-item n header it proper =
+    let kind : kindIn (encodeItem n header it) ≡ it .kind = kind-in (it .kind) (encodeItem n header it) (encoded-type n header it proper) in
+    rw (kind, proper .listed, encoded-body n header it proper)
+
+pub items-encoded : (n : ℕ) (header : List ℕ) (is : List Item) → All Proper is → flatten (map itemOf (encodeFrom n header is)) ≡ is
+unfolding encodeFrom flatten
+items-encoded n header [] proper = refl
+items-encoded n header (it ∷ is) proper =
+    rw (one-item (n + opened (it .kind)) header it (proper .0)) (ap (λ (l : List Item). it ∷ l) (items-encoded (n + opened (it .kind)) (headerBehind header it) is (proper .1)))
+
+-- what a list encodes: its records, and its own list
+module _ (is : List Item) (proper : All Proper is) where
+  abbrev all : List (List ℕ)
+  all = recordsFor is ++ (trailerFor is ∷ [])
+
+  all-whole : Whole all
+  all-whole = all-append (λ (rec : List ℕ). length rec ≡ 120) (recordsFor is) (trailerFor is ∷ []) (encoded-whole 0 [] is proper) (trailer-length (lastHeader [] is) (dispositionsOf is) (centsOf is) (suc (length is)), tt)
+
+  pub encode-records : recordsOf (encode is) ≡ all
+  encode-records = joined-records all all-whole
+
+  pub encode-length : length (encode is) ≡ 120 * suc (length is)
+  encode-length = flatten-length all all-whole ∙ ap (λ (m : ℕ). 120 * m) (length-append (recordsFor is) (trailerFor is ∷ []) ∙ omega (arith, encoded-count 0 [] is))
+
+  pub encode-items : itemsOf (encode is) ≡ is
+  unfolding flatten
+  encode-items =
+      let none : itemOf (trailerFor is) ≡ [] = rw (kind-in Ef (trailerFor is) (trailer-type (lastHeader [] is) (dispositionsOf is) (centsOf is) (suc (length is)))) in
+      ap (λ (recs : List (List ℕ)). flatten (map itemOf recs)) encode-records
+      ∙ ap flatten (map-append itemOf (recordsFor is) (trailerFor is ∷ []))
+      ∙ flatten-append (map itemOf (recordsFor is)) (itemOf (trailerFor is) ∷ [])
+      ∙ cc (items-encoded 0 [] is proper, none, append-nil is)

@@ -1,0 +1,46 @@
+-- The worked examples, by computation. Assumes nothing.
+use mathlib.Core.List.{flatten}
+use mathlib.Core.Path.{refl}
+use Rattle.sequences.specs.Every.{every}
+use Rattle.fields.specs.Bytes.{isEqual}
+use Rattle.fields.specs.Calendar.{isLeap, daysIn, isDay}
+use Rattle.fields.specs.Digits.{numberFrom, digits}
+use Rattle.records.specs.Bytes.{badFrom}
+use Rattle.records.specs.Checks.{isListed, checks}
+use Rattle.records.specs.Finding.{firstFault}
+use Rattle.records.specs.Judge.{judge as Record·judge}
+use Rattle.flow.specs.Judge.{go, judge}
+use Rattle.flow.specs.Records.{cut}
+use Rattle.flow.specs.Order.{among}
+use Rattle.flow.specs.Steps.{typed, judgeRecord}
+use Rattle.list.specs.Encode.{fill, bodyPlaced, encodeItem, encodeTrailer, encodeFrom, lastHeader, dispositionsOf, centsOf}
+use Rattle.list.specs.Examples.{Examples}
+use Rattle.list.specs.Items.{itemsFrom}
+use Rattle.list.specs.ReadBack.{judgeRoom}
+use Rattle.list.specs.Table.{firstKind}
+use Rattle.list.specs.Write.{judgeItems, judgeList}
+
+pub examples : Examples
+unfolding judge go cut judgeRecord typed among Record·judge firstFault checks isListed badFrom isEqual numberFrom digits every isDay daysIn isLeap flatten fill bodyPlaced encodeItem encodeTrailer encodeFrom lastHeader dispositionsOf centsOf itemsFrom judgeRoom firstKind judgeItems judgeList
+examples =
+    record {
+      bodies = refl;
+      trailer = refl;
+      two-rents = refl;
+      one-rent = refl;
+      one-rent-encoded = refl;
+      written = refl;
+      one-short = refl;
+      empty = refl;
+      empty-short = refl;
+      header-alone = refl;
+      no-header = refl;
+      second-header = refl;
+      unknown = refl;
+      cut-short = refl;
+      read-back = refl;
+      canonical = refl;
+      room = refl;
+      no-room = refl;
+      refused-first = refl;
+    }

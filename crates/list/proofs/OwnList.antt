@@ -1,0 +1,114 @@
+-- A flow's own list, record by record, and a loop that stores it. Assumes nothing.
+use Prim.Native.Nat.{ℕ, suc, _+_, _-_, _*_, _/_, _≤_, _<_}
+use mathlib.Core.Bool.{Bool, true, false, cond, not}
+use mathlib.Core.List.{List, [], _∷_, _++_, map, flatten, append-nil, map-append}
+use mathlib.Core.Path.{_≡_, refl, sym, _∙_, ap}
+use native.Mathlib.Numerals.{add-one}
+use native.Mathlib.Omega.{arith}
+use lib.ListN.{length, drop, set, length-append}
+use lib.Seq.{set-split}
+use Rattle.sequences.specs.Part.{put}
+use Rattle.sequences.proofs.Flatten.{flatten-append}
+use Rattle.sequences.proofs.Part.{part-length, put-append, put-length, put-nothing}
+use Rattle.records.specs.Kinds.{closes}
+use Rattle.records.specs.declared.kind.Kind.{Kind}
+use Rattle.flow.specs.Records.{cut, recordAt}
+use Rattle.flow.proofs.Cut.{cut-next, cut-end}
+use Rattle.list.specs.Items.{itemBytes, listBytes}
+use Rattle.list.specs.ReadBack.{gather, itemOf, itemLength, listOf}
+use Rattle.list.specs.Table.{letter, carried, bodyLength, kindIn}
+use Rattle.list.proofs.Gathering.{body-at-most, body-gathered}
+
+-- the item of a record as bytes: none, or its kind byte and its carried bytes
+pub no-item : (rec : List ℕ) → closes (kindIn rec) ≡ true → listBytes (itemOf rec) ≡ []
+unfolding flatten
+no-item rec none = rw none
+
+pub item-bytes : (rec : List ℕ) → closes (kindIn rec) ≡ false → listBytes (itemOf rec) ≡ letter (kindIn rec) ∷ gather (carried (kindIn rec)) rec
+unfolding flatten
+item-bytes rec listed = rw listed (append-nil (letter (kindIn rec) ∷ gather (carried (kindIn rec)) rec))
+
+-- as many as its kind says, and no more than 111
+pub item-count : (rec : List ℕ) → length rec ≡ 120 → length (listBytes (itemOf rec)) ≡ itemLength (kindIn rec)
+item-count rec whole = by (closes (kindIn rec)) refl
+  where
+    by : (b : Bool) → closes (kindIn rec) ≡ b → length (listBytes (itemOf rec)) ≡ itemLength (kindIn rec)
+    by true e = ap length (no-item rec e) ∙ rw e
+    by false e = ap length (item-bytes rec e) ∙ rw e (ap suc (body-gathered rec whole (kindIn rec)))
+
+pub item-at-most : (k : Kind) → itemLength k ≤ 111
+item-at-most k = by (closes k)
+  where
+    by : (b : Bool) → cond (not b) (suc (bodyLength k)) 0 ≤ 111
+    by true = omega arith
+    by false = omega (arith, body-at-most k)
+
+-- its kind byte stored, and then the carried bytes behind it
+pub item-stored :
+    (rec : List ℕ) → length rec ≡ 120 → closes (kindIn rec) ≡ false → (from : ℕ) (out : List ℕ) → from + 1 + bodyLength (kindIn rec) ≤ length out
+    → put (from + 1) (gather (carried (kindIn rec)) rec) (set out from (letter (kindIn rec))) ≡ put from (listBytes (itemOf rec)) out
+item-stored rec whole listed from out fits =
+    let k = kindIn rec in
+    let body = gather (carried k) rec in
+    let one : set out from (letter k) ≡ put from (letter k ∷ []) out = rw add-one (set-split out from (letter k) (omega arith)) in
+    let size : length body ≡ bodyLength k = body-gathered rec whole k in
+    rw (item-bytes rec listed, one) (sym (put-append from (letter k ∷ []) body out (omega arith)))
+
+-- the items of the records from index i on
+abbrev pub listFrom : List ℕ → ℕ → List ℕ
+listFrom f i = listBytes (flatten (map itemOf (cut (length f / 120 - i) (drop (120 * i) f))))
+
+pub list-all : (f : List ℕ) → listFrom f 0 ≡ listOf f
+list-all f = let all : length f / 120 - 0 ≡ length f / 120 = omega arith in rw all
+
+-- for a loop over i: the item of the record at i, then the rest; and past the end none is left
+pub list-next : (f : List ℕ) (i : ℕ) → i < length f / 120 → listFrom f i ≡ listBytes (itemOf (recordAt i f)) ++ listFrom f (suc i)
+unfolding flatten
+list-next f i h =
+    let rest = flatten (map itemOf (cut (length f / 120 - suc i) (drop (120 * suc i) f))) in
+    rw (cut-next (length f / 120) i f h)
+    (ap flatten (map-append itemBytes (itemOf (recordAt i f)) rest) ∙ flatten-append (map itemBytes (itemOf (recordAt i f))) (map itemBytes rest))
+
+pub record-whole : (f : List ℕ) (i : ℕ) → i < length f / 120 → length (recordAt i f) ≡ 120
+record-whole f i h = part-length (120 * i) 120 f (omega arith)
+
+pub length-next : (f : List ℕ) (i : ℕ) → i < length f / 120 → length (listFrom f i) ≡ itemLength (kindIn (recordAt i f)) + length (listFrom f (suc i))
+length-next f i h =
+    let bytes = listBytes (itemOf (recordAt i f)) in
+    ap length (list-next f i h) ∙ length-append bytes (listFrom f (suc i)) ∙ ap (λ (n : ℕ). n + length (listFrom f (suc i))) (item-count (recordAt i f) (record-whole f i h))
+
+pub list-end : (f : List ℕ) (i : ℕ) → length f / 120 ≤ i → listFrom f i ≡ []
+unfolding flatten
+list-end f i h = rw (cut-end (length f / 120) i (drop (120 * i) f) h)
+
+-- the items of the first i records are stored, up to an index; the others still find room behind it, and then all are there
+pub record Listing (f out₀ out : List ℕ) (from i : ℕ) : Type 0 where
+  pub same : length out ≡ length out₀
+  pub room : from + length (listFrom f i) ≤ length out
+  pub left : put from (listFrom f i) out ≡ put 0 (listOf f) out₀
+
+pub listing : (f out : List ℕ) → length (listOf f) ≤ length out → Listing f out out 0 0
+listing f out fits = record { same = refl; room = rw list-all (omega arith); left = rw list-all }
+
+module _ {f out₀ out : List ℕ} {from i : ℕ} (l : Listing f out₀ out from i) where
+  -- one more, written behind the others
+  module _ (more : i < length f / 120) where
+    pub item-fits : from + itemLength (kindIn (recordAt i f)) ≤ length out
+    item-fits = let room = l .room in omega (arith, length-next f i more)
+
+    pub listed-next : Listing f out₀ (put from (listBytes (itemOf (recordAt i f))) out) (from + itemLength (kindIn (recordAt i f))) (suc i)
+    listed-next =
+        let bytes = listBytes (itemOf (recordAt i f)) in
+        let rest = listFrom f (suc i) in
+        let room = l .room in
+        let size : length bytes ≡ itemLength (kindIn (recordAt i f)) = item-count (recordAt i f) (record-whole f i more) in
+        let fits : from + length bytes + length rest ≤ length out = omega (arith, length-next f i more) in
+        let kept : length (put from bytes out) ≡ length out = put-length from bytes out (omega arith) in
+        record {
+          same = kept ∙ l .same;
+          room = rw (← size, kept) fits;
+          left = rw (← size, ← put-append from bytes rest out fits, ← list-next f i more) (l .left);
+        }
+
+  pub listed-all : length f / 120 ≤ i → out ≡ put 0 (listOf f) out₀
+  listed-all done = sym (put-nothing from out) ∙ ap (λ (l : List ℕ). put from l out) (sym (list-end f i done)) ∙ l .left

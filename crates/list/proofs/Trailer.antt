@@ -1,0 +1,103 @@
+-- The trailer that a list encodes keeps the rules of EF. Assumes nothing.
+use Prim.Native.Nat.{ℕ, _+_, _-_, _^_, _≤_, _<_}
+use mathlib.Core.Bool.{true}
+use mathlib.Core.List.{List, [], _∷_}
+use mathlib.Core.Path.{_≡_, refl, sym, _∙_, ap, subst}
+use native.Mathlib.Omega.{arith}
+use lib.ListN.{length}
+use Rattle.sequences.specs.All.{All}
+use Rattle.sequences.specs.Part.{part}
+use Rattle.sequences.proofs.Part.{part-part}
+use Rattle.fields.specs.Digits.{number, digits}
+use Rattle.fields.proofs.Decimal.{written-digits, written-read-fits}
+use Rattle.records.specs.Bytes.{badFrom, badByte}
+use Rattle.records.specs.Constants.{currency}
+use Rattle.records.specs.Context.{headerOf}
+use Rattle.records.specs.Field.{_to_, width, field}
+use Rattle.records.specs.Kinds.{typeOf}
+use Rattle.records.specs.declared.kind.Kind.the-variants.{Im, Ef}
+use Rattle.records.proofs.Checked.{field-within}
+use Rattle.flow.specs.Steps.{opened}
+use Rattle.flow.specs.declared.walk.Walk.{Walk}
+use Rattle.grammar.specs.Rules.{Digits, Says, Printable, Formed, TrailerRules}
+use Rattle.grammar.proofs.AtPlace.{asks, May, RightAt}
+use Rattle.grammar.proofs.Rules.{digits-exact, printable-exact, trailer-rules}
+use Rattle.list.specs.Table.{carried}
+use Rattle.list.specs.Encode.{blanks, carriedAt, trailerPlaced, encodeTrailer}
+use Rattle.list.proofs.Carried.{inOne}
+use Rattle.list.proofs.Encoding.{trailer-length, trailer-type, trailer-copied, trailer-dispositions, trailer-cents, trailer-zeros, trailer-records, trailer-currency}
+use Rattle.list.proofs.Placing.{all-part, AllPlaced, fill-all}
+
+-- a number written in enough digits says it
+pub says-written : (w v : ℕ) → v < 10 ^ w → Says v (digits w v)
+says-written w v small = (digits-exact (digits w v) .0 (written-digits w v), written-read-fits w v small)
+
+digits-printable : (bs : List ℕ) → Digits bs → All Printable bs
+digits-printable [] ds = tt
+digits-printable (b ∷ bs) ds =
+    let low = ds .0 .0 in
+    let high = ds .0 .1 in
+    ((omega arith, omega arith), digits-printable bs (ds .1))
+
+-- the counts that it says
+pub record Counted (d c n : ℕ) : Type 0 where
+  pub dispositions : d < 10 ^ 7
+  pub cents : c < 10 ^ 15
+  pub records : n < 10 ^ 7
+
+-- `header` is a body of H that carries what the record `im` has
+pub record Meant (im header : List ℕ) : Type 0 where
+  pub sized : length header ≡ 49
+  pub carries : (a e : ℕ) → inOne (carried Im) a e ≡ true → field a e im ≡ carriedAt Im a e header
+  pub printable : All Printable im
+  pub code : field 114 114 im ≡ currency
+
+module _ (im header : List ℕ) (meant : Meant im header) (d c n : ℕ) where
+  abbrev trailer : List ℕ
+  trailer = encodeTrailer header d c n
+
+  -- positions of 4-45 are the header's
+  pub copied-at : (a e : ℕ) → 4 ≤ a → a ≤ e → e ≤ 45 → field a e trailer ≡ part (a - 4) (width (a to e)) header
+  copied-at a e h k l =
+      let size = meant .sized in
+      let inside : a - 4 + width (a to e) ≤ 42 = omega arith in
+      let start : 0 + (a - 4) ≡ a - 4 = omega arith in
+      sym (field-within 4 45 a e trailer (omega arith) h k l)
+      ∙ ap (part (a - 4) (width (a to e))) (trailer-copied header d c n (omega arith))
+      ∙ part-part 0 42 (a - 4) (width (a to e)) header inside
+      ∙ ap (λ (m : ℕ). part m (width (a to e)) header) start
+
+  pub trailer-formed : Formed Ef trailer
+  unfolding encodeTrailer badFrom
+  trailer-formed =
+      let fixed : (bs : List ℕ) → badByte bs ≡ 0 → All Printable bs = λ bs. printable-exact bs .0 in
+      let number : (w v : ℕ) → All Printable (digits w v) = λ w v. digits-printable (digits w v) (digits-exact (digits w v) .0 (written-digits w v)) in
+      let copied : All Printable (carriedAt Im 4 45 header) = subst (All Printable) (meant .carries 4 45 refl) (all-part Printable 3 42 im (meant .printable)) in
+      let placed : All (AllPlaced Printable) (trailerPlaced (carriedAt Im 4 45 header) d c n) = (fixed (typeOf Ef) refl, (copied, (number 7 d, (number 15 c, (number 15 0, (number 7 n, (fixed currency refl, tt))))))) in
+      record {
+        whole = trailer-length header d c n;
+        printable = fill-all Printable (trailerPlaced (carriedAt Im 4 45 header) d c n) blanks placed (fixed blanks refl);
+        type = trailer-type header d c n;
+      }
+
+  pub trailer-keeps : Counted d c n → TrailerRules (headerOf im) d c n trailer
+  trailer-keeps counted =
+      record {
+        mittente = copied-at 4 8 (omega arith) (omega arith) (omega arith) ∙ sym (meant .carries 4 8 refl);
+        ricevente = copied-at 9 13 (omega arith) (omega arith) (omega arith) ∙ sym (meant .carries 9 13 refl);
+        created = copied-at 14 19 (omega arith) (omega arith) (omega arith) ∙ sym (meant .carries 14 19 refl);
+        name = copied-at 20 39 (omega arith) (omega arith) (omega arith) ∙ sym (meant .carries 20 39 refl);
+        dispositions-said = subst (Says d) (sym (trailer-dispositions header d c n)) (says-written 7 d (counted .dispositions));
+        cents-said = subst (Says c) (sym (trailer-cents header d c n)) (says-written 15 c (counted .cents));
+        zeros = subst (Says 0) (sym (trailer-zeros header d c n)) (says-written 15 0 (omega arith));
+        records-said = subst (Says n) (sym (trailer-records header d c n)) (says-written 7 n (counted .records));
+        currency-code = trailer-currency header d c n ∙ sym (meant .code);
+      }
+
+  -- so it is right where EF may come and the walk has counted as it says
+  pub trailer-right :
+      Counted d c n → (w : Walk) (company : List ℕ) (i : ℕ) → May w Ef → w .dispositions ≡ d → w .cents ≡ c → i ≡ n → RightAt (headerOf im) w company i Ef trailer
+  trailer-right counted w company i may dispositions cents records =
+      let count : d ≡ w .dispositions + opened Ef = omega (arith, dispositions) in
+      let rules : TrailerRules (headerOf im) (w .dispositions + opened Ef) (w .cents) i trailer = subst (λ (A : Type 0). A) (λ j. TrailerRules (headerOf im) (count j) (sym cents j) (sym records j) trailer) (trailer-keeps counted) in
+      record { may = may; formed = trailer-formed; keeps = trailer-rules (asks (headerOf im) w company i Ef) trailer .1 rules }

@@ -1,0 +1,172 @@
+-- Writing is refused exactly where document 01 says so, and by that number. Assumes nothing.
+use Prim.Native.Nat.{ℕ, suc, _+_, _*_, _≤_, _<_}
+use mathlib.Core.Bool.{Bool, true, false, cond, true≢false}
+use mathlib.Core.List.{List, [], _∷_, _++_, flatten}
+use mathlib.Core.Logic.{_↔_, _⊎_, inl, inr}
+use mathlib.Core.Path.{_≡_, refl, sym, _∙_, ap, subst}
+use native.Mathlib.Omega.{arith}
+use lib.Dec.{leb}
+use lib.ListN.{length, length-append, length-map}
+use borrow.Author.Tests.{leb-true, leb-false, le-leb, lt-leb}
+use Rattle.sequences.specs.All.{All}
+use Rattle.records.specs.declared.kind.Kind.the-variants.{Ef}
+use Rattle.flow.specs.Judge.{ended, judge}
+use Rattle.flow.specs.Order.{permitted, isDue, mayClose}
+use Rattle.flow.specs.Records.{RightLength, recordsOf}
+use Rattle.flow.specs.Steps.{start}
+use Rattle.flow.specs.Verdict.{Verdict, accepted, refused}
+use Rattle.flow.specs.declared.walk.Walk.{Walk}
+use Rattle.flow.proofs.Accepted.{accepted-not-refused}
+use Rattle.flow.proofs.Cut.{flatten-length, joined-records}
+use Rattle.grammar.specs.Fault.{MayFollow, EachRight}
+use Rattle.grammar.specs.Grammar.{Typed, recordsIn}
+use Rattle.grammar.proofs.Behind.{may-follow, follows-may, walked-of, each-of}
+use Rattle.grammar.proofs.FirstFault.{judgeFrom, judged, ends-so, stops-so}
+use Rattle.grammar.proofs.Walked.{stateBehind}
+use Rattle.list.specs.Encode.{centsOf, recordsFor}
+use Rattle.list.specs.Items.{Item, Proper, Parsed, items, faulty, parse}
+use Rattle.list.specs.Laws.{Fitting, WriteFault, no-item, too-many, no-room, in-record, no-trailer, too-much, WriteRefused}
+use Rattle.list.specs.Write.{closed, judgeItems, judgeParsed, judgeList}
+use Rattle.list.proofs.Encoding.{encoded-whole, encoded-count}
+use Rattle.list.proofs.Judging.{front, RightItems, FaultyItems, view-items, right-judged, faulty-judged, right-sums, close-said, close-tested}
+use Rattle.list.proofs.ListItems.{items-exact, faulty-exact}
+
+-- the parts of a refusal
+refusal-same : {n r p m s q : ℕ} → refused n r p ≡ refused m s q → (n ≡ m) × (r ≡ s) × (p ≡ q)
+refusal-same e = (cc, cc, cc)
+
+renamed : {list : List ℕ} {room n r p : ℕ} (m s q : ℕ) → refused m s q ≡ refused n r p → WriteFault list room m s q → WriteFault list room n r p
+renamed {list} {room} m s q e fault =
+    let same = refusal-same e in
+    subst (λ (A : Type 0). A) (λ i. WriteFault list room (same .0 i) (same .1 i) (same .2 i)) fault
+
+-- the records other than EF, judged by the reader itself
+module _ (is : List Item) (proper : All Proper is) (few : suc (length is) ≤ 9999999) where
+  front-length : length (front is) ≡ 120 * length is
+  front-length = flatten-length (recordsFor is) (encoded-whole 0 [] is proper) ∙ ap (λ (m : ℕ). 120 * m) (encoded-count 0 [] is)
+
+  front-judged : 1 ≤ length is → judge (front is) ≡ judgeFrom (front is) (recordsFor is)
+  front-judged some =
+      let size = front-length in
+      let sized : RightLength (length (front is)) = (omega arith, omega arith, omega arith) in
+      judged (front is) sized ∙ ap (judgeFrom (front is)) (joined-records (recordsFor is) (encoded-whole 0 [] is proper))
+
+  fault-within : (f : FaultyItems is) → suc (length (recordsIn (f .typed))) ≤ length is
+  fault-within f =
+      let all : length (recordsIn (f .typed)) + suc (length (f .rest)) ≡ length is = sym (length-append (recordsIn (f .typed)) (f .rec ∷ f .rest)) ∙ ap (λ (l : List (List ℕ)). length l) (sym (f .same)) ∙ encoded-count 0 [] is in
+      omega arith
+
+  fault-read : (f : FaultyItems is) → judge (front is) ≡ refused (f .number) (suc (length (recordsIn (f .typed)))) (f .position)
+  fault-read f =
+      let within = fault-within f in
+      front-judged (omega arith) ∙ ap (judgeFrom (front is)) (f .same) ∙ stops-so ended (front is) (f .typed) (f .walked) (f .rec) (f .rest) (f .number) (f .position) (f .whole) (f .fault)
+
+  -- where all are right the reader finds no fault in them
+  right-read : (r : RightItems is) {n s p : ℕ} → judge (front is) ≡ refused n s p → 1 ≤ s → s ≤ length is → ⊥
+  right-read r {n} {s} {p} e some within =
+      let all : length (r .typed) ≡ length is = sym (length-map (r .typed) (λ (x : Typed). x .bytes)) ∙ ap (λ (l : List (List ℕ)). length l) (r .same) ∙ encoded-count 0 [] is in
+      by (isDue (permitted (stateBehind start (r .typed) .place .due))) all (sym (front-judged (omega arith) ∙ ap (judgeFrom (front is)) (sym (r .same)) ∙ ends-so ended (front is) (r .typed) (r .walked)) ∙ e)
+    where
+      by : (b : Bool) → length (r .typed) ≡ length is → cond b (refused 4 (suc (length (r .typed))) 0) (accepted (stateBehind start (r .typed) .dispositions) (stateBehind start (r .typed) .cents) (length (r .typed))) ≡ refused n s p → ⊥
+      by true all e = omega (arith, refusal-same e .1)
+      by false all e = accepted-not-refused (sym e)
+
+-- whether EF may follow right records, as the walk tests it and as it is said
+abbrev may : {is : List Item} → RightItems is → Bool
+may q = mayClose (permitted (stateBehind start (q .typed) .place .due))
+
+trailer-follows : (is : List Item) (q : RightItems is) → (may q ≡ true) ↔ MayFollow (recordsFor is) Ef
+trailer-follows is q =
+    let due = permitted (stateBehind start (q .typed) .place .due) in (
+      λ t. subst (λ (recs : List (List ℕ)). MayFollow recs Ef) (q .same) (may-follow (front is) (q .typed) (q .walked) Ef (close-said due t)),
+      λ follows. close-tested due (follows-may (front is) (q .typed) (q .walked) Ef (subst (λ (recs : List (List ℕ)). MayFollow recs Ef) (sym (q .same)) follows)),
+    )
+
+-- from the answer to document 01's sentence
+module _ (list : List ℕ) (room n r p : ℕ) where
+  at-end : (is : List Item) → Fitting list room is → (proper : All Proper is) (q : RightItems is) → closed (stateBehind start (q .typed)) (length is) ≡ refused n r p → WriteFault list room n r p
+  at-end is fits proper q = by (may q) (leb (stateBehind start (q .typed) .cents) 999999999999999) refl refl
+    where
+      each : EachRight (front is) (recordsFor is)
+      each = subst (EachRight (front is)) (q .same) (each-of (front is) (q .typed) (q .walked))
+
+      by :
+          (a b : Bool) → may q ≡ a → leb (stateBehind start (q .typed) .cents) 999999999999999 ≡ b
+          → cond a (cond b (accepted (stateBehind start (q .typed) .dispositions) (stateBehind start (q .typed) .cents) (suc (length is))) (refused 17 0 0)) (refused 3 (suc (length is)) 2) ≡ refused n r p
+          → WriteFault list room n r p
+      by true true e f x = absurd (accepted-not-refused (sym x))
+      by true false e f x =
+          renamed 17 0 0 x (too-much is fits each (trailer-follows is q .0 e) (omega (arith, leb-false (stateBehind start (q .typed) .cents) 999999999999999 f, right-sums is proper q .1)))
+      by false b e f x = renamed 3 (suc (length is)) 2 x (no-trailer is fits each (λ follows. true≢false (sym (trailer-follows is q .1 follows) ∙ e)))
+
+  at-records : (is : List Item) → Fitting list room is → judgeItems is ≡ refused n r p → WriteFault list room n r p
+  at-records is fits e = let proper = items-exact list is .0 (fits .said) .1 in by proper (view-items is proper)
+    where
+      by : All Proper is → RightItems is ⊎ FaultyItems is → WriteFault list room n r p
+      by proper (inl q) = at-end is fits proper q (sym (right-judged is proper q) ∙ e)
+      by proper (inr f) =
+          let record-number = suc (length (recordsIn (f .typed))) in
+          renamed (f .number) record-number (f .position) (sym (faulty-judged is proper f) ∙ e)
+          (in-record is (f .number) record-number (f .position) fits (fault-read is proper (fits .few) f) (omega arith) (fault-within is proper (fits .few) f))
+
+  at-sizes : (is : List Item) → parse list ≡ items is → judgeParsed (items is) room ≡ refused n r p → WriteFault list room n r p
+  at-sizes is said = by (leb (suc (length is)) 9999999) (leb (120 * suc (length is)) room) refl refl
+    where
+      by : (a b : Bool) → leb (suc (length is)) 9999999 ≡ a → leb (120 * suc (length is)) room ≡ b → cond a (cond b (judgeItems is) (refused 21 0 0)) (refused 1 0 0) ≡ refused n r p → WriteFault list room n r p
+      by true true e f x = at-records is (record { said = said; few = leb-true (suc (length is)) 9999999 e; roomy = leb-true (120 * suc (length is)) room f }) x
+      by true false e f x = renamed 21 0 0 x (no-room is said (leb-true (suc (length is)) 9999999 e) (leb-false (120 * suc (length is)) room f))
+      by false b e f x = renamed 1 0 0 x (too-many is said (leb-false (suc (length is)) 9999999 e))
+
+  refused-so : judgeList list room ≡ refused n r p → WriteFault list room n r p
+  unfolding judgeList
+  refused-so = by (parse list) refl
+    where
+      by : (q : Parsed) → parse list ≡ q → judgeParsed q room ≡ refused n r p → WriteFault list room n r p
+      by (items is) said x = at-sizes is said x
+      by (faulty m) said x = renamed 20 m 0 x (no-item m (faulty-exact list m .0 said))
+
+-- and the other way round
+pub fitting-judged : (list : List ℕ) (room : ℕ) (is : List Item) → Fitting list room is → judgeList list room ≡ judgeItems is
+unfolding judgeList
+fitting-judged list room is fits = rw (fits .said, le-leb (suc (length is)) 9999999 (fits .few), le-leb (120 * suc (length is)) room (fits .roomy))
+
+-- all the records are right
+right-of : (is : List Item) → All Proper is → EachRight (front is) (recordsFor is) → RightItems is
+right-of is proper each =
+    let walked = walked-of (front is) (recordsFor is) (encoded-whole 0 [] is proper) each in
+    record { typed = walked .0; same = walked .1; walked = walked .2 }
+
+fault-refuses : (list : List ℕ) (room n r p : ℕ) → WriteFault list room n r p → judgeList list room ≡ refused n r p
+unfolding judgeList
+fault-refuses list room n r p (no-item m f) = rw (faulty-exact list m .1 f)
+fault-refuses list room n r p (too-many is said many) =
+    let over : leb (suc (length is)) 9999999 ≡ false = lt-leb (suc (length is)) 9999999 many in
+    rw (said, over)
+fault-refuses list room n r p (no-room is said few short) =
+    let over : leb (120 * suc (length is)) room ≡ false = lt-leb (120 * suc (length is)) room short in
+    rw (said, le-leb (suc (length is)) 9999999 few, over)
+fault-refuses list room n r p (in-record is m s q fits e some within) =
+    let proper = items-exact list is .0 (fits .said) .1 in
+    fitting-judged list room is fits ∙ by proper (view-items is proper)
+  where
+    by : All Proper is → RightItems is ⊎ FaultyItems is → judgeItems is ≡ refused m s q
+    by proper (inl right) = absurd (right-read is proper (fits .few) right e some within)
+    by proper (inr f) = faulty-judged is proper f ∙ sym (fault-read is proper (fits .few) f) ∙ e
+fault-refuses list room n r p (no-trailer is fits each none) =
+    let proper = items-exact list is .0 (fits .said) .1 in
+    let q = right-of is proper each in
+    let shut : may q ≡ false = fails (may q) (λ t. none (trailer-follows is q .0 t)) in
+    fitting-judged list room is fits ∙ right-judged is proper q ∙ rw shut
+  where
+    fails : (b : Bool) → ¬ (b ≡ true) → b ≡ false
+    fails true h = absurd (h refl)
+    fails false h = refl
+fault-refuses list room n r p (too-much is fits each follows much) =
+    let proper = items-exact list is .0 (fits .said) .1 in
+    let q = right-of is proper each in
+    let due : may q ≡ true = trailer-follows is q .1 follows in
+    let over : leb (stateBehind start (q .typed) .cents) 999999999999999 ≡ false = lt-leb (stateBehind start (q .typed) .cents) 999999999999999 (omega (arith, right-sums is proper q .1)) in
+    fitting-judged list room is fits ∙ right-judged is proper q ∙ rw (due, over)
+
+pub write-refused : WriteRefused
+write-refused list room n r p = (refused-so list room n r p, fault-refuses list room n r p)

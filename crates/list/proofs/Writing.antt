@@ -1,0 +1,254 @@
+-- The two loops over a list: one judges the record of each item, the other stores it. Behind each item, what is left decides as the whole
+-- does. Assumes nothing.
+use Prim.Native.Nat.{ℕ, suc, _+_, _-_, _*_, _≤_, _<_, min}
+use mathlib.Core.Bool.{Bool, true, false, cond, _&&_}
+use mathlib.Core.List.{List, [], _∷_, _++_, append-nil, flatten}
+use mathlib.Core.Path.{_≡_, refl, sym, _∙_, ap, subst}
+use native.Mathlib.Omega.{arith}
+use lib.Dec.{leb}
+use lib.ListN.{length, take, drop, getD, length-append}
+use lib.Seq.{take-at}
+use borrow.Author.Tests.{leb-true, leb-false, lt-leb}
+use Rattle.sequences.specs.All.{All}
+use Rattle.sequences.specs.Part.{part, put}
+use Rattle.sequences.proofs.All.{all-append}
+use Rattle.sequences.proofs.Part.{put-append, put-length, part-length}
+use Rattle.records.specs.Checks.{isPresent}
+use Rattle.records.specs.Context.{Header}
+use Rattle.records.specs.Field.{field}
+use Rattle.records.specs.Finding.{right}
+use Rattle.records.specs.Finding.{refused as Finding·refused}
+use Rattle.records.specs.Kinds.{typeOf, heads, opens}
+use Rattle.records.specs.Limits.{countLimit, centsLimit}
+use Rattle.records.specs.declared.kind.Kind.{Kind}
+use Rattle.records.specs.declared.kind.Kind.the-variants.{R14}
+use Rattle.records.proofs.ByKind.{types-differ, type-said}
+use Rattle.flow.specs.Judge.{go}
+use Rattle.flow.specs.Order.{permitted, mayClose}
+use Rattle.flow.specs.Steps.{start, opened, step, latestOf, latest, judgeRecord, stopped}
+use Rattle.flow.specs.Verdict.{accepted, refused}
+use Rattle.flow.specs.declared.walk.Walk.{Walk}
+use Rattle.flow.proofs.Cut.{Whole, flatten-length}
+use Rattle.flow.proofs.Exact.{right-typed}
+use Rattle.flow.proofs.Reading.{Reading, begin, go-on, refuse, finish}
+use Rattle.list.specs.Encode.{carriedAt, headerBehind, lastHeader, dispositionsOf, centsOf, encodeItem, encodeFrom, recordsFor, trailerFor, encode}
+use Rattle.list.specs.Items.{Item, item, Proper, items, itemsFrom, parse, itemsIn, Listed}
+use Rattle.list.specs.Table.{carried, bodyLength, hasItem, kindOf}
+use Rattle.list.specs.Write.{closed, judgeItems}
+use Rattle.list.proofs.Carried.{inOne}
+use Rattle.list.proofs.Encoded.{encoded-length, encoded-type, encoded-at}
+use Rattle.list.proofs.Encoding.{trailer-length, encoded-whole, encoded-count}
+use Rattle.list.proofs.Judging.{opens-14}
+use Rattle.list.proofs.ListItems.{items-exact}
+use Rattle.list.proofs.Written.{opened-one}
+use Rattle.list.proofs.Parsing.{Next, next-item, no-more}
+
+-- the item whose kind byte stands at index i
+abbrev pub kindAt : List ℕ → ℕ → Kind
+kindAt list i = kindOf (getD list i 0)
+
+abbrev pub itemAt : List ℕ → ℕ → Item
+itemAt list i = item (kindAt list i) (part (i + 1) (bodyLength (kindAt list i)) list)
+
+pub next-proper : (list : List ℕ) (n i : ℕ) (is : List Item) → Next list n i is → Proper (itemAt list i)
+next-proper list n i is next =
+    record { listed = next .kind-listed; sized = part-length (i + 1) (bodyLength (kindAt list i)) list (next .ends) }
+
+-- what a turn of a loop has read of it: its kind, and the length of its body
+pub record Turn (list : List ℕ) (i : ℕ) (kind : Kind) (size : ℕ) : Type 0 where
+  pub kind-so : kind ≡ kindAt list i
+  pub size-so : size ≡ bodyLength (kindAt list i)
+  pub ends : i + 1 + size ≤ length list
+  pub body-so : part (i + 1) (i + 1 + size - (i + 1)) list ≡ itemAt list i .body
+  pub body-sized : length (part (i + 1) (i + 1 + size - (i + 1)) list) ≡ bodyLength kind
+
+pub turn : (list : List ℕ) (n i : ℕ) (is : List Item) → Next list n i is → (kind : Kind) (size : ℕ) → kind ≡ kindAt list i → size ≡ bodyLength kind → Turn list i kind size
+turn list n i is next kind size same sized =
+    let size-so : size ≡ bodyLength (kindAt list i) = sized ∙ ap bodyLength same in
+    let ends : i + 1 + size ≤ length list = omega (arith, next .ends) in
+    let width : i + 1 + size - (i + 1) ≡ size = omega arith in
+    let body : part (i + 1) (i + 1 + size - (i + 1)) list ≡ part (i + 1) size list = ap (λ (m : ℕ). part (i + 1) m list) width in
+    record {
+      kind-so = same;
+      size-so = size-so;
+      ends = ends;
+      body-so = body ∙ ap (λ (m : ℕ). part (i + 1) m list) size-so;
+      body-sized = ap length body ∙ part-length (i + 1) size list ends ∙ sized;
+    }
+
+-- so the record that is built is the item's
+pub turn-record :
+    {list : List ℕ} {i : ℕ} {kind : Kind} {size : ℕ} → Turn list i kind size → (dispositions number : ℕ) (header rec : List ℕ) → number ≡ dispositions + opened kind
+    → rec ≡ encodeItem number header (item kind (part (i + 1) (i + 1 + size - (i + 1)) list)) → rec ≡ encodeItem (dispositions + opened (kindAt list i)) header (itemAt list i)
+turn-record t dispositions number header rec counted built =
+    let number-so = counted ∙ ap (λ (k : Kind). dispositions + opened k) (t .kind-so) in
+    built ∙ (λ j. encodeItem (number-so j) header (item (t .kind-so j) (t .body-so j)))
+
+-- a record that is found right is of the item's kind, and its company code is the body's
+module _ (number : ℕ) (header : List ℕ) (it : Item) (proper : Proper it) where
+  pub right-kind : (h : Header) (w : Walk) (company : List ℕ) (n : ℕ) (k : Kind) (c : ℕ) → judgeRecord h w company n (encodeItem number header it) ≡ right k c → k ≡ it .kind
+  right-kind h w company n k c e =
+      types-differ k (it .kind) (sym (type-said k (encodeItem number header it) (right-typed h w company n (encodeItem number header it) k c e .0)) ∙ encoded-type number header it proper)
+
+  pub latest-carried : (company : List ℕ) → latest (it .kind) company (encodeItem number header it) ≡ latestOf (it .kind) company (carriedAt R14 92 96 (it .body))
+  latest-carried company = by (opens (it .kind)) refl
+    where
+      by :
+          (b : Bool) → opens (it .kind) ≡ b
+          → cond (b && isPresent (field 92 96 (encodeItem number header it))) (field 92 96 (encodeItem number header it)) company
+          ≡ cond (b && isPresent (carriedAt R14 92 96 (it .body))) (carriedAt R14 92 96 (it .body)) company
+      by true e =
+          let kind = opens-14 (it .kind) e in
+          let inside : inOne (carried (it .kind)) 92 96 ≡ true = rw kind refl in
+          let code : field 92 96 (encodeItem number header it) ≡ carriedAt R14 92 96 (it .body) = encoded-at number header it proper 92 96 inside ∙ ap (λ (k : Kind). carriedAt k 92 96 (it .body)) kind in
+          rw code
+      by false e = refl
+
+-- a list of no bytes has no items
+pub none-judged : (list : List ℕ) → length list ≡ 0 → judgeItems (itemsIn list) ≡ closed start 0
+unfolding judgeItems encodeFrom itemsFrom go
+none-judged [] e = refl
+none-judged (b ∷ bs) e = absurd (omega arith)
+
+-- behind n right records, at index i of the list
+pub record JudgingAt (h : Header) (list : List ℕ) (i n dispositions : ℕ) (header : List ℕ) (w : Walk) (company : List ℕ) : Type 0 where
+  pub left : List Item
+  pub said : itemsFrom n 0 (drop i list) ≡ items left
+  pub count : n + length left ≡ length (itemsIn list)
+  pub few : dispositions ≤ n
+  pub reading : Reading closed h (recordsFor (itemsIn list)) w company n (encodeFrom dispositions header left)
+
+pub judging-begins : (h : Header) (list : List ℕ) → Listed list → JudgingAt h list 0 0 0 [] start []
+judging-begins h list listed =
+    record { left = itemsIn list; said = listed .said; count = omega arith; few = omega arith; reading = begin closed h (recordsFor (itemsIn list)) }
+
+-- the next record and those behind it
+module _ (list : List ℕ) (n i number : ℕ) (header : List ℕ) (is : List Item) (next : Next list n i is) where
+  abbrev pub recordAt : List ℕ
+  recordAt = encodeItem (number + opened (kindAt list i)) header (itemAt list i)
+
+  abbrev pub recordsBehind : List (List ℕ)
+  recordsBehind = encodeFrom (number + opened (kindAt list i)) (headerBehind header (itemAt list i)) (next .others)
+
+  pub records-next : encodeFrom number header is ≡ recordAt ∷ recordsBehind
+  unfolding encodeFrom
+  records-next = ap (encodeFrom number header) (next .whole)
+
+-- the first record of all is the first 120 bytes
+pub first-record : (list : List ℕ) → Next list 0 0 (itemsIn list) → take 120 (flatten (recordsFor (itemsIn list))) ≡ encodeItem (0 + opened (kindAt list 0)) [] (itemAt list 0)
+unfolding flatten
+first-record list next =
+    ap (λ (recs : List (List ℕ)). take 120 (flatten recs)) (records-next list 0 0 0 [] (itemsIn list) next)
+    ∙ take-at (encodeItem (0 + opened (kindAt list 0)) [] (itemAt list 0)) _ 120 (encoded-length (0 + opened (kindAt list 0)) [] (itemAt list 0) (next-proper list 0 0 (itemsIn list) next))
+
+module _ {h : Header} {list : List ℕ} {i n number : ℕ} {header : List ℕ} {w : Walk} {company : List ℕ} (j : JudgingAt h list i n number header w company) (within : i < length list) where
+  abbrev pub next-judged : Next list n i (j .left)
+  next-judged = next-item list n i (j .left) (j .said) within
+
+  pub judging-on :
+      (k : Kind) (c : ℕ) → judgeRecord h w company (suc n) (recordAt list n i number header (j .left) next-judged) ≡ right k c
+      → JudgingAt h list (i + 1 + bodyLength (kindAt list i)) (suc n) (number + opened (kindAt list i)) (headerBehind header (itemAt list i)) (stopped (step w k c)) (latestOf (kindAt list i) company (carriedAt R14 92 96 (itemAt list i .body)))
+  judging-on k c e =
+      let next = next-judged in
+      let it = itemAt list i in
+      let proper = next-proper list n i (j .left) next in
+      let number′ = number + opened (kindAt list i) in
+      let kind : k ≡ kindAt list i = right-kind number′ header it proper h w company (suc n) k c e in
+      let code : latest k company (encodeItem number′ header it) ≡ latestOf (kindAt list i) company (carriedAt R14 92 96 (it .body)) = ap (λ (l : Kind). latest l company (encodeItem number′ header it)) kind ∙ latest-carried number′ header it proper company in
+      let read = go-on (j .reading) (recordAt list n i number header (j .left) next) (recordsBehind list n i number header (j .left) next) (records-next list n i number header (j .left) next) k c e in
+      let more : length (j .left) ≡ suc (length (next .others)) = ap (λ (l : List Item). length l) (next .whole) in
+      record {
+        left = next .others;
+        said = next .left;
+        count = omega (arith, j .count);
+        few = omega (arith, j .few, opened-one (kindAt list i));
+        reading = subst (λ (l : List ℕ). Reading closed h (recordsFor (itemsIn list)) (stopped (step w k c)) l (suc n) (recordsBehind list n i number header (j .left) next)) code read;
+      }
+
+  pub judging-refused :
+      (m p : ℕ) → judgeRecord h w company (suc n) (recordAt list n i number header (j .left) next-judged) ≡ Finding·refused m p
+      → refused m (suc n) p ≡ go closed h start [] 0 (recordsFor (itemsIn list))
+  judging-refused m p e = refuse (j .reading) (recordAt list n i number header (j .left) next-judged) (recordsBehind list n i number header (j .left) next-judged) (records-next list n i number header (j .left) next-judged) m p e
+
+-- the answer behind the last item does not tell the stopped state from the exact one
+pub closed-alike : (w : Walk) (n : ℕ) → w .dispositions ≤ 9999998 → closed (stopped w) n ≡ closed w n
+closed-alike w n few = by (leb (w .cents) 999999999999999) refl
+  where
+    dispositions : min (w .dispositions) countLimit ≡ w .dispositions
+    dispositions = omega arith
+
+    by : (b : Bool) → leb (w .cents) 999999999999999 ≡ b → closed (stopped w) n ≡ closed w n
+    by true t =
+        let small = leb-true (w .cents) 999999999999999 t in
+        let cents : min (w .cents) centsLimit ≡ w .cents = omega arith in
+        rw (dispositions, cents)
+    by false t =
+        let large = leb-false (w .cents) 999999999999999 t in
+        let over : leb (min (w .cents) centsLimit) 999999999999999 ≡ false = lt-leb (min (w .cents) centsLimit) 999999999999999 (omega arith) in
+        rw (over, t)
+
+pub judging-ends : {h : Header} {list : List ℕ} {i n number : ℕ} {header : List ℕ} {w : Walk} {company : List ℕ} (j : JudgingAt h list i n number header w company) → length (itemsIn list) ≤ 9999998 → length list ≤ i → closed w n ≡ go closed h start [] 0 (recordsFor (itemsIn list))
+unfolding encodeFrom
+judging-ends {list = list} {i = i} {n = n} {number = number} {header = header} j few past =
+    let none : j .left ≡ [] = no-more list n i (j .left) (j .said) past in
+    finish (j .reading) (ap (encodeFrom number header) none) (closed-alike (j .reading .exact) n (omega (arith, j .reading .few, j .count)))
+
+-- behind n records stored, at index i of the list: what is left to store makes `all` of the output
+pub record StoringAt (list all : List ℕ) (i n dispositions : ℕ) (header out : List ℕ) : Type 0 where
+  pub left : List Item
+  pub said : itemsFrom n 0 (drop i list) ≡ items left
+  pub proper : All Proper left
+  pub count : n + length left ≡ length (itemsIn list)
+  pub few : dispositions ≤ n
+  pub header-last : lastHeader header left ≡ lastHeader [] (itemsIn list)
+  pub room : 120 * suc (length (itemsIn list)) ≤ length out
+  pub rest : put (120 * n) (flatten (encodeFrom dispositions header left ++ (trailerFor (itemsIn list) ∷ []))) out ≡ all
+
+pub storing-begins : (list out : List ℕ) → Listed list → 120 * suc (length (itemsIn list)) ≤ length out → StoringAt list (put 0 (encode (itemsIn list)) out) 0 0 0 [] out
+storing-begins list out listed room =
+    record { left = itemsIn list; said = listed .said; proper = items-exact list (itemsIn list) .0 (listed .said) .1; count = omega arith; few = omega arith; header-last = refl; room = room; rest = refl }
+
+module _ {list all : List ℕ} {i n number : ℕ} {header out : List ℕ} (s : StoringAt list all i n number header out) where
+  pub next-stored : i < length list → Next list n i (s .left)
+  next-stored within = next-item list n i (s .left) (s .said) within
+
+  pub storing-on :
+      (within : i < length list)
+      → StoringAt list all (i + 1 + bodyLength (kindAt list i)) (suc n) (number + opened (kindAt list i)) (headerBehind header (itemAt list i)) (put (120 * n) (encodeItem (number + opened (kindAt list i)) header (itemAt list i)) out)
+  unfolding flatten lastHeader
+  storing-on within =
+      let next = next-stored within in
+      let rec = recordAt list n i number header (s .left) next in
+      let behind = recordsBehind list n i number header (s .left) next ++ (trailerFor (itemsIn list) ∷ []) in
+      let is : All Proper (itemAt list i ∷ next .others) = subst (All Proper) (next .whole) (s .proper) in
+      let more : length (s .left) ≡ suc (length (next .others)) = ap (λ (l : List Item). length l) (next .whole) in
+      let count = s .count in
+      let room = s .room in
+      let size : length rec ≡ 120 = encoded-length (number + opened (kindAt list i)) header (itemAt list i) (is .0) in
+      let whole : Whole behind = all-append (λ (r : List ℕ). length r ≡ 120) (recordsBehind list n i number header (s .left) next) (trailerFor (itemsIn list) ∷ []) (encoded-whole (number + opened (kindAt list i)) (headerBehind header (itemAt list i)) (next .others) (is .1)) (trailer-length (lastHeader [] (itemsIn list)) (dispositionsOf (itemsIn list)) (centsOf (itemsIn list)) (suc (length (itemsIn list))), tt) in
+      let records : length behind ≡ suc (length (next .others)) = length-append (recordsBehind list n i number header (s .left) next) (trailerFor (itemsIn list) ∷ []) ∙ omega (arith, encoded-count (number + opened (kindAt list i)) (headerBehind header (itemAt list i)) (next .others)) in
+      let bytes : length (flatten behind) ≡ 120 * length behind = flatten-length behind whole in
+      let fits : 120 * n + length rec + length (flatten behind) ≤ length out = omega arith in
+      let on : 120 * n + length rec ≡ 120 * suc n = omega arith in
+      let joined : encodeFrom number header (s .left) ++ (trailerFor (itemsIn list) ∷ []) ≡ rec ∷ behind = ap (λ (l : List (List ℕ)). l ++ (trailerFor (itemsIn list) ∷ [])) (records-next list n i number header (s .left) next) in
+      record {
+        left = next .others;
+        said = next .left;
+        proper = is .1;
+        count = omega arith;
+        few = omega (arith, s .few, opened-one (kindAt list i));
+        header-last = ap (lastHeader header) (sym (next .whole)) ∙ s .header-last;
+        room = subst (λ (m : ℕ). 120 * suc (length (itemsIn list)) ≤ m) (sym (put-length (120 * n) rec out (omega arith))) room;
+        rest = ap (λ (m : ℕ). put m (flatten behind) (put (120 * n) rec out)) (sym on) ∙ sym (put-append (120 * n) rec (flatten behind) out fits) ∙ ap (λ (l : List (List ℕ)). put (120 * n) (flatten l) out) (sym joined) ∙ s .rest;
+      }
+
+  pub storing-ends : length list ≤ i → (n ≡ length (itemsIn list)) × (header ≡ lastHeader [] (itemsIn list)) × (put (120 * n) (trailerFor (itemsIn list)) out ≡ all)
+  unfolding encodeFrom flatten lastHeader
+  storing-ends past =
+      let none : s .left ≡ [] = no-more list n i (s .left) (s .said) past in
+      let count : length (s .left) ≡ 0 = ap (λ (l : List Item). length l) none in
+      let last = trailerFor (itemsIn list) in (
+        omega (arith, s .count),
+        ap (lastHeader header) (sym none) ∙ s .header-last,
+        ap (λ (l : List ℕ). put (120 * n) l out) (sym (append-nil last)) ∙ ap (λ (is : List Item). put (120 * n) (flatten (encodeFrom number header is ++ (last ∷ []))) out) (sym none) ∙ s .rest,
+      )

@@ -1,0 +1,218 @@
+-- A list that is accepted encodes a flow that the reader accepts with the same numbers, and whose list is the list written. Assumes
+-- nothing.
+use Prim.Native.Nat.{ℕ, suc, _+_, _*_, _^_, _≤_, _<_}
+use mathlib.Core.Bool.{Bool, true, false, cond, true≢false}
+use mathlib.Core.List.{List, [], _∷_, _++_, append-nil, map-append, flatten, nil≢cons, head-eq-of-cons-eq}
+use mathlib.Core.Logic.{_⊎_, inl, inr, ⊎-elim}
+use mathlib.Core.Path.{_≡_, refl, sym, _∙_, ap, subst}
+use native.Mathlib.Omega.{arith}
+use lib.Dec.{leb}
+use lib.ListN.{length, take, length-append, length-map}
+use lib.Seq.{take-at, take-append-le}
+use borrow.Author.Tests.{leb-true}
+use Rattle.sequences.specs.All.{All}
+use Rattle.sequences.proofs.Flatten.{flatten-append}
+use Rattle.records.specs.Checks.{checks}
+use Rattle.records.specs.Constants.{currency}
+use Rattle.records.specs.Context.{headerOf}
+use Rattle.records.specs.Field.{field}
+use Rattle.records.specs.Finding.{Hold}
+use Rattle.records.specs.Kinds.{heads}
+use Rattle.records.specs.declared.kind.Kind.{Kind}
+use Rattle.records.specs.declared.kind.Kind.the-variants.{Im, Ef}
+use Rattle.records.proofs.EachKind.{each-kind}
+use Rattle.flow.specs.Judge.{ended, judge}
+use Rattle.flow.specs.Order.{permitted, mayClose, place}
+use Rattle.flow.specs.Records.{RightLength, recordsOf}
+use Rattle.flow.specs.Steps.{start, opened}
+use Rattle.flow.specs.Verdict.{Verdict, accepted, refused}
+use Rattle.flow.specs.declared.order.Due.the-variants.{OnlyIm}
+use Rattle.flow.specs.declared.walk.Walk.{Walk}
+use Rattle.flow.proofs.Accepted.{accepted-not-refused}
+use Rattle.grammar.specs.Grammar.{Typed, recordsIn}
+use Rattle.grammar.specs.Rules.{Printable}
+use Rattle.grammar.proofs.AtPlace.{RightAt, asks}
+use Rattle.grammar.proofs.Behind.{FromStart}
+use Rattle.grammar.proofs.FirstFault.{judgeFrom, judged, ends-so}
+use Rattle.grammar.proofs.Order.{Allowed}
+use Rattle.grammar.proofs.Rules.{header-rules}
+use Rattle.grammar.proofs.Walked.{Walked, stateBehind, codeBehind, walked-append, walked-allowed, state-append}
+use Rattle.list.specs.Encode.{carriedAt, headerBehind, lastHeader, dispositionsOf, centsOf, encodeItem, encodeFrom, recordsFor, trailerFor, encode}
+use Rattle.list.specs.Items.{Item, Proper, listBytes, Parsed, items, faulty, parse, itemsOr, itemsIn}
+use Rattle.list.specs.Laws.{WrittenExact}
+use Rattle.list.specs.ReadBack.{listOf}
+use Rattle.list.specs.Table.{carried, bodyLength}
+use Rattle.list.specs.Write.{closed, judgeItems, judgeParsed, judgeList}
+use Rattle.list.proofs.Carried.{inOne}
+use Rattle.list.proofs.Encoded.{encoded-length, encoded-at}
+use Rattle.list.proofs.Encoding.{encoded-count, encode-records, encode-length, encode-items}
+use Rattle.list.proofs.Judging.{front, RightItems, FaultyItems, view-items, right-judged, faulty-judged, kindsIn, right-kinds, right-sums, close-said, header-first, header-stays}
+use Rattle.list.proofs.ListItems.{items-exact}
+use Rattle.list.proofs.Trailer.{Meant, Counted, trailer-right}
+
+-- what was accepted behind the items
+pub closed-so : (w : Walk) (i : ℕ) {d c n : ℕ} → closed w i ≡ accepted d c n → (mayClose (permitted (w .place .due)) ≡ true) × (w .cents ≤ 999999999999999) × (w .dispositions ≡ d) × (w .cents ≡ c) × (suc i ≡ n)
+closed-so w i {d} {c} {n} = by (mayClose (permitted (w .place .due))) (leb (w .cents) 999999999999999) refl refl
+  where
+    by :
+        (a b : Bool) → mayClose (permitted (w .place .due)) ≡ a → leb (w .cents) 999999999999999 ≡ b
+        → cond a (cond b (accepted (w .dispositions) (w .cents) (suc i)) (refused 17 0 0)) (refused 3 (suc i) 2) ≡ accepted d c n
+        → (mayClose (permitted (w .place .due)) ≡ true) × (w .cents ≤ 999999999999999) × (w .dispositions ≡ d) × (w .cents ≡ c) × (suc i ≡ n)
+    by true true e f x = (e, leb-true (w .cents) 999999999999999 f, cc, cc, cc)
+    by true false e f x = absurd (accepted-not-refused x)
+    by false b e f x = absurd (accepted-not-refused x)
+
+-- no more dispositions than items
+pub opened-one : (k : Kind) → opened k ≤ 1
+opened-one = each-kind (λ (k : Kind). opened k ≤ 1) (omega arith, (omega arith, (omega arith, (omega arith, (omega arith, (omega arith, (omega arith, (omega arith, (omega arith, (omega arith, (omega arith, tt)))))))))))
+
+pub few-dispositions : (is : List Item) → dispositionsOf is ≤ length is
+unfolding dispositionsOf
+few-dispositions [] = omega arith
+few-dispositions (it ∷ is) = omega (arith, opened-one (it .kind), few-dispositions is)
+
+-- a list with a first item, whose records are right
+module _ (it : Item) (others : List Item) (proper : All Proper (it ∷ others)) (r : RightItems (it ∷ others)) where
+  abbrev all : List Item
+  all = it ∷ others
+
+  abbrev im : List ℕ
+  im = encodeItem (0 + opened (it .kind)) [] it
+
+  abbrev behind : Walk
+  behind = stateBehind start (r .typed)
+
+  im-whole : length im ≡ 120
+  im-whole = encoded-length (0 + opened (it .kind)) [] it (proper .0)
+
+  first-of-front : take 120 (front all) ≡ im
+  unfolding encodeFrom flatten
+  first-of-front = take-at im _ 120 im-whole
+
+  first-of-all : take 120 (encode all) ≡ im
+  unfolding encodeFrom flatten
+  first-of-all = take-at im _ 120 im-whole
+
+  -- the first item is the only H
+  kinds : (it .kind ≡ Im) × All (λ (k : Kind). heads k ≡ false) (kindsIn others)
+  kinds = header-first (it .kind) (kindsIn others) (subst (Allowed (place OnlyIm)) (sym (right-kinds all proper r)) (walked-allowed (headerOf (take 120 (front all))) start [] 0 (r .typed) (r .walked)))
+
+  pub header-meant : lastHeader [] all ≡ it .body
+  unfolding lastHeader
+  header-meant = ap (λ (k : Kind). lastHeader (cond (heads k) (it .body) []) others) (kinds .0) ∙ header-stays (it .body) others (kinds .1)
+
+  -- its record is a right header
+  first-right : (rs : List Typed) → recordsIn rs ≡ recordsFor all → FromStart (front all) rs → All Printable im × (field 114 114 im ≡ currency)
+  unfolding encodeFrom
+  first-right [] same walked = absurd (nil≢cons same)
+  first-right (t ∷ ts) same walked =
+      let bytes : t .bytes ≡ im = head-eq-of-cons-eq same in
+      let kind : t .kind ≡ Im = ⊎-elim (λ (e : t .kind ≡ Im). e) (λ (none : ⊥). absurd none) (walked .0 .may) in
+      let keeps : Hold (checks Im (asks (headerOf (take 120 (front all))) start [] 1 Im) (t .bytes)) = subst (λ (k : Kind). Hold (checks k (asks (headerOf (take 120 (front all))) start [] 1 k) (t .bytes))) kind (walked .0 .keeps) in
+      (subst (All Printable) bytes (walked .0 .formed .printable), ap (field 114 114) (sym bytes) ∙ header-rules (asks (headerOf (take 120 (front all))) start [] 1 Im) (t .bytes) .0 keeps .currency-code)
+
+  meant : Meant im (lastHeader [] all)
+  meant =
+      let kind = kinds .0 in
+      let first = first-right (r .typed) (r .same) (r .walked) in
+      let carries : (a e : ℕ) → inOne (carried Im) a e ≡ true → field a e im ≡ carriedAt Im a e (it .body) = λ a e inside.
+      encoded-at (0 + opened (it .kind)) [] it (proper .0) a e (subst (λ (k : Kind). inOne (carried k) a e ≡ true) (sym kind) inside) ∙ ap (λ (k : Kind). carriedAt k a e (it .body)) kind in
+      subst (Meant im) (sym header-meant) (record { sized = proper .0 .sized ∙ ap bodyLength kind; carries = carries; printable = first .0; code = first .1 })
+
+  -- with EF behind them they are a flow
+  pub encode-accepted : mayClose (permitted (behind .place .due)) ≡ true → suc (length all) ≤ 9999999 → centsOf all ≤ 999999999999999 → judge (encode all) ≡ accepted (dispositionsOf all) (centsOf all) (suc (length all))
+  encode-accepted may few small =
+      let tr = trailerFor all in
+      let last : List Typed = record { kind = Ef; bytes = tr } ∷ [] in
+      let rs = r .typed ++ last in
+      let same : recordsIn rs ≡ recordsFor all ++ (tr ∷ []) = map-append (λ (x : Typed). x .bytes) (r .typed) last ∙ ap (λ (l : List (List ℕ)). l ++ (tr ∷ [])) (r .same) in
+      let sums = right-sums all proper r in
+      let count : length (r .typed) ≡ length all = sym (length-map (r .typed) (λ (x : Typed). x .bytes)) ∙ ap (λ (l : List (List ℕ)). length l) (r .same) ∙ encoded-count 0 [] all in
+      let counted : Counted (dispositionsOf all) (centsOf all) (suc (length all)) = record { dispositions = omega (arith, few-dispositions all); cents = omega arith; records = omega arith } in
+      let closing : RightAt (headerOf im) behind (codeBehind [] (r .typed)) (suc (0 + length (r .typed))) Ef tr = trailer-right im (lastHeader [] all) meant (dispositionsOf all) (centsOf all) (suc (length all)) counted behind (codeBehind [] (r .typed)) (suc (0 + length (r .typed))) (close-said (permitted (behind .place .due)) may) (sums .0) (sums .1) (omega arith) in
+      let front-walked : Walked (headerOf im) start [] 0 (r .typed) = subst (λ (l : List ℕ). Walked (headerOf l) start [] 0 (r .typed)) first-of-front (r .walked) in
+      let walked : FromStart (encode all) rs = subst (λ (l : List ℕ). Walked (headerOf l) start [] 0 rs) (sym first-of-all) (walked-append (headerOf im) start [] 0 (r .typed) last .1 (front-walked, (closing, tt))) in
+      let size = encode-length all proper in
+      let sized : RightLength (length (encode all)) = (omega arith, omega arith, omega arith) in
+      let dispositions : behind .dispositions + opened Ef ≡ dispositionsOf all = omega (arith, sums .0) in
+      let cents : behind .cents + 0 ≡ centsOf all = omega (arith, sums .1) in
+      let records : length rs ≡ suc (length all) = length-append (r .typed) last ∙ omega arith in
+      judged (encode all) sized
+      ∙ ap (judgeFrom (encode all)) (encode-records all proper ∙ sym same)
+      ∙ ends-so ended (encode all) rs walked
+      ∙ ap (λ (w : Walk). ended w (length rs)) (state-append start (r .typed) last)
+      ∙ (λ i. accepted (dispositions i) (cents i) (records i))
+
+-- a list of no items has none
+none-closes : (r : RightItems []) → mayClose (permitted (stateBehind start (r .typed) .place .due)) ≡ true → ⊥
+unfolding encodeFrom
+none-closes r = by (r .typed) (r .same)
+  where
+    by : (rs : List Typed) → recordsIn rs ≡ [] → mayClose (permitted (stateBehind start rs .place .due)) ≡ true → ⊥
+    by [] same t = true≢false (sym t)
+    by (t ∷ ts) same u = nil≢cons (sym same)
+
+accepted-encoding :
+    (is : List Item) (proper : All Proper is) (r : RightItems is) → mayClose (permitted (stateBehind start (r .typed) .place .due)) ≡ true → suc (length is) ≤ 9999999 → centsOf is ≤ 999999999999999
+    → judge (encode is) ≡ accepted (dispositionsOf is) (centsOf is) (suc (length is))
+accepted-encoding [] proper r may few small = absurd (none-closes r may)
+accepted-encoding (it ∷ is) proper r may few small = encode-accepted it is proper r may few small
+
+-- what was accepted of a list
+pub record AcceptedList (list : List ℕ) (room d c n : ℕ) : Type 0 where
+  pub these : List Item
+  pub said : parse list ≡ items these
+  pub few : suc (length these) ≤ 9999999
+  pub roomy : 120 * suc (length these) ≤ room
+  pub judged-so : judgeItems these ≡ accepted d c n
+
+pub accepted-list : (list : List ℕ) (room d c n : ℕ) → judgeList list room ≡ accepted d c n → AcceptedList list room d c n
+unfolding judgeList
+accepted-list list room d c n e = by (parse list) refl e
+  where
+    sizes : (is : List Item) (a b : Bool) → parse list ≡ items is → leb (suc (length is)) 9999999 ≡ a → leb (120 * suc (length is)) room ≡ b → cond a (cond b (judgeItems is) (refused 21 0 0)) (refused 1 0 0) ≡ accepted d c n → AcceptedList list room d c n
+    sizes is true true said few roomy e = record { these = is; said = said; few = leb-true (suc (length is)) 9999999 few; roomy = leb-true (120 * suc (length is)) room roomy; judged-so = e }
+    sizes is true false said few roomy e = absurd (accepted-not-refused e)
+    sizes is false b said few roomy e = absurd (accepted-not-refused e)
+
+    by : (p : Parsed) → parse list ≡ p → judgeParsed p room ≡ accepted d c n → AcceptedList list room d c n
+    by (items is) said e = sizes is (leb (suc (length is)) 9999999) (leb (120 * suc (length is)) room) said refl refl e
+    by (faulty m) said e = absurd (accepted-not-refused e)
+
+-- what was accepted of items: each record is right, and the answer is their exact sums
+pub record AcceptedItems (is : List Item) (d c n : ℕ) : Type 0 where
+  pub right : RightItems is
+  pub may : mayClose (permitted (stateBehind start (right .typed) .place .due)) ≡ true
+  pub small : centsOf is ≤ 999999999999999
+  pub dispositions : dispositionsOf is ≡ d
+  pub cents : centsOf is ≡ c
+  pub records : suc (length is) ≡ n
+
+pub accepted-items : (is : List Item) → All Proper is → (d c n : ℕ) → judgeItems is ≡ accepted d c n → AcceptedItems is d c n
+accepted-items is proper d c n e = by (view-items is proper)
+  where
+    by : RightItems is ⊎ FaultyItems is → AcceptedItems is d c n
+    by (inl r) =
+        let so = closed-so (stateBehind start (r .typed)) (length is) (sym (right-judged is proper r) ∙ e) in
+        let sums = right-sums is proper r in
+        record { right = r; may = so .0; small = omega (arith, sums .1, so .1); dispositions = omega (arith, sums .0, so .2); cents = omega (arith, sums .1, so .3); records = so .4 }
+    by (inr f) = absurd (accepted-not-refused (sym (faulty-judged is proper f) ∙ e))
+
+pub written-exact : WrittenExact
+written-exact list room d c n e =
+    let a = accepted-list list room d c n e in
+    let is = a .these in
+    let exact = items-exact list is .0 (a .said) in
+    let proper = exact .1 in
+    let so = accepted-items is proper d c n (a .judged-so) in
+    let few = a .few in
+    let roomy = a .roomy in
+    let records = so .records in
+    let size = encode-length is proper in
+    let same : itemsIn list ≡ is = ap itemsOr (a .said) in
+    subst (λ (l : List Item). (judge (encode l) ≡ accepted d c n) × (listOf (encode l) ≡ list) × (length (encode l) ≡ 120 * n) × (length (encode l) ≤ room)) (sym same) (
+      accepted-encoding is proper (so .right) (so .may) few (so .small) ∙ (λ i. accepted (so .dispositions i) (so .cents i) (so .records i)),
+      ap listBytes (encode-items is proper) ∙ exact .0,
+      omega arith,
+      omega arith,
+    )

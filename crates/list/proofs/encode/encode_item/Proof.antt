@@ -1,0 +1,29 @@
+-- `list::encode_item` meets its contract. Assumes nothing.
+use Prim.Native.Nat.{_≤_}
+use mathlib.Core.Path.{refl}
+use lib.ListN.{length}
+use borrow.Author.Needs.{needs}
+use Rattle.sequences.proofs.Part.{part-at-most}
+use Rattle.list.specs.Encode.{encodeItem}
+use Rattle.list.proofs.encode.encode_item.Statement.{statement}
+use Rattle.list.proofs.encode.encode_item.Tie as tie
+
+slice-aggregate-fill-item : tie.Need-slice-aggregate-fill-item
+slice-aggregate-fill-item c = search needs
+
+field-requires : tie.Need-field-requires
+field-requires c κs = search needs
+
+fill-item-requires : tie.Need-fill-item-requires
+fill-item-requires c κs =
+    let at = c .before .before .before .before in
+    let short : length (c .field .result .now) ≤ 5 = rw (c .field .ensures) (part-at-most 5 5 (at .args .header .now)) in
+    (refl, (short, at .pre))
+
+returns : tie.Need-returns
+unfolding encodeItem
+returns c = rw (c .before .before .field .ensures) at (c .before .fill-item .ensures)
+
+pub encode-item-spec : {M : Type 1} → statement M
+encode-item-spec =
+    tie.close (tie.spec slice-aggregate-fill-item field-requires fill-item-requires returns)

@@ -1,0 +1,51 @@
+-- `list::fill_item` meets its contract. Assumes nothing.
+use mathlib.Core.List.{_∷_, _++_}
+use borrow.Author.Needs.{needs}
+use Rattle.records.specs.Kinds.{typeOf}
+use Rattle.list.specs.Encode.{place, supplied, bodyPlaced}
+use Rattle.list.specs.Table.{carried}
+use Rattle.list.proofs.Filling.{Fills, fills-place, fills-both}
+use Rattle.list.proofs.encode.fill_item.Statement.{statement}
+use Rattle.list.proofs.encode.fill_item.Tie as tie
+
+type-of-requires : tie.Need-type-of-requires
+type-of-requires c κs = search needs
+
+slice-aggregate-place : tie.Need-slice-aggregate-place
+slice-aggregate-place c = search needs
+
+place-requires : tie.Need-place-requires
+place-requires c κs = search needs
+
+supply-requires : tie.Need-supply-requires
+supply-requires c κs = search needs
+
+place-body-requires : tie.Need-place-body-requires
+place-body-requires c κs = search needs
+
+same-length : tie.Need-same-length
+same-length c = search needs
+
+returns : tie.Need-returns
+returns c =
+    let carrying = c .before .before in
+    let supplying = carrying .before .before .before .before in
+    let first = supplying .before .before .before .before in
+    let typed = first .before .before .before in
+    let args = typed .before .before .before .before .args in
+    let kind = args .kind in
+    let all : Fills (place 2 (typeOf kind) ∷ (supplied kind (args .number) (args .abi .now) ++ bodyPlaced (carried kind) (args .body .now))) (args .rec .now) (carrying .place-body .last .0) =
+    fills-place (first .place .ensures) (typed .type-of .ensures) (fills-both (record { done = supplying .supply .ensures }) (record { done = carrying .place-body .ensures })) in
+    all .done
+
+pub fill-item-spec : {M : Type 1} → statement M
+fill-item-spec =
+    tie.close
+    (tie.spec
+    type-of-requires
+    slice-aggregate-place
+    place-requires
+    supply-requires
+    place-body-requires
+    same-length
+    returns)

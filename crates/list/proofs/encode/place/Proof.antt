@@ -1,0 +1,50 @@
+-- `list::place` meets its contract. Assumes nothing.
+use Prim.Native.Nat.{_+_, _-_}
+use native.Mathlib.Omega.{arith}
+use lib.ListN.{length}
+use borrow.Author.Needs.{needs}
+use Rattle.sequences.proofs.Part.{copied-over}
+use Rattle.list.proofs.encode.place.Statement.{statement}
+use Rattle.list.proofs.encode.place.Tie as tie
+
+sub-from : tie.Need-sub-from
+sub-from c = search needs
+
+add-copy : tie.Need-add-copy
+add-copy c = search needs
+
+sub-copy : tie.Need-sub-copy
+sub-copy c = search needs
+
+part-copy-start : tie.Need-part-copy-start
+part-copy-start c = search needs
+
+part-copy-end : tie.Need-part-copy-end
+part-copy-end c = search needs
+
+copy-requires : tie.Need-copy-requires
+copy-requires c κs = search needs
+
+same-length : tie.Need-same-length
+same-length c = search needs
+
+returns : tie.Need-returns
+returns c =
+    let at = c .before .before .before .before .before .before in
+    let rec = at .args .rec .now in
+    let content = at .args .content .now in
+    let from = at .args .first - 1 in
+    copied-over from (from + length content) rec content (c .before .before .copy .last .1 .0) (omega arith) (omega (arith, at .pre .1)) (omega arith) (c .before .before .copy .ensures .1)
+
+pub place-spec : {M : Type 1} → statement M
+place-spec =
+    tie.close
+    (tie.spec
+    sub-from
+    add-copy
+    sub-copy
+    part-copy-start
+    part-copy-end
+    copy-requires
+    same-length
+    returns)

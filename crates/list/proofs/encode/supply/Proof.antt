@@ -1,0 +1,142 @@
+-- `list::supply` meets its contract. Assumes nothing.
+use Prim.Native.Nat.{ℕ}
+use mathlib.Core.List.{List, [], _∷_}
+use mathlib.Core.Path.{_≡_, refl, sym, _∙_, ap}
+use borrow.Author.Needs.{needs}
+use denote.Enum.Declared.{tagOf}
+use types.Run.{OneOf, miss}
+use Rattle.fields.specs.Digits.{digits}
+use Rattle.records.specs.declared.kind.Kind.{Kind}
+use Rattle.records.specs.declared.kind.Kind.the-variants.{Im, R14, Ef}
+use Rattle.records.proofs.EachKind.{each-kind}
+use Rattle.records.proofs.kind.Kind.{the-type}
+use Rattle.list.specs.Encode.{Placed, place, fill, supplied}
+use Rattle.list.proofs.Filling.{Fills, fills-none, fills-place}
+use Rattle.list.proofs.encode.supply.Statement.{statement}
+use Rattle.list.proofs.encode.supply.Tie as tie
+
+enum-told : tie.Need-enum-told
+enum-told c = search needs
+
+slice-aggregate-place : tie.Need-slice-aggregate-place
+slice-aggregate-place c = search needs
+
+place-requires : tie.Need-place-requires
+place-requires c κs = search needs
+
+enum-told-2 : tie.Need-enum-told-2
+enum-told-2 c = search needs
+
+place-number-requires : tie.Need-place-number-requires
+place-number-requires c κs = search needs
+
+slice-aggregate-place-2 : tie.Need-slice-aggregate-place-2
+slice-aggregate-place-2 c = search needs
+
+place-requires-2 : tie.Need-place-requires-2
+place-requires-2 c κs = search needs
+
+slice-aggregate-place-3 : tie.Need-slice-aggregate-place-3
+slice-aggregate-place-3 c = search needs
+
+place-requires-3 : tie.Need-place-requires-3
+place-requires-3 c κs = search needs
+
+place-requires-4 : tie.Need-place-requires-4
+place-requires-4 c κs = search needs
+
+slice-aggregate-place-4 : tie.Need-slice-aggregate-place-4
+slice-aggregate-place-4 c = search needs
+
+place-requires-5 : tie.Need-place-requires-5
+place-requires-5 c κs = search needs
+
+enum-told-3 : tie.Need-enum-told-3
+enum-told-3 c = search needs
+
+place-number-requires-2 : tie.Need-place-number-requires-2
+place-number-requires-2 c κs = search needs
+
+same-length : tie.Need-same-length
+same-length c = search needs
+
+returns : tie.Need-returns
+returns c =
+    let at = c .before .before .before .before .before .before .before .before .before in
+    let rec = at .args .rec .now in
+    let abi = at .args .abi .now in
+    let all : Fills (supplied Im (at .args .number) abi) rec (c .before .before .place .last .0) = fills-place (c .before .before .place .ensures) refl fills-none in
+    all .done ∙ ap (λ (k : Kind). fill (supplied k (at .args .number) abi) rec) (sym (c .before .before .before .before .before .enum-told .given .1))
+
+same-length-2 : tie.Need-same-length-2
+same-length-2 c = search needs
+
+returns-2 : tie.Need-returns-2
+returns-2 c =
+    let fifth = c .before .before in
+    let fourth = fifth .before .before .before .before .before in
+    let third = fourth .before .before .before .before in
+    let second = third .before .before .before .before .before in
+    let first = second .before .before .before .before .before in
+    let at = first .before .before .before .before .before .before in
+    let rec = at .args .rec .now in
+    let abi = at .args .abi .now in
+    let all : Fills (supplied R14 (at .args .number) abi) rec (fifth .place5 .last .0) =
+    fills-place (first .place-number .ensures) refl
+    (fills-place (second .place2 .ensures) refl
+    (fills-place (third .place3 .ensures) refl (fills-place (fourth .place4 .ensures) refl (fills-place (fifth .place5 .ensures) refl fills-none)))) in
+    all .done ∙ ap (λ (k : Kind). fill (supplied k (at .args .number) abi) rec) (sym (first .before .before .enum-told2 .given .1))
+
+returns-3 : tie.Need-returns-3
+returns-3 c =
+    let at = c .before .before .before .before in
+    let rec = at .args .rec .now in
+    let abi = at .args .abi .now in
+    let all : Fills (supplied Ef (at .args .number) abi) rec rec = fills-none in
+    all .done ∙ ap (λ (k : Kind). fill (supplied k (at .args .number) abi) rec) (sym (c .enum-told3 .given .1))
+
+same-length-3 : tie.Need-same-length-3
+same-length-3 c = search needs
+
+-- every other kind has its number alone
+abbrev others : List ℕ
+others = 2 ∷ 3 ∷ 4 ∷ 5 ∷ 6 ∷ 7 ∷ 8 ∷ 9 ∷ []
+
+numbered : (n : ℕ) (abi : List ℕ) (k : Kind) → OneOf others (tagOf the-type k) → supplied k n abi ≡ place 4 (digits 7 n) ∷ []
+numbered n abi =
+    each-kind (λ (k : Kind). OneOf others (tagOf the-type k) → supplied k n abi ≡ place 4 (digits 7 n) ∷ [])
+    (λ o. absurd (miss others 0 tt o), (λ o. absurd (miss others 1 tt o), (λ o. refl, (λ o. refl, (λ o. refl, (λ o. refl, (λ o. refl, (λ o. refl, (λ o. refl, (λ o. refl, (λ o. absurd (miss others 10 tt o), tt)))))))))))
+
+returns-4 : tie.Need-returns-4
+returns-4 c =
+    let at = c .before .before .before .before .before .before .before in
+    let n = at .args .number in
+    let rec = at .args .rec .now in
+    let all : Fills (place 4 (digits 7 n) ∷ []) rec (c .before .before .place-number2 .last .0) = fills-place (c .before .before .place-number2 .ensures) refl fills-none in
+    all .done ∙ ap (λ (ps : List Placed). fill ps rec) (sym (numbered n (at .args .abi .now) (at .args .kind) (c .before .before .before .before .match .keys4)))
+
+pub supply-spec : {M : Type 1} → statement M
+supply-spec =
+    tie.close
+    (tie.spec
+    enum-told
+    slice-aggregate-place
+    place-requires
+    enum-told-2
+    place-number-requires
+    slice-aggregate-place-2
+    place-requires-2
+    slice-aggregate-place-3
+    place-requires-3
+    place-requires-4
+    slice-aggregate-place-4
+    place-requires-5
+    enum-told-3
+    place-number-requires-2
+    same-length
+    returns
+    same-length-2
+    returns-2
+    returns-3
+    same-length-3
+    returns-4)

@@ -1,0 +1,91 @@
+-- `list::list_length` meets its contract: behind each record, the length so far and that of the others' items are the whole. Assumes nothing.
+use Prim.Native.Nat.{ℕ, suc, _+_, _-_, _*_, _/_, _≤_}
+use mathlib.Core.Path.{_≡_, _∙_, ap}
+use native.Mathlib.Numerals.{add-one}
+use native.Mathlib.Omega.{arith}
+use lib.ListN.{length}
+use borrow.Author.Needs.{needs}
+use Rattle.flow.specs.Records.{recordAt}
+use Rattle.flow.proofs.Cut.{record-part}
+use Rattle.list.specs.ReadBack.{itemLength, listOf}
+use Rattle.list.specs.Table.{kindIn}
+use Rattle.list.proofs.OwnList.{item-at-most, listFrom, list-all, length-next, list-end}
+use Rattle.list.proofs.own_list.list_length.Statement.{statement}
+use Rattle.list.proofs.own_list.list_length.Tie as tie
+
+abbrev Inv-loop : tie.InvT-loop
+Inv-loop flow size₀ i₀ size i = (i ≤ length flow / 120) × (size ≤ 111 * i) × (size + length (listFrom flow i) ≡ length (listOf flow))
+
+abbrev μ-loop : tie.MeasureT-loop
+μ-loop flow size₀ i₀ size i = length flow / 120 - i
+
+loop-holds : tie.Need-loop-holds Inv-loop μ-loop
+loop-holds c = (omega arith, omega arith, omega (arith, ap length (list-all (c .before .args .flow .now))))
+
+mul-kind-in : tie.Need-mul-kind-in Inv-loop μ-loop
+mul-kind-in c = omega arith
+
+mul-kind-in-2 : tie.Need-mul-kind-in-2 Inv-loop μ-loop
+mul-kind-in-2 c = omega arith
+
+add-kind-in : tie.Need-add-kind-in Inv-loop μ-loop
+add-kind-in c = omega arith
+
+sub-kind-in : tie.Need-sub-kind-in Inv-loop μ-loop
+sub-kind-in c = omega arith
+
+part-kind-in-start : tie.Need-part-kind-in-start Inv-loop μ-loop
+part-kind-in-start c = omega arith
+
+part-kind-in-end : tie.Need-part-kind-in-end Inv-loop μ-loop
+part-kind-in-end c = omega arith
+
+kind-in-requires : tie.Need-kind-in-requires Inv-loop μ-loop
+kind-in-requires c κs = search needs
+
+item-length-requires : tie.Need-item-length-requires Inv-loop μ-loop
+item-length-requires c κs = search needs
+
+add-length : tie.Need-add-length Inv-loop μ-loop
+add-length c = omega (arith, c .item-length .ensures, item-at-most (c .before .kind-in .result))
+
+add-i : tie.Need-add-i Inv-loop μ-loop
+add-i c = omega arith
+
+loop-less : tie.Need-loop-less Inv-loop μ-loop
+loop-less c = omega arith
+
+loop-again : tie.Need-loop-again Inv-loop μ-loop
+loop-again c =
+    let at = c .before .before .before .before in
+    let flow = at .before .before .args .flow .now in
+    let i = at .loop .i in
+    let size : c .item-length .result ≡ itemLength (kindIn (recordAt i flow)) = c .item-length .ensures ∙ ap itemLength (c .before .kind-in .ensures ∙ ap kindIn (record-part i flow)) in
+    let on : length (listFrom flow (i + 1)) ≡ length (listFrom flow (suc i)) = ap (λ (j : ℕ). length (listFrom flow j)) (add-one i) in
+    (omega arith, omega (arith, item-at-most (kindIn (recordAt i flow))), omega (arith, length-next flow i (c .before .before .before .loop-test .taken)))
+
+returns : tie.Need-returns Inv-loop μ-loop
+returns c =
+    let none = ap length (list-end (c .before .before .before .args .flow .now) (c .before .loop .i) (c .loop-test .left)) in
+    omega arith
+
+pub list-length-spec : {M : Type 1} → statement M
+list-length-spec =
+    tie.close
+    (tie.spec
+    Inv-loop
+    μ-loop
+    loop-holds
+    mul-kind-in
+    mul-kind-in-2
+    add-kind-in
+    sub-kind-in
+    part-kind-in-start
+    part-kind-in-end
+    kind-in-requires
+    item-length-requires
+    add-length
+    add-i
+    loop-less
+    loop-again
+    returns)

@@ -1,0 +1,121 @@
+-- `list::store_item` meets its contract. Assumes nothing.
+use Prim.Native.Nat.{suc, _+_, _-_, _≤_}
+use mathlib.Core.Path.{_≡_, sym, _∙_, ap}
+use native.Mathlib.Omega.{arith}
+use lib.ListN.{length, set, length-set}
+use borrow.Author.Needs.{needs}
+use borrow.Rule.Slice.PartMut.{putMid}
+use Rattle.sequences.specs.Part.{put}
+use Rattle.sequences.proofs.Part.{put-length, put-nothing, lent-is-put}
+use Rattle.records.specs.Kinds.{closes}
+use Rattle.list.specs.Items.{listBytes}
+use Rattle.list.specs.ReadBack.{gather, itemOf}
+use Rattle.list.specs.Table.{carried, bodyLength, kindIn}
+use Rattle.list.proofs.Gathering.{body-gathered}
+use Rattle.list.proofs.OwnList.{no-item, item-count, item-stored}
+use Rattle.list.proofs.own_list.store_item.Statement.{statement}
+use Rattle.list.proofs.own_list.store_item.Tie as tie
+
+kind-in-requires : tie.Need-kind-in-requires
+kind-in-requires c κs = search needs
+
+closes-requires : tie.Need-closes-requires
+closes-requires c κs = search needs
+
+-- what is tested is the record's own kind
+tested : (c : tie.After-closes) → closes (kindIn (c .before .before .before .before .args .rec .now)) ≡ c .closes .result
+tested c = sym (c .closes .ensures ∙ ap closes (c .before .kind-in .ensures))
+
+returns : tie.Need-returns
+returns c =
+    let none = tested (c .before) ∙ c .if1 .taken in
+    let start = c .before .before .before .before .before in
+    (rw none (omega arith), rw (no-item _ none) (sym (put-nothing (start .args .at) (start .args .out .now))))
+
+letter-requires : tie.Need-letter-requires
+letter-requires c κs = search needs
+
+-- there is room for the item
+room : (c : tie.Else1) → let start = c .before .before .before .before .before in start .args .at + suc (bodyLength (c .before .before .kind-in .result)) ≤ length (start .args .out .now)
+room c = rw (c .before .before .kind-in .ensures) (rw (tested (c .before) ∙ c .if1 .left) at (c .before .before .before .before .before .pre .1))
+
+slice-write-out : tie.Need-slice-write-out
+slice-write-out c = omega (arith, room (c .before))
+
+add-end : tie.Need-add-end
+add-end c = search needs
+
+body-length-requires : tie.Need-body-length-requires
+body-length-requires c κs = search needs
+
+add-end-2 : tie.Need-add-end-2
+add-end-2 c = omega (arith, room (c .before .before), c .body-length .ensures)
+
+add-store-body : tie.Need-add-store-body
+add-store-body c = search needs
+
+sub-store-body : tie.Need-sub-store-body
+sub-store-body c = search needs
+
+part-store-body-start : tie.Need-part-store-body-start
+part-store-body-start c = search needs
+
+part-store-body-end : tie.Need-part-store-body-end
+part-store-body-end c =
+    let start = c .before .before .before .before .before .before .before in
+    omega (arith, room (c .before .before), c .body-length .ensures, length-set (start .args .out .now) (start .args .at) (c .before .letter .result))
+
+store-body-requires : tie.Need-store-body-requires
+store-body-requires c κs = search needs
+
+-- the item stands in the output
+stored :
+    (c : tie.After-store-body) → let start = c .before .before .before .before .before .before .before .before .before in let from = start .args .at in let out = start .args .out .now in
+    putMid (from + 1) (from + 1 + c .before .before .body-length .result - (from + 1)) (set out from (c .before .before .before .letter .result)) (c .store-body .last .1 .1 .0)
+    ≡ put from (listBytes (itemOf (start .args .rec .now))) out
+stored c =
+    let else = c .before .before .before .before in
+    let kind = else .before .before .kind-in in
+    let start = else .before .before .before .before .before in
+    let rec = start .args .rec .now in
+    let from = start .args .at in
+    let end = from + 1 + c .before .before .body-length .result in
+    let body = gather (carried (kind .result)) rec in
+    let out = set (start .args .out .now) from (c .before .before .before .letter .result) in
+    let size : length body ≡ end - (from + 1) = omega (arith, body-gathered rec (start .pre .0) (kind .result), c .before .before .body-length .ensures) in
+    let over : putMid (from + 1) (end - (from + 1)) out (c .store-body .last .1 .1 .0) ≡ put (from + 1) body out = ap (putMid (from + 1) (end - (from + 1)) out) (c .store-body .ensures) ∙ lent-is-put (from + 1) end out body size in
+    let fits : from + 1 + bodyLength (kindIn rec) ≤ length (start .args .out .now) = rw (← kind .ensures) (omega (arith, room else)) in
+    over ∙ rw (c .before .before .before .letter .ensures, kind .ensures) (item-stored rec (start .pre .0) (tested (else .before) ∙ else .if1 .left) from _ fits)
+
+same-length : tie.Need-same-length
+same-length c =
+    let start = c .before .before .before .before .before .before .before .before .before .before .before in
+    let rec = start .args .rec .now in
+    ap length (stored (c .before .before)) ∙ put-length (start .args .at) (listBytes (itemOf rec)) (start .args .out .now) (rw (item-count rec (start .pre .0)) (start .pre .1))
+
+returns-2 : tie.Need-returns-2
+returns-2 c =
+    let else = c .before .before .before .before .before .before in
+    let rec = else .before .before .before .before .before .args .rec .now in
+    let size : c .before .before .before .before .body-length .result ≡ bodyLength (kindIn rec) = c .before .before .before .before .body-length .ensures ∙ ap bodyLength (else .before .before .kind-in .ensures) in
+    (rw (tested (else .before) ∙ else .if1 .left) (omega arith), stored (c .before .before))
+
+pub store-item-spec : {M : Type 1} → statement M
+store-item-spec =
+    tie.close
+    (tie.spec
+    kind-in-requires
+    closes-requires
+    returns
+    letter-requires
+    slice-write-out
+    add-end
+    body-length-requires
+    add-end-2
+    add-store-body
+    sub-store-body
+    part-store-body-start
+    part-store-body-end
+    store-body-requires
+    same-length
+    returns-2)

@@ -1,0 +1,94 @@
+-- `list::store_list` meets its contract: behind each record, the items of the others still find room, and then all are there. Assumes nothing.
+use Prim.Native.Nat.{ℕ, _+_, _-_, _/_, _≤_}
+use mathlib.Core.List.{List}
+use mathlib.Core.Path.{_≡_, sym, _∙_, ap, subst}
+use native.Mathlib.Numerals.{add-one}
+use native.Mathlib.Omega.{arith}
+use lib.ListN.{length}
+use Rattle.sequences.specs.Part.{put}
+use Rattle.flow.specs.Records.{recordAt}
+use Rattle.flow.proofs.Cut.{record-part}
+use Rattle.list.specs.Items.{listBytes}
+use Rattle.list.specs.ReadBack.{itemOf, itemLength}
+use Rattle.list.specs.Table.{kindIn}
+use Rattle.list.proofs.OwnList.{Listing, listing, record-whole, item-fits, listed-next, listed-all}
+use Rattle.list.proofs.own_list.store_list.Statement.{statement}
+use Rattle.list.proofs.own_list.store_list.Tie as tie
+
+abbrev Inv-loop : tie.InvT-loop
+Inv-loop flow out₀ from₀ i₀ out from i = (i ≤ length flow / 120) × Listing flow out₀ out from i
+
+abbrev μ-loop : tie.MeasureT-loop
+μ-loop flow out₀ from₀ i₀ out from i = length flow / 120 - i
+
+loop-holds : tie.Need-loop-holds Inv-loop μ-loop
+loop-holds c = (omega arith, listing _ _ (c .before .before .pre))
+
+mul-store-item : tie.Need-mul-store-item Inv-loop μ-loop
+mul-store-item c = omega arith
+
+mul-store-item-2 : tie.Need-mul-store-item-2 Inv-loop μ-loop
+mul-store-item-2 c = omega arith
+
+add-store-item : tie.Need-add-store-item Inv-loop μ-loop
+add-store-item c = omega arith
+
+sub-store-item : tie.Need-sub-store-item Inv-loop μ-loop
+sub-store-item c = omega arith
+
+part-store-item-start : tie.Need-part-store-item-start Inv-loop μ-loop
+part-store-item-start c = omega arith
+
+part-store-item-end : tie.Need-part-store-item-end Inv-loop μ-loop
+part-store-item-end c = omega arith
+
+store-item-requires : tie.Need-store-item-requires Inv-loop μ-loop
+store-item-requires c κs =
+    let at = c .before .before .before in
+    let loop = at .loop in
+    let more = c .before .before .loop-test .taken in
+    let handed = record-part (loop .i) (at .before .before .before .args .flow .now) in
+    (ap length handed ∙ record-whole _ _ more, subst (λ (rec : List ℕ). loop .at + itemLength (kindIn rec) ≤ length (loop .out)) (sym handed) (item-fits (loop .inv .1) more))
+
+add-i : tie.Need-add-i Inv-loop μ-loop
+add-i c = omega arith
+
+loop-less : tie.Need-loop-less Inv-loop μ-loop
+loop-less c = omega arith
+
+loop-again : tie.Need-loop-again Inv-loop μ-loop
+loop-again c =
+    let at = c .before .before .before .before .before .before in
+    let loop = at .loop in
+    let flow = at .before .before .before .args .flow .now in
+    let call = c .before .before .store-item in
+    let handed = record-part (loop .i) flow in
+    let end : call .result ≡ loop .at + itemLength (kindIn (recordAt (loop .i) flow)) = call .ensures .0 ∙ ap (λ (rec : List ℕ). loop .at + itemLength (kindIn rec)) handed in
+    let out : call .last .1 .0 ≡ put (loop .at) (listBytes (itemOf (recordAt (loop .i) flow))) (loop .out) = call .ensures .1 ∙ ap (λ (rec : List ℕ). put (loop .at) (listBytes (itemOf rec)) (loop .out)) handed in
+    (omega arith, rw (end, out, add-one (loop .i)) (listed-next (loop .inv .1) (c .before .before .before .before .before .loop-test .taken)))
+
+same-length : tie.Need-same-length Inv-loop μ-loop
+same-length c = c .before .loop .inv .1 .same
+
+returns : tie.Need-returns Inv-loop μ-loop
+returns c = listed-all (c .before .loop .inv .1) (c .loop-test .left)
+
+pub store-list-spec : {M : Type 1} → statement M
+store-list-spec =
+    tie.close
+    (tie.spec
+    Inv-loop
+    μ-loop
+    loop-holds
+    mul-store-item
+    mul-store-item-2
+    add-store-item
+    sub-store-item
+    part-store-item-start
+    part-store-item-end
+    store-item-requires
+    add-i
+    loop-less
+    loop-again
+    same-length
+    returns)

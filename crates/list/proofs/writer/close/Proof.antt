@@ -1,0 +1,39 @@
+-- `list::close` meets its contract. Assumes nothing.
+use mathlib.Core.Bool.{true, false}
+use mathlib.Core.Path.{_≡_, sym, _∙_}
+use native.Mathlib.Numerals.{add-one}
+use lib.Dec.{leb}
+use borrow.Author.Needs.{needs}
+use borrow.Author.Tests.{not-true, not-false, le-leb, lt-leb}
+use Rattle.flow.specs.Order.{permitted, mayClose}
+use Rattle.list.proofs.writer.close.Statement.{statement}
+use Rattle.list.proofs.writer.close.Tie as tie
+
+may-close-requires : tie.Need-may-close-requires
+may-close-requires c κs = search needs
+
+add-t5 : tie.Need-add-t5
+add-t5 c = search needs
+
+returns : tie.Need-returns
+returns c =
+    let shut : mayClose (permitted (c .before .before .args .walk .place .due)) ≡ false = sym (c .before .may-close .ensures) ∙ not-true _ (c .if1 .taken) in
+    rw (shut, add-one)
+
+returns-2 : tie.Need-returns-2
+returns-2 c =
+    let due : mayClose (permitted (c .before .before .before .before .args .walk .place .due)) ≡ true = sym (c .before .before .before .may-close .ensures) ∙ not-false _ (c .before .before .if1 .left) in
+    let over : leb (c .before .before .before .before .args .walk .cents) 999999999999999 ≡ false = lt-leb _ _ (c .if2 .taken) in
+    rw (due, over)
+
+add-t6 : tie.Need-add-t6
+add-t6 c = search needs
+
+returns-3 : tie.Need-returns-3
+returns-3 c =
+    let due : mayClose (permitted (c .before .before .before .before .args .walk .place .due)) ≡ true = sym (c .before .before .before .may-close .ensures) ∙ not-false _ (c .before .before .if1 .left) in
+    let small : leb (c .before .before .before .before .args .walk .cents) 999999999999999 ≡ true = le-leb _ _ (c .if2 .left) in
+    rw (due, small, add-one)
+
+pub close-spec : {M : Type 1} → statement M
+close-spec = tie.close (tie.spec may-close-requires add-t5 returns returns-2 add-t6 returns-3)

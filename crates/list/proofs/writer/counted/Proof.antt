@@ -1,0 +1,27 @@
+-- `list::counted` meets its contract. Assumes nothing.
+use mathlib.Core.Bool.{true, false}
+use mathlib.Core.Path.{_≡_, sym, _∙_}
+use native.Mathlib.Omega.{arith}
+use borrow.Author.Needs.{needs}
+use Rattle.records.specs.Kinds.{opens}
+use Rattle.list.proofs.writer.counted.Statement.{statement}
+use Rattle.list.proofs.writer.counted.Tie as tie
+
+opens-requires : tie.Need-opens-requires
+opens-requires c κs = search needs
+
+add-result : tie.Need-add-result
+add-result c = search needs
+
+returns : tie.Need-returns
+returns c =
+    let one : opens (c .before .before .args .kind) ≡ true = sym (c .before .opens .ensures) ∙ c .if1 .taken in
+    rw one
+
+returns-2 : tie.Need-returns-2
+returns-2 c =
+    let none : opens (c .before .before .args .kind) ≡ false = sym (c .before .opens .ensures) ∙ c .if1 .left in
+    rw none (omega arith)
+
+pub counted-spec : {M : Type 1} → statement M
+counted-spec = tie.close (tie.spec opens-requires add-result returns returns-2)

@@ -1,0 +1,220 @@
+-- `list::judge_records` meets its contract. Behind each right record, what is left decides as the whole does. Assumes nothing.
+use Prim.Native.Nat.{ℕ, suc, _+_, _-_, _≤_}
+use mathlib.Core.Bool.{cond}
+use mathlib.Core.List.{List}
+use mathlib.Core.Path.{_≡_, sym, _∙_, ap, ap₂, subst}
+use native.Mathlib.Numerals.{add-one}
+use native.Mathlib.Omega.{arith}
+use lib.ListN.{length}
+use borrow.Author.Needs.{needs}
+use Rattle.records.specs.Context.{Header, headed}
+use Rattle.records.specs.Field.{field}
+use Rattle.records.specs.Kinds.{heads}
+use Rattle.records.specs.Finding.{finding}
+use Rattle.records.specs.declared.kind.Kind.{Kind}
+use Rattle.records.specs.declared.kind.Kind.the-variants.{R14}
+use Rattle.flow.specs.Steps.{opened, latestOf, judgeRecord}
+use Rattle.list.specs.Encode.{carriedAt, encodeItem}
+use Rattle.list.specs.Items.{itemsIn}
+use Rattle.list.specs.Table.{bodyLength}
+use Rattle.list.proofs.Writing.{kindAt, itemAt, Turn, turn, turn-record, JudgingAt, judging-begins, next-judged, judging-on, judging-refused, judging-ends}
+use Rattle.list.proofs.writer.judge_records.Statement.{statement}
+use Rattle.list.proofs.writer.judge_records.Tie as tie
+
+abbrev Inv-loop : tie.InvT-loop
+Inv-loop list mittente abi date name currency walk₀ company₀ header₀ dispositions₀ n₀ at₀ walk company header dispositions n i =
+    (i ≤ length list) × (length (itemsIn list) ≤ 9999998) × JudgingAt (headed mittente abi date name currency) list i n dispositions header walk company
+
+abbrev μ-loop : tie.MeasureT-loop
+μ-loop list mittente abi date name currency walk₀ company₀ header₀ dispositions₀ n₀ at₀ walk company header dispositions n i = length list - i
+
+start-requires : tie.Need-start-requires Inv-loop μ-loop
+start-requires c κs = search needs
+
+sub-company : tie.Need-sub-company Inv-loop μ-loop
+sub-company c = search needs
+
+part-company-start : tie.Need-part-company-start Inv-loop μ-loop
+part-company-start c = search needs
+
+part-company-end : tie.Need-part-company-end Inv-loop μ-loop
+part-company-end c = search needs
+
+sub-header : tie.Need-sub-header Inv-loop μ-loop
+sub-header c = search needs
+
+part-header-start : tie.Need-part-header-start Inv-loop μ-loop
+part-header-start c = search needs
+
+part-header-end : tie.Need-part-header-end Inv-loop μ-loop
+part-header-end c = search needs
+
+abbrev list-of : tie.At-loop Inv-loop μ-loop → List ℕ
+list-of a = a .before .before .before .before .before .before .before .before .before .before .args .list .now
+
+abbrev header-of : tie.At-loop Inv-loop μ-loop → Header
+header-of a =
+    let args = a .before .before .before .before .before .before .before .before .before .before .args in
+    headed (args .mittente .now) (args .abi .now) (args .date .now) (args .name .now) (args .currency .now)
+
+loop-holds : tie.Need-loop-holds Inv-loop μ-loop
+loop-holds c = (omega arith, c .before .before .before .before .before .before .before .before .before .pre .few, rw (c .before .before .start .ensures) (judging-begins _ _ (c .before .before .before .before .before .before .before .before .before .pre)))
+
+shared-slice-read-kind-of : tie.Need-shared-slice-read-kind-of Inv-loop μ-loop
+shared-slice-read-kind-of c = search needs
+
+kind-of-requires : tie.Need-kind-of-requires Inv-loop μ-loop
+kind-of-requires c κs = search needs
+
+add-end : tie.Need-add-end Inv-loop μ-loop
+add-end c = omega arith
+
+body-length-requires : tie.Need-body-length-requires Inv-loop μ-loop
+body-length-requires c κs = search needs
+
+-- the item at the index, as this turn has read it
+turn-so : (c : tie.After-body-length Inv-loop μ-loop) → let l = c .before .before .before .before in Turn (list-of l) (l .loop .at) (c .before .kind-of .result) (c .body-length .result)
+turn-so c =
+    let l = c .before .before .before .before in
+    let j = l .loop .inv .2 in
+    turn (list-of l) (l .loop .n) (l .loop .at) (j .left) (next-judged j (c .before .before .before .loop-test .taken)) (c .before .kind-of .result) (c .body-length .result) (c .before .kind-of .ensures) (c .body-length .ensures)
+
+add-end-2 : tie.Need-add-end-2 Inv-loop μ-loop
+add-end-2 c = omega (arith, turn-so c .ends)
+
+add-body : tie.Need-add-body Inv-loop μ-loop
+add-body c = omega (arith, turn-so c .ends)
+
+sub-body : tie.Need-sub-body Inv-loop μ-loop
+sub-body c = omega (arith, turn-so c .ends)
+
+part-body-start : tie.Need-part-body-start Inv-loop μ-loop
+part-body-start c = omega (arith, turn-so c .ends)
+
+part-body-end : tie.Need-part-body-end Inv-loop μ-loop
+part-body-end c = omega (arith, turn-so c .ends)
+
+-- no more dispositions than items, and no more items than a flow has room for
+few-so : (a : tie.At-loop Inv-loop μ-loop) → (a .loop .dispositions ≤ a .loop .n) × (a .loop .n ≤ 9999998)
+few-so a =
+    let j = a .loop .inv .2 in
+    (j .few, omega (arith, a .loop .inv .1, j .count))
+
+counted-requires : tie.Need-counted-requires Inv-loop μ-loop
+counted-requires c κs = omega (arith, few-so (c .before .before .before .before .before) .0, few-so (c .before .before .before .before .before) .1)
+
+encode-item-requires : tie.Need-encode-item-requires Inv-loop μ-loop
+encode-item-requires c κs = turn-so (c .before .before) .body-sized
+
+add-n : tie.Need-add-n Inv-loop μ-loop
+add-n c = omega (arith, few-so (c .before .before .before .before .before .before .before) .1)
+
+slice-aggregate-judge : tie.Need-slice-aggregate-judge Inv-loop μ-loop
+slice-aggregate-judge c = search needs
+
+judge-requires : tie.Need-judge-requires Inv-loop μ-loop
+judge-requires c κs = search needs
+
+enum-known-number : tie.Need-enum-known-number Inv-loop μ-loop
+enum-known-number c = search needs
+
+-- the record that is built is the item's
+built : (c : tie.After-encode-item Inv-loop μ-loop) → let l = c .before .before .before .before .before .before .before in c .encode-item .result ≡ encodeItem (l .loop .dispositions + opened (kindAt (list-of l) (l .loop .at))) (l .loop .header .now) (itemAt (list-of l) (l .loop .at))
+built c =
+    let l = c .before .before .before .before .before .before .before in
+    turn-record (turn-so (c .before .before .before)) (l .loop .dispositions) (c .before .counted .result) (l .loop .header .now) (c .encode-item .result) (c .before .counted .ensures) (c .encode-item .ensures)
+
+found :
+    (c : tie.After-judge Inv-loop μ-loop) → let l = c .before .before .before .before .before .before .before .before .before in
+    judgeRecord (header-of l) (l .loop .walk) (l .loop .company .now) (suc (l .loop .n))
+    (encodeItem (l .loop .dispositions + opened (kindAt (list-of l) (l .loop .at))) (l .loop .header .now) (itemAt (list-of l) (l .loop .at)))
+    ≡ finding (c .judge .result)
+found c =
+    let l = c .before .before .before .before .before .before .before .before .before in
+    sym (c .judge .ensures ∙ ap₂ (judgeRecord _ _ _) (add-one (l .loop .n)) (built (c .before .before)))
+
+returns : tie.Need-returns Inv-loop μ-loop
+returns c =
+    let l = c .before .before .before .before .before .before .before .before .before .before .before .before in
+    let told = found (c .before .before .before) ∙ ap finding (c .before .number .given .1) in
+    rw add-one (judging-refused (l .loop .inv .2) (c .before .before .before .before .before .before .before .before .before .before .before .loop-test .taken) _ _ told)
+
+enum-known-right : tie.Need-enum-known-right Inv-loop μ-loop
+enum-known-right c = search needs
+
+field-requires : tie.Need-field-requires Inv-loop μ-loop
+field-requires c κs = search needs
+
+latest-company-requires : tie.Need-latest-company-requires Inv-loop μ-loop
+latest-company-requires c κs = search needs
+
+next-requires : tie.Need-next-requires Inv-loop μ-loop
+next-requires c κs = search needs
+
+header-behind-requires : tie.Need-header-behind-requires Inv-loop μ-loop
+header-behind-requires c κs = search needs
+
+loop-less : tie.Need-loop-less Inv-loop μ-loop
+loop-less c = omega (arith, turn-so (c .before .before .before .before .before .before .before .before .before .before .before .before) .ends, c .before .before .before .before .before .before .before .before .before .before .before .before .before .before .before .loop-test .taken)
+
+loop-again : tie.Need-loop-again Inv-loop μ-loop
+loop-again c =
+    let l = c .before .before .before .before .before .before .before .before .before .before .before .before .before .before .before .before in
+    let list = list-of l in
+    let i = l .loop .at in
+    let b = c .before .before .before .before .before .before .before .before .before .before .before .before in
+    let t = turn-so b in
+    let told = found (c .before .before .before .before .before .before .before) ∙ ap finding (c .before .before .before .before .before .right .given .1) in
+    let on = judging-on (l .loop .inv .2) (c .before .before .before .before .before .before .before .before .before .before .before .before .before .before .before .loop-test .taken) _ _ told in
+    let end : i + 1 + bodyLength (kindAt list i) ≡ i + 1 + b .body-length .result = omega (arith, t .size-so) in
+    let number : l .loop .dispositions + opened (kindAt list i) ≡ c .before .before .before .before .before .before .before .before .before .before .counted .result = sym (c .before .before .before .before .before .before .before .before .before .before .counted .ensures ∙ ap (λ (k : Kind). l .loop .dispositions + opened k) (t .kind-so)) in
+    let meant : cond (heads (kindAt list i)) (itemAt list i .body) (l .loop .header .now) ≡ c .header-behind .result .now = sym (c .header-behind .ensures ∙ (λ j. cond (heads (t .kind-so j)) (t .body-so j) (l .loop .header .now))) in
+    let company : latestOf (kindAt list i) (l .loop .company .now) (carriedAt R14 92 96 (itemAt list i .body)) ≡ c .before .before .latest-company .result .now =
+    sym (c .before .before .latest-company .ensures ∙ ap (latestOf (b .before .kind-of .result) (l .loop .company .now)) (c .before .before .before .field .ensures) ∙ (λ j. latestOf (t .kind-so j) (l .loop .company .now) (field 37 41 (t .body-so j)))) in
+    (omega (arith, t .ends), l .loop .inv .1, subst (λ (A : Type 0). A) (λ j. JudgingAt (header-of l) list (end j) (sym (add-one (l .loop .n)) j) (number j) (meant j) (sym (c .before .next .ensures) j) (company j)) on)
+
+close-requires : tie.Need-close-requires Inv-loop μ-loop
+close-requires c κs = few-so (c .before) .1
+
+returns-2 : tie.Need-returns-2 Inv-loop μ-loop
+returns-2 c = let l = c .before .before in c .close .ensures ∙ judging-ends (l .loop .inv .2) (l .loop .inv .1) (c .before .loop-test .left)
+
+pub judge-records-spec : {M : Type 1} → statement M
+judge-records-spec =
+    tie.close
+    (tie.spec
+    Inv-loop
+    μ-loop
+    start-requires
+    sub-company
+    part-company-start
+    part-company-end
+    sub-header
+    part-header-start
+    part-header-end
+    loop-holds
+    shared-slice-read-kind-of
+    kind-of-requires
+    add-end
+    body-length-requires
+    add-end-2
+    add-body
+    sub-body
+    part-body-start
+    part-body-end
+    counted-requires
+    encode-item-requires
+    add-n
+    slice-aggregate-judge
+    judge-requires
+    enum-known-number
+    returns
+    enum-known-right
+    field-requires
+    latest-company-requires
+    next-requires
+    header-behind-requires
+    loop-less
+    loop-again
+    close-requires
+    returns-2)

@@ -1,0 +1,117 @@
+-- What a list encodes (document 01, "Our request list"; its word is "spells"): a record for each item in order, then EF. Assumes nothing.
+use Prim.Native.Nat.{ℕ, suc, _+_, _-_}
+use mathlib.Core.Bool.{cond, _&&_}
+use mathlib.Core.List.{List, [], _∷_, _++_, flatten}
+use lib.Dec.{leb}
+use lib.ListN.{length, replicate, take, drop}
+use Rattle.sequences.specs.Part.{part, put}
+use Rattle.fields.specs.Digits.{number, digits}
+use Rattle.records.specs.Constants.{causale, sign, currency}
+use Rattle.records.specs.Field.{Span, _to_, width}
+use Rattle.records.specs.Kinds.{typeOf, heads, opens}
+use Rattle.records.specs.declared.kind.Kind.{Kind}
+use Rattle.records.specs.declared.kind.Kind.the-variants.{Im, R14, R16, R20, R30, R40, R50, R59, R51, R70, Ef}
+use Rattle.flow.specs.Steps.{opened}
+use Rattle.list.specs.Items.{Item}
+use Rattle.list.specs.Table.{carried}
+
+-- bytes that stand in a record from a position on
+pub data Placed : Type 0 where
+  place : ℕ → List ℕ → Placed
+
+-- a record with them written over it, one after the other
+unfoldable pub fill : List Placed → List ℕ → List ℕ
+fill [] rec = rec
+fill (place p bs ∷ ps) rec = fill ps (put (p - 1) bs rec)
+
+-- "a record begins as 120 blanks"
+abbrev pub blanks : List ℕ
+blanks = replicate 120 32
+
+-- where positions a to e stand in a body that carries the spans: the index of the first
+abbrev pub indexIn : List Span → ℕ → ℕ
+indexIn [] a = 0
+indexIn ((b to e) ∷ ss) a = cond (leb b a && leb a e) (a - b) (width (b to e) + indexIn ss a)
+
+-- positions a to e of a record of the kind, as its item's body carries them
+abbrev pub carriedAt : Kind → ℕ → ℕ → List ℕ → List ℕ
+carriedAt k a e body = part (indexIn (carried k) a) (width (a to e)) body
+
+-- what a record of the kind has beside its type and the carried bytes: "its number", which IM has not, "the fixed 07000, -, E", and "the
+-- ABI copied from H to 14 at 48-52"
+abbrev pub supplied : Kind → ℕ → List ℕ → List Placed
+supplied Im n abi = place 114 currency ∷ []
+supplied R14 n abi = place 4 (digits 7 n) ∷ place 29 causale ∷ place 47 sign ∷ place 48 abi ∷ place 120 currency ∷ []
+supplied R16 n abi = place 4 (digits 7 n) ∷ []
+supplied R20 n abi = place 4 (digits 7 n) ∷ []
+supplied R30 n abi = place 4 (digits 7 n) ∷ []
+supplied R40 n abi = place 4 (digits 7 n) ∷ []
+supplied R50 n abi = place 4 (digits 7 n) ∷ []
+supplied R59 n abi = place 4 (digits 7 n) ∷ []
+supplied R51 n abi = place 4 (digits 7 n) ∷ []
+supplied R70 n abi = place 4 (digits 7 n) ∷ []
+supplied Ef n abi = []
+
+-- "the carried bytes": the body over the spans, in order
+unfoldable pub bodyPlaced : List Span → List ℕ → List Placed
+bodyPlaced [] body = []
+bodyPlaced ((a to e) ∷ ss) body = place a (take (width (a to e)) body) ∷ bodyPlaced ss (drop (width (a to e)) body)
+
+-- the record of an item, with its number and the body of the header meant: the latest H before it, empty where there is none
+unfoldable pub encodeItem : ℕ → List ℕ → Item → List ℕ
+encodeItem n header it =
+    let k = it .kind in
+    fill (place 2 (typeOf k) ∷ (supplied k n (carriedAt Im 9 13 header) ++ bodyPlaced (carried k) (it .body))) blanks
+
+-- EF: 4-45 of the header, the counts, the sum, zeros, "E"
+abbrev pub trailerPlaced : List ℕ → ℕ → ℕ → ℕ → List Placed
+trailerPlaced header dispositions cents records =
+    place 2 (typeOf Ef)
+    ∷ place 4 header
+    ∷ place 46 (digits 7 dispositions)
+    ∷ place 53 (digits 15 cents)
+    ∷ place 68 (digits 15 0)
+    ∷ place 83 (digits 7 records)
+    ∷ place 114 currency
+    ∷ []
+
+unfoldable pub encodeTrailer : List ℕ → ℕ → ℕ → ℕ → List ℕ
+encodeTrailer header dispositions cents records = fill (trailerPlaced (carriedAt Im 4 45 header) dispositions cents records) blanks
+
+-- the body of the header meant behind an item
+abbrev pub headerBehind : List ℕ → Item → List ℕ
+headerBehind header it = cond (heads (it .kind)) (it .body) header
+
+-- the records of items, behind n dispositions and with the header meant
+unfoldable pub encodeFrom : ℕ → List ℕ → List Item → List (List ℕ)
+encodeFrom n header [] = []
+encodeFrom n header (it ∷ is) =
+    let number = n + opened (it .kind) in
+    encodeItem number header it ∷ encodeFrom number (headerBehind header it) is
+
+-- the header meant behind all of them
+unfoldable pub lastHeader : List ℕ → List Item → List ℕ
+lastHeader header [] = header
+lastHeader header (it ∷ is) = lastHeader (headerBehind header it) is
+
+-- the count of D items; and the sum of their amounts, what their 34-46 say
+unfoldable pub dispositionsOf : List Item → ℕ
+dispositionsOf [] = 0
+dispositionsOf (it ∷ is) = opened (it .kind) + dispositionsOf is
+
+abbrev pub amountOf : Item → ℕ
+amountOf it = cond (opens (it .kind)) (number (carriedAt R14 34 46 (it .body))) 0
+
+unfoldable pub centsOf : List Item → ℕ
+centsOf [] = 0
+centsOf (it ∷ is) = amountOf it + centsOf is
+
+-- the records other than EF, and EF
+abbrev pub recordsFor : List Item → List (List ℕ)
+recordsFor is = encodeFrom 0 [] is
+
+abbrev pub trailerFor : List Item → List ℕ
+trailerFor is = encodeTrailer (lastHeader [] is) (dispositionsOf is) (centsOf is) (suc (length is))
+
+abbrev pub encode : List Item → List ℕ
+encode is = flatten (recordsFor is ++ (trailerFor is ∷ []))

@@ -1,0 +1,76 @@
+-- The two-rent list of document 01 and what it encodes, as equations that compute. Assumes nothing.
+use Prim.Native.Nat.{ℕ}
+use Prim.Native.String.{String}
+use mathlib.Core.List.{List, [], _∷_, _++_, map}
+use mathlib.Core.Path.{_≡_}
+use lib.ListN.{length}
+use Rattle.sequences.specs.Text.{text}
+use Rattle.flow.specs.Examples.{flowOf, trailerEf, twoRents}
+use Rattle.flow.specs.Verdict.{accepted, refused}
+use Rattle.list.specs.Encode.{trailerFor, encode}
+use Rattle.list.specs.Items.{itemsIn}
+use Rattle.list.specs.ReadBack.{listOf, judgeRoom, Canonical}
+use Rattle.list.specs.Table.{bodyLength, rows}
+use Rattle.list.specs.Write.{judgeList}
+
+-- the items of the header, and of each of the two dispositions
+abbrev pub headerItem : List String
+headerItem = "HAB12301234150326RENT-MARCH                       " ∷ []
+
+abbrev pub firstItems : List String
+firstItems =
+    "D310326000000004500002400000000123456AB1232S0017           "
+    ∷ "CRESIDENZA SAN MARTINO   VIA DEI COLLEGI 12      20100 MILANO MI                                 "
+    ∷ "BROSSI GIULIA                                                RSSGLI05A41F205X"
+    ∷ "AVIA DEI COLLEGI 12            20100MILANO MI                STANZA 17                                         "
+    ∷ "RRETTA MARZO 2026                                                                                              "
+    ∷ "K0000000017                                                                                                    "
+    ∷ "Z                          "
+    ∷ []
+
+abbrev pub secondItems : List String
+secondItems =
+    "D310326000000003805002400000000123456AB1232S0023           "
+    ∷ "CRESIDENZA SAN MARTINO   VIA DEI COLLEGI 12      20100 MILANO MI                                 "
+    ∷ "BBIANCHI MARCO                                               BNCMRC04P12F205Y"
+    ∷ "AVIA DEI COLLEGI 12            20100MILANO MI                STANZA 23                                         "
+    ∷ "RRETTA MARZO 2026                                                                                              "
+    ∷ "K0000000023                                                                                                    "
+    ∷ "Z                          "
+    ∷ []
+
+abbrev pub twoRentList : List ℕ
+twoRentList = flowOf (headerItem ++ (firstItems ++ secondItems))
+
+abbrev pub oneRentList : List ℕ
+oneRentList = flowOf (headerItem ++ firstItems)
+
+pub record Examples : Type 0 where
+  -- the table's last column
+  pub bodies : map bodyLength rows ≡ 49 ∷ 58 ∷ 27 ∷ 96 ∷ 76 ∷ 110 ∷ 110 ∷ 110 ∷ 110 ∷ 26 ∷ []
+  -- document 01, example 1: this EF is what the list encodes; and so is the whole flow
+  pub trailer : trailerFor (itemsIn twoRentList) ≡ text trailerEf
+  pub two-rents : encode (itemsIn twoRentList) ≡ twoRents
+  -- document 01, example 9: a list of one disposition with R and no S has 643 bytes and encodes 1,080
+  pub one-rent : length oneRentList ≡ 643
+  pub one-rent-encoded : length (encode (itemsIn oneRentList)) ≡ 1080
+  -- written, with room and one byte short of it
+  pub written : judgeList twoRentList 1920 ≡ accepted 2 83050 16
+  pub one-short : judgeList twoRentList 1919 ≡ refused 21 0 0
+  -- an empty list: 21 below one record of room, then 3 at EF's place
+  pub empty : judgeList [] 120 ≡ refused 3 1 2
+  pub empty-short : judgeList [] 119 ≡ refused 21 0 0
+  -- the header alone: EF may not follow it
+  pub header-alone : judgeList (flowOf headerItem) 240 ≡ refused 3 2 2
+  -- a fault of a record
+  pub no-header : judgeList (flowOf firstItems) 960 ≡ refused 3 1 2
+  pub second-header : judgeList (flowOf (headerItem ++ headerItem)) 360 ≡ refused 3 2 2
+  -- an unknown kind, and a body cut short, are looked for first
+  pub unknown : judgeList (text "Q") 0 ≡ refused 20 1 0
+  pub cut-short : judgeList (flowOf (firstItems ++ ("Z" ∷ []))) 0 ≡ refused 20 8 0
+  -- read back
+  pub read-back : listOf twoRents ≡ twoRentList
+  pub canonical : Canonical twoRents
+  pub room : judgeRoom twoRents 1236 ≡ accepted 2 83050 16
+  pub no-room : judgeRoom twoRents 1235 ≡ refused 21 0 0
+  pub refused-first : judgeRoom [] 0 ≡ refused 1 0 0

@@ -1,0 +1,68 @@
+-- A request list: items of one byte of kind and a body whose length the kind fixes (document 01, "Our request list"). Assumes nothing.
+use Prim.Native.Nat.{ℕ, zero, suc, _≤_}
+use mathlib.Core.Bool.{true, cond, _&&_}
+use mathlib.Core.List.{List, [], _∷_, map, flatten}
+use mathlib.Core.Path.{_≡_}
+use lib.Dec.{leb}
+use lib.ListN.{length, take}
+use Rattle.records.specs.declared.kind.Kind.{Kind}
+use Rattle.list.specs.declared.count.Count.{Count}
+use Rattle.list.specs.declared.count.Count.the-variants.{Items, Faulty}
+use Rattle.list.specs.Table.{letter, bodyLength, hasItem, kindOf}
+
+pub record Item : Type 0 where
+  pub kind : Kind
+  pub body : List ℕ
+
+abbrev pub item : Kind → List ℕ → Item
+item k body = record { kind = k; body = body }
+
+-- an item of the table, with a body of its length
+pub record Proper (it : Item) : Type 0 where
+  pub listed : hasItem (it .kind) ≡ true
+  pub sized : length (it .body) ≡ bodyLength (it .kind)
+
+-- an item, and items, as bytes
+abbrev pub itemBytes : Item → List ℕ
+itemBytes it = letter (it .kind) ∷ it .body
+
+abbrev pub listBytes : List Item → List ℕ
+listBytes is = flatten (map itemBytes is)
+
+-- what bytes say: items; or the number, counted from 1, of the first that is none
+pub data Parsed : Type 0 where
+  items : List Item → Parsed
+  faulty : ℕ → Parsed
+
+-- an item, and what the bytes behind it say
+abbrev pub before : Item → Parsed → Parsed
+before it (items is) = items (it ∷ is)
+before it (faulty n) = faulty n
+
+-- what bytes say that come behind n items and begin with s bytes of the last one's body: an unknown kind or a body cut short is a fault
+unfoldable pub itemsFrom : ℕ → ℕ → List ℕ → Parsed
+itemsFrom n s [] = items []
+itemsFrom n zero (b ∷ bs) =
+    let k = kindOf b in
+    cond (hasItem k && leb (bodyLength k) (length bs)) (before (item k (take (bodyLength k) bs)) (itemsFrom (suc n) (bodyLength k) bs)) (faulty (suc n))
+itemsFrom n (suc s) (b ∷ bs) = itemsFrom n s bs
+
+abbrev pub parse : List ℕ → Parsed
+parse list = itemsFrom 0 0 list
+
+-- the items of a list; of a faulty one none
+abbrev pub itemsOr : Parsed → List Item
+itemsOr (items is) = is
+itemsOr (faulty n) = []
+
+abbrev pub itemsIn : List ℕ → List Item
+itemsIn list = itemsOr (parse list)
+
+-- for the contracts of private functions: how many items there are; and bytes that are a list of no more items than a flow has room for
+abbrev pub counted : Parsed → Count
+counted (items is) = Items (length is)
+counted (faulty n) = Faulty n
+
+pub record Listed (list : List ℕ) : Type 0 where
+  pub said : parse list ≡ items (itemsIn list)
+  pub few : length (itemsIn list) ≤ 9999998

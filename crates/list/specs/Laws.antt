@@ -1,0 +1,114 @@
+-- What is proved of writing a list and of reading a flow back. `proofs/` has its proof under the law's name in small letters. Assumes
+-- nothing.
+use Prim.Native.Nat.{ℕ, suc, _*_, _≤_, _<_}
+use mathlib.Core.Bool.{true}
+use mathlib.Core.List.{List, _∷_, _++_, map, dropLast, flatten}
+use mathlib.Core.Logic.{_↔_, _⊎_}
+use mathlib.Core.Path.{_≡_}
+use lib.ListN.{length, take}
+use Rattle.sequences.specs.All.{All}
+use Rattle.records.specs.Checked.{checked, Alike}
+use Rattle.records.specs.Field.{field}
+use Rattle.records.specs.Kinds.{typeOf}
+use Rattle.records.specs.declared.kind.Kind.{Kind}
+use Rattle.records.specs.declared.kind.Kind.the-variants.{Ef}
+use Rattle.flow.specs.Judge.{judge}
+use Rattle.flow.specs.Records.{recordAt, recordsOf}
+use Rattle.flow.specs.Verdict.{accepted, refused}
+use Rattle.grammar.specs.Fault.{MayFollow, EachRight}
+use Rattle.list.specs.Encode.{centsOf, recordsFor, encode}
+use Rattle.list.specs.Items.{Item, item, Proper, listBytes, items, faulty, parse, itemsIn}
+use Rattle.list.specs.Output.{outputOf}
+use Rattle.list.specs.ReadBack.{gather, itemsOf, listOf, judgeRoom, Canonical}
+use Rattle.list.specs.Table.{letter, carried, bodyLength, hasItem, kindIn}
+use Rattle.list.specs.Write.{judgeList, write}
+use Rattle.list.specs.declared.filled.Filled.{Filled}
+
+-- the items that a list is read as are those that it is the bytes of
+abbrev pub ItemsExact : Type 0
+ItemsExact = (list : List ℕ) (is : List Item) → (parse list ≡ items is) ↔ ((listBytes is ≡ list) × All Proper is)
+
+-- bytes that do not begin with an item: the kind is unknown, or the body is cut short
+pub record NoItem (bytes : List ℕ) : Type 0 where
+  pub byte : ℕ
+  pub rest : List ℕ
+  pub some : bytes ≡ byte ∷ rest
+  pub short : (k : Kind) → hasItem k ≡ true → letter k ≡ byte → length rest < bodyLength k
+
+-- a list has a fault at item n exactly where items stand before it, and behind them no item
+pub record FaultyAt (list : List ℕ) (n : ℕ) : Type 0 where
+  pub before : List Item
+  pub rest : List ℕ
+  pub bytes : listBytes before ++ rest ≡ list
+  pub proper : All Proper before
+  pub none : NoItem rest
+  pub number : suc (length before) ≡ n
+
+abbrev pub FaultyExact : Type 0
+FaultyExact = (list : List ℕ) (n : ℕ) → (parse list ≡ faulty n) ↔ FaultyAt list n
+
+-- the items of a list, of which a flow has room for so many, and the output too
+pub record Fitting (list : List ℕ) (room : ℕ) (is : List Item) : Type 0 where
+  pub said : parse list ≡ items is
+  pub few : suc (length is) ≤ 9999999
+  pub roomy : 120 * suc (length is) ≤ room
+
+-- document 01's refusals of writing, each where those before it do not apply
+pub data WriteFault (list : List ℕ) (room : ℕ) : ℕ → ℕ → ℕ → Type 0 where
+  no-item : (n : ℕ) → FaultyAt list n → WriteFault list room 20 n 0
+  too-many : (is : List Item) → parse list ≡ items is → 9999999 < suc (length is) → WriteFault list room 1 0 0
+  no-room : (is : List Item) → parse list ≡ items is → suc (length is) ≤ 9999999 → room < 120 * suc (length is) → WriteFault list room 21 0 0
+  -- the reader's refusal of the records other than EF, in one of them
+  in-record :
+      (is : List Item) (n r p : ℕ) → Fitting list room is → judge (flatten (recordsFor is)) ≡ refused n r p → 1 ≤ r → r ≤ length is
+      → WriteFault list room n r p
+  -- each of them is right, and EF may not follow
+  no-trailer :
+      (is : List Item) → Fitting list room is → EachRight (flatten (recordsFor is)) (recordsFor is) → ¬ MayFollow (recordsFor is) Ef
+      → WriteFault list room 3 (suc (length is)) 2
+  -- EF may follow, and its digits do not hold the total
+  too-much :
+      (is : List Item) → Fitting list room is → EachRight (flatten (recordsFor is)) (recordsFor is) → MayFollow (recordsFor is) Ef
+      → 999999999999999 < centsOf is → WriteFault list room 17 0 0
+
+abbrev pub WriteRefused : Type 0
+WriteRefused = (list : List ℕ) (room n r p : ℕ) → (judgeList list room ≡ refused n r p) ↔ WriteFault list room n r p
+
+-- what a list that is accepted encodes is a flow that the reader accepts with the same numbers, that has its length, and whose list is
+-- the list written
+abbrev pub WrittenExact : Type 0
+WrittenExact =
+    (list : List ℕ) (room d c n : ℕ) → judgeList list room ≡ accepted d c n → let flow = encode (itemsIn list) in
+    (judge flow ≡ accepted d c n) × (listOf flow ≡ list) × (length flow ≡ 120 * n) × (length flow ≤ room)
+
+-- an accepted flow's own list has one item for each record but EF: its kind, then its carried bytes as they stand
+abbrev pub OwnList : Type 0
+OwnList =
+    (f : List ℕ) (d c n : ℕ) → judge f ≡ accepted d c n
+    → itemsOf f ≡ map (λ (rec : List ℕ). item (kindIn rec) (gather (carried (kindIn rec)) rec)) (dropLast (recordsOf f))
+
+-- reading back is refused exactly where the reader refuses, by the same, or by 21
+abbrev pub ReadBackRefused : Type 0
+ReadBackRefused =
+    (f : List ℕ) (room n r p : ℕ)
+    → (judgeRoom f room ≡ refused n r p) ↔ ((judge f ≡ refused n r p) ⊎ ((d c m : ℕ) × (judge f ≡ accepted d c m) × (room < length (listOf f)) × (n ≡ 21) × (r ≡ 0) × (p ≡ 0)))
+
+-- an accepted flow's list, written again, is accepted with the same numbers; a flow's total is one that EF's digits hold
+abbrev pub RewrittenExact : Type 0
+RewrittenExact = (f : List ℕ) (d c n room : ℕ) → judge f ≡ accepted d c n → length f ≤ room → judgeList (listOf f) room ≡ accepted d c n
+
+-- and gives the same bytes exactly where the flow was canonical
+abbrev pub RewrittenSame : Type 0
+RewrittenSame =
+    (f out : List ℕ) (d c n : ℕ) → judge f ≡ accepted d c n → length f ≤ length out → let w = write (listOf f) out in
+    (take (w .written) (w .bytes) ≡ f) ↔ Canonical f
+
+-- an accepted flow and the encoding of its list differ only at positions that the table of checks does not name
+abbrev pub UncheckedOnly : Type 0
+UncheckedOnly =
+    (f : List ℕ) (d c n : ℕ) → judge f ≡ accepted d c n → let again = encode (itemsOf f) in
+    (length again ≡ length f) × ((i : ℕ) (k : Kind) → i < n → field 2 3 (recordAt i f) ≡ typeOf k → Alike (checked k) (recordAt i f) (recordAt i again))
+
+-- what an answer stands for on paper determines it
+abbrev pub FilledDetermined : Type 0
+FilledDetermined = (r s : Filled) (out : List ℕ) → outputOf r out ≡ outputOf s out → r ≡ s

@@ -1,0 +1,53 @@
+-- Reading a flow back to its list (document 01, "Our request list": the reader's refusals, then 21). Assumes nothing.
+use Prim.Native.Nat.{ℕ, suc}
+use mathlib.Core.Bool.{cond}
+use mathlib.Core.List.{List, [], _∷_, map, flatten}
+use mathlib.Core.Path.{_≡_}
+use lib.Dec.{leb}
+use lib.ListN.{length}
+use Rattle.records.specs.Field.{Span, _to_, field}
+use Rattle.records.specs.declared.kind.Kind.{Kind}
+use Rattle.flow.specs.Judge.{judge}
+use Rattle.flow.specs.Records.{recordsOf}
+use Rattle.flow.specs.Verdict.{Verdict, accepted, refused}
+use Rattle.list.specs.Encode.{encode}
+use Rattle.list.specs.Items.{Item, item, listBytes}
+use Rattle.list.specs.Output.{Output, output}
+use Rattle.list.specs.Table.{carried, bodyLength, hasItem, kindIn}
+
+-- the bytes of a record at spans, in order
+abbrev pub gather : List Span → List ℕ → List ℕ
+gather ss rec = flatten (map (λ (s : Span). fieldAt s rec) ss)
+  where
+    fieldAt : Span → List ℕ → List ℕ
+    fieldAt (a to e) rec = field a e rec
+
+-- the item of a record: its kind, then its carried bytes as they stand; a record that the table does not have gives none
+abbrev pub itemOf : List ℕ → List Item
+itemOf rec = let k = kindIn rec in cond (hasItem k) (item k (gather (carried k) rec) ∷ []) []
+
+-- the length of the item of a record of the kind
+abbrev pub itemLength : Kind → ℕ
+itemLength k = cond (hasItem k) (suc (bodyLength k)) 0
+
+-- a flow's own list, as items and as bytes
+abbrev pub itemsOf : List ℕ → List Item
+itemsOf f = flatten (map itemOf (recordsOf f))
+
+abbrev pub listOf : List ℕ → List ℕ
+listOf f = listBytes (itemsOf f)
+
+-- the answer to a flow, with an output of so many bytes
+abbrev pub behindReading : Verdict → List ℕ → ℕ → Verdict
+behindReading (accepted d c n) list room = cond (leb (length list) room) (accepted d c n) (refused 21 0 0)
+behindReading (refused e r p) list room = refused e r p
+
+unfoldable pub judgeRoom : List ℕ → ℕ → Verdict
+judgeRoom f room = behindReading (judge f) (listOf f) room
+
+unfoldable pub readBack : List ℕ → List ℕ → Output
+readBack f out = output (judgeRoom f (length out)) (listOf f) out
+
+-- document 01's "clean": equal to what its own list encodes
+abbrev pub Canonical : List ℕ → Type 0
+Canonical f = encode (itemsOf f) ≡ f

@@ -1,0 +1,40 @@
+-- Writing a list (document 01, "Our request list": 20; then 1 if items + 1 exceed 9,999,999; then 21; then the reader's refusal of the
+-- encoded records other than EF, or 3 at EF's place if EF may not stand there; then 17). Assumes nothing.
+use Prim.Native.Nat.{ℕ, suc, _*_}
+use mathlib.Core.Bool.{cond}
+use mathlib.Core.List.{List, [], flatten}
+use lib.Dec.{leb}
+use lib.ListN.{length, take}
+use Rattle.records.specs.Context.{headerOf}
+use Rattle.flow.specs.Judge.{go}
+use Rattle.flow.specs.Order.{permitted, mayClose}
+use Rattle.flow.specs.Steps.{start}
+use Rattle.flow.specs.Verdict.{Verdict, accepted, refused}
+use Rattle.flow.specs.declared.walk.Walk.{Walk}
+use Rattle.list.specs.Encode.{recordsFor, encode}
+use Rattle.list.specs.Items.{Item, Parsed, items, faulty, parse, itemsIn}
+use Rattle.list.specs.Output.{Output, output}
+
+-- the items have ended behind n records: EF is due, and its fifteen digits hold the total
+abbrev pub closed : Walk → ℕ → Verdict
+closed w n =
+    cond (mayClose (permitted (w .place .due)))
+    (cond (leb (w .cents) 999999999999999) (accepted (w .dispositions) (w .cents) (suc n)) (refused 17 0 0))
+    (refused 3 (suc n) 2)
+
+-- the encoded records, judged as the reader judges them: the first 120 bytes are the header
+unfoldable pub judgeItems : List Item → Verdict
+judgeItems is = go closed (headerOf (take 120 (flatten (recordsFor is)))) start [] 0 (recordsFor is)
+
+-- how many records and bytes, and then the records
+abbrev pub judgeParsed : Parsed → ℕ → Verdict
+judgeParsed (faulty n) room = refused 20 n 0
+judgeParsed (items is) room =
+    cond (leb (suc (length is)) 9999999) (cond (leb (120 * suc (length is)) room) (judgeItems is) (refused 21 0 0)) (refused 1 0 0)
+
+-- the answer to a list, with an output of so many bytes
+unfoldable pub judgeList : List ℕ → ℕ → Verdict
+judgeList list room = judgeParsed (parse list) room
+
+unfoldable pub write : List ℕ → List ℕ → Output
+write list out = output (judgeList list (length out)) (encode (itemsIn list)) out

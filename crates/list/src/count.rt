@@ -1,0 +1,39 @@
+// The items of a list, counted.
+ghost use mathlib.Core.Path.{_≡_};
+ghost use Rattle.list.specs.Items.{parse, counted};
+use crate::table::body_length;
+use crate::table::kind_of;
+
+// How many items a list has, or the number of the first that is none: its kind byte is unknown, or its
+// body is cut short.
+pub(crate) enum Count {
+    Items(usize),
+    Faulty(u64),
+}
+
+pub(crate) fn count_items(list: &[u8]) -> Count
+    ensures { λ r. ⌜ r ≡ counted (parse (now (list .entry))) ⌝ }
+{
+    let mut n = 0;
+    let mut at = 0;
+    while at < list.len() {
+        let kind = kind_of(list[at]);
+        let size = body_length(kind);
+        if records::closes(kind) {
+            return Count::Faulty(number(n + 1));
+        }
+        if list.len() - at - 1 < size {
+            return Count::Faulty(number(n + 1));
+        }
+        at += 1 + size;
+        n += 1;
+    }
+    Count::Items(n)
+}
+
+// The same number, for an answer.
+pub(crate) fn number(n: usize) -> u64
+    ensures { λ r. ⌜ r ≡ n ⌝ }
+{
+    n as u64
+}

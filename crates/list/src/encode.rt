@@ -1,0 +1,140 @@
+// The records that a list encodes, each built in an array of 120 blanks.
+ghost use Prim.Native.Nat.{_+_, _-_, _≤_};
+ghost use mathlib.Core.List.{_∷_, _++_};
+ghost use mathlib.Core.Path.{_≡_};
+ghost use lib.ListN.{length};
+ghost use Rattle.sequences.specs.Part.{put};
+ghost use Rattle.fields.specs.Digits.{digits};
+ghost use Rattle.records.specs.Kinds.{typeOf};
+ghost use Rattle.records.specs.declared.kind.Kind.the-variants.{Im};
+ghost use Rattle.list.specs.Encode.{fill, supplied, bodyPlaced, carriedAt, encodeItem, encodeTrailer, trailerPlaced};
+ghost use Rattle.list.specs.Encode.{place as Encode·place};
+ghost use Rattle.list.specs.Items.{item};
+ghost use Rattle.list.specs.Table.{bodyLength};
+ghost use Rattle.list.specs.Table.{carried as Table·carried};
+use crate::table::carried;
+use crate::table::width;
+use records::CAUSALE;
+use records::CURRENCY;
+use records::Kind;
+use records::SIGN;
+use records::field;
+
+// The record of an item with the number; `header` is the body of the latest H before it, or empty.
+pub(crate) fn encode_item(kind: Kind, number: u64, header: &[u8], body: &[u8]) -> [u8; 120]
+    requires { ⌜ length (now body) ≡ bodyLength kind ⌝ }
+    ensures { λ r. ⌜ r ≡ encodeItem number (now (header .entry)) (item kind (now (body .entry))) ⌝ }
+{
+    let mut rec = [b' '; 120];
+    fill_item(&mut rec, kind, number, field(header, 6, 10), body);
+    rec
+}
+
+// Its type, what is supplied, and the carried bytes.
+fn fill_item(rec: &mut [u8], kind: Kind, number: u64, abi: &[u8], body: &[u8])
+    requires { ⌜ length (now rec) ≡ 120 ⌝ }
+    requires { ⌜ length (now abi) ≤ 5 ⌝ }
+    requires { ⌜ length (now body) ≡ bodyLength kind ⌝ }
+    ensures { λ _. ⌜ now (rec .exit) ≡ fill
+        (Encode·place 2 (typeOf kind) ∷ (supplied kind number (now (abi .entry)) ++ bodyPlaced (Table·carried kind) (now (body .entry))))
+        (now (rec .entry)) ⌝ }
+{
+    let code = records::type_of(kind);
+    place(rec, 2, &code);
+    supply(rec, kind, number, abi);
+    place_body(rec, kind, body);
+}
+
+// The number, the fixed values and the ABI.
+fn supply(rec: &mut [u8], kind: Kind, number: u64, abi: &[u8])
+    requires { ⌜ length (now rec) ≡ 120 ⌝ }
+    requires { ⌜ length (now abi) ≤ 5 ⌝ }
+    ensures { λ _. ⌜ now (rec .exit) ≡ fill (supplied kind number (now (abi .entry))) (now (rec .entry)) ⌝ }
+{
+    match kind {
+        Kind::Im => place(rec, 114, &CURRENCY),
+        Kind::R14 => {
+            place_number(rec, 4, 10, number);
+            place(rec, 29, &CAUSALE);
+            place(rec, 47, &SIGN);
+            place(rec, 48, abi);
+            place(rec, 120, &CURRENCY);
+        }
+        Kind::Ef => {}
+        Kind::R16
+        | Kind::R20
+        | Kind::R30
+        | Kind::R40
+        | Kind::R50
+        | Kind::R59
+        | Kind::R51
+        | Kind::R70 => place_number(rec, 4, 10, number),
+    }
+}
+
+// The body over the carried positions, in order.
+fn place_body(rec: &mut [u8], kind: Kind, body: &[u8])
+    requires { ⌜ length (now rec) ≡ 120 ⌝ }
+    requires { ⌜ length (now body) ≡ bodyLength kind ⌝ }
+    ensures { λ _. ⌜ now (rec .exit) ≡ fill (bodyPlaced (Table·carried kind) (now (body .entry))) (now (rec .entry)) ⌝ }
+{
+    let spans = carried(kind);
+    let mut from = 0;
+    let mut i = 0;
+    while i < 4 {
+        let first = spans[2 * i];
+        let n = width(first, spans[2 * i + 1]);
+        place(rec, first, &body[from..from + n]);
+        from += n;
+        i += 1;
+    }
+}
+
+// EF: `header` is the body of the latest H, or empty.
+pub(crate) fn encode_trailer(
+    header: &[u8],
+    dispositions: u64,
+    cents: u64,
+    records: u64,
+) -> [u8; 120]
+    ensures { λ r. ⌜ r ≡ encodeTrailer (now (header .entry)) dispositions cents records ⌝ }
+{
+    let mut rec = [b' '; 120];
+    fill_trailer(&mut rec, field(header, 1, 42), dispositions, cents, records);
+    rec
+}
+
+fn fill_trailer(rec: &mut [u8], header: &[u8], dispositions: u64, cents: u64, records: u64)
+    requires { ⌜ length (now rec) ≡ 120 ⌝ }
+    requires { ⌜ length (now header) ≤ 42 ⌝ }
+    ensures { λ _. ⌜ now (rec .exit) ≡ fill (trailerPlaced (now (header .entry)) dispositions cents records) (now (rec .entry)) ⌝ }
+{
+    let code = records::type_of(Kind::Ef);
+    place(rec, 2, &code);
+    place(rec, 4, header);
+    place_number(rec, 46, 52, dispositions);
+    place_number(rec, 53, 67, cents);
+    place_number(rec, 68, 82, 0);
+    place_number(rec, 83, 89, records);
+    place(rec, 114, &CURRENCY);
+}
+
+// Puts the bytes in a record, or in a flow, from a position on.
+pub(crate) fn place(rec: &mut [u8], first: usize, content: &[u8])
+    requires { ⌜ 1 ≤ first ⌝ }
+    requires { ⌜ first - 1 + length (now content) ≤ length (now rec) ⌝ }
+    ensures { λ _. ⌜ now (rec .exit) ≡ put (first - 1) (now (content .entry)) (now (rec .entry)) ⌝ }
+{
+    let from = first - 1;
+    bytes::copy(content, &mut rec[from..from + content.len()]);
+}
+
+// Puts the digits of a number in the record from position first to last.
+fn place_number(rec: &mut [u8], first: usize, last: usize, value: u64)
+    requires { ⌜ 1 ≤ first ⌝ }
+    requires { ⌜ first - 1 ≤ last ⌝ }
+    requires { ⌜ last ≤ length (now rec) ⌝ }
+    ensures { λ _. ⌜ now (rec .exit) ≡ put (first - 1) (digits (last - (first - 1)) value) (now (rec .entry)) ⌝ }
+{
+    fields::write_digits(&mut rec[first - 1..last], value);
+}

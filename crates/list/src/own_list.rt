@@ -1,0 +1,121 @@
+// Reading a flow back to its list.
+ghost use Prim.Native.Nat.{_+_, _≤_};
+ghost use mathlib.Core.Path.{_≡_};
+ghost use lib.ListN.{length};
+ghost use Rattle.sequences.specs.Part.{put};
+ghost use Rattle.list.specs.Items.{listBytes};
+ghost use Rattle.list.specs.Output.{outputOf};
+ghost use Rattle.list.specs.ReadBack.{gather, itemOf, itemLength, listOf, readBack};
+ghost use Rattle.list.specs.Table.{bodyLength, kindIn};
+ghost use Rattle.list.specs.Table.{carried as Table·carried};
+use crate::count::number;
+use crate::filled::Filled;
+use crate::table::body_length;
+use crate::table::carried;
+use crate::table::kind_in;
+use crate::table::letter;
+use crate::table::width;
+use crate::writer::NO_ROOM;
+use flow::Answer;
+use records::Kind;
+use records::field;
+
+// Writes the flow's list at the front of out, and answers the flow's three numbers and the list's
+// length. What the reader refuses is refused by its three numbers, and then an out that is too short by
+// 21.
+pub fn read_back(flow: &[u8], out: &mut [u8]) -> Filled
+    ensures { λ r. ⌜ outputOf r (now (out .exit)) ≡ readBack (now (flow .entry)) (now (out .entry)) ⌝ }
+{
+    match flow::read(flow) {
+        Answer::Refused {
+            number,
+            record,
+            position,
+        } => Filled::refused(number, record, position),
+        Answer::Accepted {
+            dispositions,
+            cents,
+            records,
+        } => {
+            let length = list_length(flow);
+            if out.len() < length {
+                return Filled::refused(NO_ROOM, 0, 0);
+            }
+            store_list(flow, out);
+            Filled::accepted(dispositions, cents, records, number(length))
+        }
+    }
+}
+
+// The length of the flow's list.
+fn list_length(flow: &[u8]) -> usize
+    requires { ⌜ length (now flow) ≤ 1199999880 ⌝ }
+    ensures { λ r. ⌜ r ≡ length (listOf (now (flow .entry))) ⌝ }
+{
+    let mut length = 0;
+    let mut i = 0;
+    while i < flow.len() / 120 {
+        length += item_length(kind_in(&flow[120 * i..120 * i + 120]));
+        i += 1;
+    }
+    length
+}
+
+// The length of the item of a record of the kind: EF has none.
+fn item_length(kind: Kind) -> usize
+    ensures { λ r. ⌜ r ≡ itemLength kind ⌝ }
+{
+    if records::closes(kind) {
+        return 0;
+    }
+    1 + body_length(kind)
+}
+
+// Each record's item in turn at the front of out.
+fn store_list(flow: &[u8], out: &mut [u8])
+    requires { ⌜ length (listOf (now flow)) ≤ length (now out) ⌝ }
+    ensures { λ _. ⌜ now (out .exit) ≡ put 0 (listOf (now (flow .entry))) (now (out .entry)) ⌝ }
+{
+    let mut at = 0;
+    let mut i = 0;
+    while i < flow.len() / 120 {
+        at = store_item(&flow[120 * i..120 * i + 120], out, at);
+        i += 1;
+    }
+}
+
+// The item of a record at an index of out, and where it ends: EF has none.
+fn store_item(rec: &[u8], out: &mut [u8], at: usize) -> usize
+    requires { ⌜ length (now rec) ≡ 120 ⌝ }
+    requires { ⌜ at + itemLength (kindIn (now rec)) ≤ length (now out) ⌝ }
+    ensures { λ r. ⌜ r ≡ at + itemLength (kindIn (now (rec .entry))) ⌝ }
+    ensures { λ _. ⌜ now (out .exit) ≡ put at (listBytes (itemOf (now (rec .entry)))) (now (out .entry)) ⌝ }
+{
+    let kind = kind_in(rec);
+    if records::closes(kind) {
+        return at;
+    }
+    out[at] = letter(kind);
+    let end = at + 1 + body_length(kind);
+    store_body(rec, kind, &mut out[at + 1..end]);
+    end
+}
+
+// The carried bytes of a record, in order.
+fn store_body(rec: &[u8], kind: Kind, out: &mut [u8])
+    requires { ⌜ length (now rec) ≡ 120 ⌝ }
+    requires { ⌜ length (now out) ≡ bodyLength kind ⌝ }
+    ensures { λ _. ⌜ now (out .exit) ≡ gather (Table·carried kind) (now (rec .entry)) ⌝ }
+{
+    let spans = carried(kind);
+    let mut from = 0;
+    let mut i = 0;
+    while i < 4 {
+        let first = spans[2 * i];
+        let last = spans[2 * i + 1];
+        let n = width(first, last);
+        bytes::copy(field(rec, first, last), &mut out[from..from + n]);
+        from += n;
+        i += 1;
+    }
+}

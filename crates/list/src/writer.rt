@@ -1,0 +1,235 @@
+// Writing a list out as a flow.
+ghost use Prim.Native.Nat.{suc, _+_, _*_, _≤_, _<_};
+ghost use mathlib.Core.Bool.{cond};
+ghost use mathlib.Core.List.{[], flatten};
+ghost use mathlib.Core.Path.{_≡_};
+ghost use lib.ListN.{length, take};
+ghost use Rattle.sequences.specs.Part.{put};
+ghost use Rattle.records.specs.Context.{headed};
+ghost use Rattle.records.specs.Kinds.{heads};
+ghost use Rattle.flow.specs.Judge.{go};
+ghost use Rattle.flow.specs.Steps.{start, opened};
+ghost use Rattle.flow.specs.Verdict.{verdict};
+ghost use Rattle.list.specs.Encode.{dispositionsOf, centsOf, recordsFor, encode};
+ghost use Rattle.list.specs.Items.{itemsIn, Listed};
+ghost use Rattle.list.specs.Output.{outputOf};
+ghost use Rattle.list.specs.Write.{closed, judgeItems};
+ghost use Rattle.list.specs.Write.{write as Write·write};
+use crate::count::Count;
+use crate::count::count_items;
+use crate::count::number;
+use crate::encode::encode_item;
+use crate::encode::encode_trailer;
+use crate::encode::place;
+use crate::filled::Filled;
+use crate::table::body_length;
+use crate::table::kind_of;
+use flow::Answer;
+use flow::Walk;
+use records::Judged;
+use records::Kind;
+use records::WRONG_LENGTH;
+use records::field;
+
+// The most items of a list: a flow has 9,999,999 records at the most, and one of them is EF.
+const MOST: usize = 9999998;
+
+// The most cents of a flow: the trailer's fifteen digits.
+const MOST_CENTS: u64 = 999999999999999;
+
+// Document 01, "Numbers a clerk may see".
+const WRONG_TYPE: u64 = 3;
+
+const TOTAL_TOO_LARGE: u64 = 17;
+
+const NO_ITEM: u64 = 20;
+
+pub(crate) const NO_ROOM: u64 = 21;
+
+// Writes the flow that the list encodes at the front of out, and answers its three numbers and its
+// length. Refused, in this order: 20, an item that is none; 1, too many items; 21, out is too short;
+// what the reader refuses of the records, or 3 where EF may not follow them; 17, a total of more than
+// fifteen digits. All of this is judged before a byte of out is written.
+pub fn write(list: &[u8], out: &mut [u8]) -> Filled
+    ensures { λ r. ⌜ outputOf r (now (out .exit)) ≡ Write·write (now (list .entry)) (now (out .entry)) ⌝ }
+{
+    match count_items(list) {
+        Count::Faulty(n) => Filled::refused(NO_ITEM, n, 0),
+        Count::Items(items) => {
+            if MOST < items {
+                return Filled::refused(WRONG_LENGTH, 0, 0);
+            }
+            if out.len() < 120 * (items + 1) {
+                return Filled::refused(NO_ROOM, 0, 0);
+            }
+            match judge_items(list) {
+                Answer::Refused {
+                    number,
+                    record,
+                    position,
+                } => Filled::refused(number, record, position),
+                Answer::Accepted {
+                    dispositions,
+                    cents,
+                    records,
+                } => {
+                    store_items(list, out, dispositions, cents);
+                    Filled::accepted(dispositions, cents, records, 120 * records)
+                }
+            }
+        }
+    }
+}
+
+// The answer to the records that the list encodes.
+fn judge_items(list: &[u8]) -> Answer
+    requires { ⌜ Listed (now list) ⌝ }
+    ensures { λ r. ⌜ verdict r ≡ judgeItems (itemsIn (now (list .entry))) ⌝ }
+{
+    if list.len() == 0 {
+        return close(Walk::start(), 0);
+    }
+    let header = first_record(list);
+    judge_records(
+        list,
+        field(&header, 4, 8),
+        field(&header, 9, 13),
+        field(&header, 14, 19),
+        field(&header, 20, 39),
+        field(&header, 114, 114),
+    )
+}
+
+// The record of the first item.
+fn first_record(list: &[u8]) -> [u8; 120]
+    requires { ⌜ Listed (now list) ⌝ }
+    requires { ⌜ 0 < length (now list) ⌝ }
+    ensures { λ r. ⌜ r ≡ take 120 (flatten (recordsFor (itemsIn (now (list .entry))))) ⌝ }
+{
+    let kind = kind_of(list[0]);
+    let body = &list[1..1 + body_length(kind)];
+    encode_item(kind, counted(0, kind), &list[0..0], body)
+}
+
+// Each record in turn, built and judged, with the header's fields.
+fn judge_records(
+    list: &[u8],
+    mittente: &[u8],
+    abi: &[u8],
+    date: &[u8],
+    name: &[u8],
+    currency: &[u8],
+) -> Answer
+    requires { ⌜ Listed (now list) ⌝ }
+    ensures { λ r. ⌜ verdict r ≡ go closed
+        (headed (now (mittente .entry)) (now (abi .entry)) (now (date .entry)) (now (name .entry)) (now (currency .entry)))
+        start [] 0 (recordsFor (itemsIn (now (list .entry)))) ⌝ }
+{
+    let mut walk = Walk::start();
+    let mut company = &list[0..0];
+    let mut header = &list[0..0];
+    let mut dispositions: u64 = 0;
+    let mut n: u64 = 0;
+    let mut at = 0;
+    while at < list.len() {
+        let kind = kind_of(list[at]);
+        let end = at + 1 + body_length(kind);
+        let body = &list[at + 1..end];
+        dispositions = counted(dispositions, kind);
+        let rec = encode_item(kind, dispositions, header, body);
+        n += 1;
+        match walk.judge(&rec, n, mittente, abi, date, name, currency, company) {
+            Judged::Refused(number, position) => {
+                return Answer::Refused {
+                    number,
+                    record: n,
+                    position,
+                };
+            }
+            Judged::Right(right) => {
+                let latest = flow::latest_company(company, field(body, 37, 41), kind);
+                company = latest;
+                walk = walk.next(right);
+            }
+        }
+        let meant = header_behind(header, body, kind);
+        header = meant;
+        at = end;
+    }
+    close(walk, n)
+}
+
+// The dispositions up to and with an item of the kind.
+fn counted(dispositions: u64, kind: Kind) -> u64
+    requires { ⌜ dispositions < 10000000 ⌝ }
+    ensures { λ r. ⌜ r ≡ dispositions + opened kind ⌝ }
+{
+    if records::opens(kind) {
+        return dispositions + 1;
+    }
+    dispositions
+}
+
+// The body of the latest H behind an item.
+fn header_behind<'a>(header: &'a [u8], body: &'a [u8], kind: Kind) -> &'a [u8]
+    ensures { λ r. ⌜ now r ≡ cond (heads kind) (now (body .entry)) (now (header .entry)) ⌝ }
+{
+    if records::heads(kind) {
+        return body;
+    }
+    header
+}
+
+// The answer behind the last of n records, where EF is due.
+fn close(walk: Walk, n: u64) -> Answer
+    requires { ⌜ n ≤ 9999998 ⌝ }
+    ensures { λ r. ⌜ verdict r ≡ closed walk n ⌝ }
+{
+    if !walk.may_close() {
+        return Answer::Refused {
+            number: WRONG_TYPE,
+            record: n + 1,
+            position: 2,
+        };
+    }
+    if MOST_CENTS < walk.cents {
+        return Answer::Refused {
+            number: TOTAL_TOO_LARGE,
+            record: 0,
+            position: 0,
+        };
+    }
+    Answer::Accepted {
+        dispositions: walk.dispositions,
+        cents: walk.cents,
+        records: n + 1,
+    }
+}
+
+// Each record, and then EF with the counts, at the front of out.
+fn store_items(list: &[u8], out: &mut [u8], dispositions: u64, cents: u64)
+    requires { ⌜ Listed (now list) ⌝ }
+    requires { ⌜ 120 * suc (length (itemsIn (now list))) ≤ length (now out) ⌝ }
+    requires { ⌜ dispositions ≡ dispositionsOf (itemsIn (now list)) ⌝ }
+    requires { ⌜ cents ≡ centsOf (itemsIn (now list)) ⌝ }
+    ensures { λ _. ⌜ now (out .exit) ≡ put 0 (encode (itemsIn (now (list .entry)))) (now (out .entry)) ⌝ }
+{
+    let mut header = &list[0..0];
+    let mut n: u64 = 0;
+    let mut i = 0;
+    let mut at = 0;
+    while at < list.len() {
+        let kind = kind_of(list[at]);
+        let end = at + 1 + body_length(kind);
+        let body = &list[at + 1..end];
+        n = counted(n, kind);
+        let rec = encode_item(kind, n, header, body);
+        place(out, 120 * i + 1, &rec);
+        let meant = header_behind(header, body, kind);
+        header = meant;
+        i += 1;
+        at = end;
+    }
+    let trailer = encode_trailer(header, dispositions, cents, number(i + 1));
+    place(out, 120 * i + 1, &trailer);
+}

@@ -1,0 +1,33 @@
+-- What holds of each of the eleven kinds. Assumes nothing.
+use Prim.Native.Nat.{ℕ}
+use mathlib.Core.Bool.{Bool, true, false, not, _||_}
+use mathlib.Core.List.{List, [], _∷_}
+use mathlib.Core.Path.{_≡_}
+use denote.Enum.Declared.{tagOf}
+use mir.Val.{hasKey}
+use types.Run.{OneOf}
+use Rattle.sequences.specs.All.{All}
+use Rattle.sequences.proofs.Tags.{fails-listed}
+use Rattle.records.specs.declared.kind.Kind.{Kind}
+use Rattle.records.specs.declared.kind.Kind.the-variants.{Im, R14, R16, R20, R30, R40, R50, R59, R51, R70, Ef}
+use Rattle.records.proofs.kind.Kind.{the-type}
+
+abbrev pub kinds : List Kind
+kinds = Im ∷ R14 ∷ R16 ∷ R20 ∷ R30 ∷ R40 ∷ R50 ∷ R59 ∷ R51 ∷ R70 ∷ Ef ∷ []
+
+pub each-kind : (P : Kind → Type 0) → All P kinds → (k : Kind) → P k
+each-kind P all Im = all .0
+each-kind P all R14 = all .1 .0
+each-kind P all R16 = all .1 .1 .0
+each-kind P all R20 = all .1 .1 .1 .0
+each-kind P all R30 = all .1 .1 .1 .1 .0
+each-kind P all R40 = all .1 .1 .1 .1 .1 .0
+each-kind P all R50 = all .1 .1 .1 .1 .1 .1 .0
+each-kind P all R59 = all .1 .1 .1 .1 .1 .1 .1 .0
+each-kind P all R51 = all .1 .1 .1 .1 .1 .1 .1 .1 .0
+each-kind P all R70 = all .1 .1 .1 .1 .1 .1 .1 .1 .1 .0
+each-kind P all Ef = all .1 .1 .1 .1 .1 .1 .1 .1 .1 .1 .0
+
+-- a test that fails at each kind whose tag is listed
+pub fails-at : (t : Kind → Bool) (tags : List ℕ) → All (λ (k : Kind). (not (t k) || not (hasKey tags (tagOf the-type k))) ≡ true) kinds → (k : Kind) → OneOf tags (tagOf the-type k) → false ≡ t k
+fails-at t tags all k listed = fails-listed tags (tagOf the-type k) (t k) (each-kind (λ (k : Kind). (not (t k) || not (hasKey tags (tagOf the-type k))) ≡ true) all k) listed
