@@ -1,5 +1,4 @@
 // The line that each line of the vectors is answered by.
-use crate::escape;
 use crate::location;
 use libc::STDOUT_FILENO;
 use printing::line_feed;
@@ -44,7 +43,7 @@ fn name(line: &[u8]) {
 fn judged(text: &[u8], space: &mut [u8]) -> usize
     ensures { λ r. ⌜ r ≤ length (now (space .exit)) ⌝ }
 {
-    let n = escape::decode(text, space);
+    let n = vector_lines::unescape(text, space);
     report::print_answer(flow::read(&space[0..n]));
     n
 }

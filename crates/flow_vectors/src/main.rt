@@ -1,7 +1,6 @@
 // Runs the reader and the question where a disposition is over the vectors on standard input, and
 // writes a line for each line. The vectors and the lines due are written by the second program
 // (`oracle vectors flow`, which says the format).
-mod escape;
 mod line;
 mod location;
 

@@ -1,13 +1,19 @@
-// The line that answers a flow, for the programs.
+// The line that answers a flow or a list, for the programs.
 //
 // No public function has a `requires`. What is written is tested, not proved.
 use flow::Answer;
 use printing::labelled;
 use printing::line_feed;
 
-// Writes the answer's line to standard output, as `accepted dispositions 2 cents 83050 records 16` or
-// `refused 9 record 10 position 4`, and its line feed. A write that fails is not told.
+// Writes the answer's line to standard output, as `print_text` has it, and its line feed.
 pub fn print_answer(answer: Answer) {
+    print_text(answer);
+    line_feed();
+}
+
+// Writes the answer to standard output, as `accepted dispositions 2 cents 83050 records 16` or
+// `refused 9 record 10 position 4` with no line feed. A write that fails is not told.
+pub fn print_text(answer: Answer) {
     match answer {
         Answer::Accepted {
             dispositions,
@@ -24,7 +30,6 @@ pub fn print_answer(answer: Answer) {
             position,
         } => print_refusal(number, record, position),
     }
-    line_feed();
 }
 
 // Writes a refusal to standard output, as `refused 9 record 10 position 4` with no line feed. A write

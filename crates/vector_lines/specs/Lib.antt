@@ -1,2 +1,3 @@
+pub mod Escapes
 pub mod Lines
 pub mod Numbers

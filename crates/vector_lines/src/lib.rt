@@ -1,6 +1,10 @@
-// Lines, hexadecimal digits and decimal numbers of the vector files, for the programs that run them.
+// Lines, escaped bytes, hexadecimal digits and decimal numbers of the vector files, for the programs
+// that run them.
 //
-// No public function has a `requires`, and none changes a byte.
+// No public function has a `requires`. The one that changes lent bytes, `unescape`, says each of them.
+mod escape;
+
+pub use escape::unescape;
 ghost use Prim.Native.Nat.{_+_, _*_, _≤_, min};
 ghost use mathlib.Core.Path.{_≡_};
 ghost use lib.ListN.{length};

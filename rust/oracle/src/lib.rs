@@ -17,6 +17,7 @@ pub mod find_cases;
 pub mod generate;
 pub mod ledger;
 pub mod list;
+pub mod list_cases;
 pub mod program;
 pub mod reader;
 pub mod reader_cases;

@@ -11,7 +11,7 @@ use oracle::{program, samples, tally, vectors};
 
 const USAGE: &str = "usage: oracle judge < FLOW, oracle sample DIR, \
     oracle vectors fields INPUT OUTPUT, oracle vectors flow INPUT OUTPUT, \
-    oracle vectors flows SEED COUNT DIR, \
+    oracle vectors list INPUT OUTPUT, oracle vectors flows SEED COUNT DIR, \
     or oracle tally SEED COUNT.";
 
 fn main() -> ExitCode {
@@ -41,7 +41,10 @@ fn run(args: &[OsString]) -> io::Result<bool> {
             vectors::write_fields(Path::new(input), Path::new(output))?;
         }
         [vectors, flow, input, output] if vectors == "vectors" && flow == "flow" => {
-            vectors::write_flow(Path::new(input), Path::new(output))?;
+            vectors::write_flow_rules(Path::new(input), Path::new(output))?;
+        }
+        [vectors, list, input, output] if vectors == "vectors" && list == "list" => {
+            vectors::write_lists(Path::new(input), Path::new(output))?;
         }
         [vectors, flows, seed, count, dir] if vectors == "vectors" && flows == "flows" => {
             let (Some(seed), Some(count)) = (number(seed), number(count)) else {

@@ -28,6 +28,34 @@
 //! the part and of its last record: type and number, which tell a part that
 //! begins or ends at another record.
 //!
+//! Request lists (`oracle vectors list IN OUT`): OUT has as many lines as IN.
+//!
+//! | line of IN | the same line of OUT |
+//! |---|---|
+//! | `# two rents`, the name of the case whose bytes come next | as it is |
+//! | `=` and the bytes of one list or flow, as above | `bytes` and how many they are |
+//! | `>` and a room in decimal | the latest bytes as a list, written to an output of that room |
+//! | `<` and a room in decimal | the latest bytes as a flow, read back to an output of that room |
+//! | `><` | the list written, and the flow read back |
+//! | `<>` | the flow read back, and its list written |
+//!
+//! Before a call with a room the output, and 64 bytes behind it, hold the byte
+//! 128 + i % 101 at index i from 0. Its line is
+//! `accepted dispositions 2 cents 83050 records 16 length 1920 kept 64 " IMAB123.."`:
+//! the answer; the length returned; how many bytes of the output behind that
+//! length, and of the 64, are all as before; and the bytes written, in quotes and
+//! escaped as above. Where one has changed, `changed at 1925` stands for `kept 64`
+//! and gives the first one's index. Of a refused call, as
+//! `refused 21 record 0 position 0 length 0 kept 1983`, all of the output
+//! counts. More than 16,384 bytes written are given as `adler 1234567`, their
+//! Adler-32 checksum, and the last 120 of them in quotes.
+//!
+//! A round trip has an output of 131,072 bytes each way, marked likewise. Its line is
+//! `there 1236 back 1920 same`, the two lengths returned, or
+//! `there 1236 back 1920 differs at 226`, with the first index at which the bytes
+//! that came back are not those of the case; or the first refusal of the two,
+//! `refused 9 record 10 position 4`.
+//!
 //! Generated flows (`oracle vectors flows SEED COUNT DIR`): a file for each
 //! flow, and `expected` with the small program's line for each.
 
@@ -37,22 +65,30 @@ use std::{fs, io};
 
 use crate::answer::Answer;
 use crate::find::find;
+use crate::list::{write_flow, write_list};
+use crate::list_cases::Asked;
 use crate::reader::read;
 use crate::record::RECORD_LEN;
-use crate::{fields, find_cases, generate, program, reader_cases};
+use crate::{fields, find_cases, generate, list_cases, program, reader_cases};
 
 /// Writes the input and the output file of the field rules.
 pub fn write_fields(input: &Path, output: &Path) -> io::Result<()> {
-    let (cases, answers) = field_files();
-    fs::write(input, cases)?;
-    fs::write(output, answers)
+    write_both(field_files(), input, output)
 }
 
 /// Writes the input and the output file of the flow rules.
-pub fn write_flow(input: &Path, output: &Path) -> io::Result<()> {
-    let (cases, answers) = flow_files();
-    fs::write(input, cases)?;
-    fs::write(output, answers)
+pub fn write_flow_rules(input: &Path, output: &Path) -> io::Result<()> {
+    write_both(flow_files(), input, output)
+}
+
+/// Writes the input and the output file of request lists.
+pub fn write_lists(input: &Path, output: &Path) -> io::Result<()> {
+    write_both(list_files(), input, output)
+}
+
+fn write_both(files: (String, String), input: &Path, output: &Path) -> io::Result<()> {
+    fs::write(input, files.0)?;
+    fs::write(output, files.1)
 }
 
 /// The input and the output file of the flow rules.
@@ -83,6 +119,99 @@ pub fn find_files() -> (String, String) {
         }
     }
     (input, output)
+}
+
+/// The cases of request lists and their answers.
+pub fn list_files() -> (String, String) {
+    let (mut input, mut output) = (String::new(), String::new());
+    for list_cases::Case { name, bytes, asked } in list_cases::cases() {
+        let _ = writeln!(input, "# {name}\n={}", escaped(&bytes));
+        let _ = writeln!(output, "# {name}\nbytes {}", bytes.len());
+        for asked in asked {
+            let (question, answer) = match asked {
+                Asked::Write(room) => (format!(">{room}"), filled_line(write_flow, &bytes, room)),
+                Asked::ReadBack(room) => {
+                    (format!("<{room}"), filled_line(write_list, &bytes, room))
+                }
+                Asked::WriteAndBack => ("><".into(), trip_line(write_flow, write_list, &bytes)),
+                Asked::BackAndWrite => ("<>".into(), trip_line(write_list, write_flow, &bytes)),
+            };
+            let _ = writeln!(input, "{question}");
+            let _ = writeln!(output, "{answer}");
+        }
+    }
+    (input, output)
+}
+
+/// A call that fills an output: writing a list or reading a flow back.
+type Fill = fn(&[u8], &mut [u8]) -> (Answer, usize);
+
+/// How many bytes behind the room are looked at too.
+const BEHIND: usize = 64;
+/// Above this length the checksum and the last record stand for the bytes.
+const SHOWN: usize = 16_384;
+/// The room of each output of a round trip.
+const TRIP_ROOM: usize = 131_072;
+
+/// The byte at an index of an output before a call: none of a list or a flow.
+fn marker(index: usize) -> u8 {
+    128 + (index % 101) as u8
+}
+
+/// The line of a call with an output of this room.
+fn filled_line(fill: Fill, bytes: &[u8], room: usize) -> String {
+    let mut out: Vec<u8> = (0..room + BEHIND).map(marker).collect();
+    let (answer, len) = fill(bytes, &mut out[..room]);
+    let mut line = format!("{answer} length {len} ");
+    let changed = (len..out.len()).find(|&index| out[index] != marker(index));
+    let _ = match changed {
+        Some(index) => write!(line, "changed at {index}"),
+        None => write!(line, "kept {}", out.len() - len),
+    };
+    let written = &out[..len];
+    if len > SHOWN {
+        let _ = write!(line, " adler {}", adler(written));
+    }
+    if len > 0 {
+        let shown = if len > SHOWN {
+            &written[len - RECORD_LEN..]
+        } else {
+            written
+        };
+        let _ = write!(line, " \"{}\"", escaped(shown));
+    }
+    line
+}
+
+/// The Adler-32 checksum.
+fn adler(bytes: &[u8]) -> u32 {
+    let (mut low, mut high) = (1, 0);
+    for &byte in bytes {
+        low = (low + u32::from(byte)) % 65_521;
+        high = (high + low) % 65_521;
+    }
+    high << 16 | low
+}
+
+/// The line of one call and of the other on what the first has written.
+fn trip_line(there: Fill, back: Fill, bytes: &[u8]) -> String {
+    let mut between: Vec<u8> = (0..TRIP_ROOM).map(marker).collect();
+    let mut out = between.clone();
+    let (answer, len) = there(bytes, &mut between);
+    if let Answer::Refused { .. } = answer {
+        return answer.to_string();
+    }
+    let (answer, again) = back(&between[..len], &mut out);
+    if let Answer::Refused { .. } = answer {
+        return answer.to_string();
+    }
+    let lengths = format!("there {len} back {again}");
+    if out[..again] == *bytes {
+        return format!("{lengths} same");
+    }
+    let pairs = bytes.iter().zip(&out[..again]);
+    let equal = pairs.take_while(|(one, other)| one == other).count();
+    format!("{lengths} differs at {equal}")
 }
 
 /// The line of where disposition `k` is.

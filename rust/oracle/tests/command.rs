@@ -66,6 +66,7 @@ fn bad_usage_is_one_sentence_and_status_2() {
         &["vectors"],
         &["vectors", "fields", "a"],
         &["vectors", "flow", "a"],
+        &["vectors", "list", "a"],
         &["vectors", "flows", "one", "2", "dir"],
         &["tally", "1"],
         &["tally", "1", "-5"],
@@ -101,16 +102,20 @@ fn samples_are_written() {
 }
 
 #[test]
-fn vectors_of_the_flow_rules_are_written() {
-    let dir = scratch("flow");
-    fs::create_dir_all(&dir).unwrap();
-    let (input, output) = (dir.join("in"), dir.join("out"));
-    let paths = [&input, &output].map(|path| path.to_str().unwrap());
-    let run = oracle(&["vectors", "flow", paths[0], paths[1]], b"");
-    assert!(run.status.success());
-    let (input_due, output_due) = vectors::flow_files();
-    assert_eq!(fs::read_to_string(input).unwrap(), input_due);
-    assert_eq!(fs::read_to_string(output).unwrap(), output_due);
+fn vectors_of_the_rules_are_written() {
+    for (rules, due) in [
+        ("flow", vectors::flow_files()),
+        ("list", vectors::list_files()),
+    ] {
+        let dir = scratch(rules);
+        fs::create_dir_all(&dir).unwrap();
+        let (input, output) = (dir.join("in"), dir.join("out"));
+        let paths = [&input, &output].map(|path| path.to_str().unwrap());
+        let run = oracle(&["vectors", rules, paths[0], paths[1]], b"");
+        assert!(run.status.success());
+        assert_eq!(fs::read_to_string(input).unwrap(), due.0);
+        assert_eq!(fs::read_to_string(output).unwrap(), due.1);
+    }
 }
 
 #[test]

@@ -1,26 +1,32 @@
--- `flow_vectors::escape::decode` meets its contract. Assumes nothing.
-use Prim.Native.Nat.{_-_, _≤_}
-use mathlib.Core.Path.{_≡_}
+-- `vector_lines::unescape` meets its contract, by the laws of `Decoding`. Assumes nothing.
+use Prim.Native.Nat.{_-_}
+use mathlib.Core.Path.{_≡_, sym, ap, _∙_}
 use native.Mathlib.Omega.{arith}
 use lib.ListN.{length, length-set}
+use lib.Seq.{length-take-le}
 use borrow.Author.Needs.{needs}
-use Rattle.flow_vectors.proofs.escape.decode.Statement.{statement}
-use Rattle.flow_vectors.proofs.escape.decode.Tie as tie
+use Rattle.vector_lines.specs.Escapes.{escapedByte, escapeWidth}
+use Rattle.vector_lines.proofs.Escapes.{Decoding, decoding-begins, decoding-next, decoding-ends, decoding-full, decoding-put, lent-rest}
+use Rattle.vector_lines.proofs.escape.unescape.Statement.{statement}
+use Rattle.vector_lines.proofs.escape.unescape.Tie as tie
 
 abbrev Inv-loop : tie.InvT-loop
-Inv-loop text out₀ at₀ n₀ out at n = (at ≤ length text) × (n ≤ length out) × (length out ≡ length out₀)
+Inv-loop text out₀ at₀ n₀ out at n = Decoding text out₀ out at n
 
 abbrev μ-loop : tie.MeasureT-loop
 μ-loop text out₀ at₀ n₀ out at n = length text - at
 
 loop-holds : tie.Need-loop-holds Inv-loop μ-loop
-loop-holds c = search needs
+loop-holds c = decoding-begins
 
 same-length : tie.Need-same-length Inv-loop μ-loop
 same-length c = search needs
 
 returns : tie.Need-returns Inv-loop μ-loop
-returns c = search needs
+returns c =
+    let loop = c .before .before .loop in
+    let all = decoding-full (loop .inv) (c .if1 .taken) in
+    (decoding-put (loop .inv) all, (sym (length-take-le _ _ (loop .inv .fits)) ∙ ap length all, loop .inv .fits))
 
 sub-rest : tie.Need-sub-rest Inv-loop μ-loop
 sub-rest c = search needs
@@ -50,16 +56,29 @@ loop-less : tie.Need-loop-less Inv-loop μ-loop
 loop-less c = search needs
 
 loop-again : tie.Need-loop-again Inv-loop μ-loop
-loop-again c = simp length-set (omega arith)
+loop-again c =
+    let turn = c .before .before .before in
+    let loop = turn .before .before .loop in
+    let rest = lent-rest (turn .before .before .before .before .before .args .text .now) (loop .at) in
+    decoding-next
+    (loop .inv)
+    (turn .before .loop-test .taken)
+    (search needs)
+    (c .before .first .ensures ∙ ap escapedByte rest)
+    (c .width .ensures .0 ∙ ap escapeWidth rest)
+    (search needs)
 
 same-length-2 : tie.Need-same-length-2 Inv-loop μ-loop
 same-length-2 c = search needs
 
 returns-2 : tie.Need-returns-2 Inv-loop μ-loop
-returns-2 c = search needs
+returns-2 c =
+    let loop = c .before .loop in
+    let all = decoding-ends (loop .inv) (c .loop-test .left) in
+    (decoding-put (loop .inv) all, (sym (length-take-le _ _ (loop .inv .fits)) ∙ ap length all, loop .inv .fits))
 
-pub decode-spec : {M : Type 1} → statement M
-decode-spec =
+pub unescape-spec : {M : Type 1} → statement M
+unescape-spec =
     tie.close
     (tie.spec
     Inv-loop

@@ -1,0 +1,815 @@
+//! Named cases for request lists (document 01, "Our request list"): a list to
+//! be written or a flow to be read back, and the room of each output.
+//!
+//! A list is set down by the kinds of its items, each of them right
+//! (`List::of`), and by the bytes then put into their bodies, by the position
+//! that they have in the record. The lengths of the bodies and the carried
+//! positions are written here a second time, so that the cases stand beside
+//! what writes and reads lists and do not follow it.
+
+use crate::damage::checked;
+use crate::fields::MAX_AMOUNT;
+use crate::reader_cases::{Change, Flow, AND_14, EVERY, ONE, TWO};
+use crate::record::{field, field_mut, record_type, Record, BLANK_RECORD, RECORD_LEN};
+
+/// A list or a flow, and what is asked of it.
+#[derive(Clone, Debug, Eq, PartialEq)]
+pub struct Case {
+    pub name: String,
+    pub bytes: Vec<u8>,
+    pub asked: Vec<Asked>,
+}
+
+/// What is asked of the bytes of a case.
+#[derive(Clone, Copy, Debug, Eq, PartialEq)]
+pub enum Asked {
+    /// The list written to an output of this room.
+    Write(usize),
+    /// The flow read back to an output of this room.
+    ReadBack(usize),
+    /// The list written, and the flow read back.
+    WriteAndBack,
+    /// The flow read back, and its list written.
+    BackAndWrite,
+}
+
+use Asked::{BackAndWrite, ReadBack, Write, WriteAndBack};
+
+/// All cases.
+pub fn cases() -> Vec<Case> {
+    let mut cases = Cases(Vec::new());
+    cases.two_rents();
+    cases.carried();
+    cases.empty();
+    cases.unknown_kinds();
+    cases.cut();
+    cases.items_first();
+    cases.room_first();
+    cases.orders();
+    cases.misplaced();
+    cases.values();
+    cases.bytes_outside();
+    cases.changes();
+    cases.many();
+    cases.limit();
+    cases.back();
+    cases.back_refused();
+    cases.back_carried();
+    cases.unclean();
+    cases.clean();
+    cases.0
+}
+
+/// The items of one disposition behind H, in 7 and in 8 items.
+const RENT: &str = "D C B A R K Z";
+const RENT_X: &str = "D S C B A X K Z";
+/// One disposition: 9 records.
+const ONE_RENT: &str = "H D C B A R K Z";
+/// One disposition with S and X: 10 records.
+const FULL: &str = "H D S C B A X K Z";
+/// Two dispositions: 16 records.
+const TWO_RENTS: &str = "H D C B A R K Z D C B A R K Z";
+
+/// The items of a list, each a kind byte and its body.
+#[derive(Clone)]
+struct List(Vec<Vec<u8>>);
+
+impl List {
+    /// Items of these kinds. The rents of document 01's example come in turn.
+    fn of(kinds: &str) -> List {
+        let mut list = List(Vec::new());
+        let mut rents = 0;
+        for kind in kinds.split_whitespace() {
+            rents += usize::from(kind == "D");
+            list.0.push(item(kind.as_bytes()[0], rents));
+        }
+        list
+    }
+
+    /// The list with bytes put into an item at a position of its record.
+    fn with(mut self, item: usize, position: usize, bytes: &[u8]) -> List {
+        let item = &mut self.0[item - 1];
+        let at = 1 + offset(item[0], position);
+        item[at..at + bytes.len()].copy_from_slice(bytes);
+        self
+    }
+
+    fn with_all(self, changes: &[Change]) -> List {
+        changes.iter().fold(self, |list, &(item, position, bytes)| {
+            list.with(item, position, bytes)
+        })
+    }
+
+    /// The list with other bodies for the items of one kind.
+    fn with_bodies(mut self, kind: u8, mut body: impl FnMut(usize) -> Vec<u8>) -> List {
+        for (index, item) in self.0.iter_mut().filter(|i| i[0] == kind).enumerate() {
+            item.truncate(1);
+            item.extend(body(index));
+        }
+        self
+    }
+
+    fn bytes(&self) -> Vec<u8> {
+        self.0.concat()
+    }
+
+    /// The room that its flow needs.
+    fn room(&self) -> usize {
+        RECORD_LEN * (self.0.len() + 1)
+    }
+}
+
+/// Where a carried position stands in the body of its item.
+fn offset(kind: u8, position: usize) -> usize {
+    match (kind, position) {
+        (b'H', 4..=45) => position - 4,
+        (b'H', 105..=111) => 42 + position - 105,
+        (b'D', 23..=28) => position - 23,
+        (b'D', 34..=46) => 6 + position - 34,
+        (b'D', 53..=69) => 19 + position - 53,
+        (b'D', 92..=113) => 36 + position - 92,
+        (b'Z', 94) => 0,
+        (b'Z', 96..=120) => 1 + position - 96,
+        (b'S' | b'C' | b'B' | b'A' | b'R' | b'X' | b'K', 11..) => position - 11,
+        _ => panic!("position {position} is not carried"),
+    }
+}
+
+/// Tenants of document 01's example: amount, customer, name, tax code, room
+/// and reference.
+const TENANTS: [[&str; 6]; 2] = [
+    [
+        "0000000038050",
+        "S0023",
+        "BIANCHI MARCO",
+        "BNCMRC04P12F205Y",
+        "STANZA 23",
+        "0000000023",
+    ],
+    [
+        "0000000045000",
+        "S0017",
+        "ROSSI GIULIA",
+        "RSSGLI05A41F205X",
+        "STANZA 17",
+        "0000000017",
+    ],
+];
+
+/// A right item of this kind in the rent of this number.
+fn item(kind: u8, rent: usize) -> Vec<u8> {
+    let [cents, customer, name, tax_code, room, reference] = TENANTS[rent % 2];
+    let body = match kind {
+        b'H' => format!("AB12301234150326{:33}", "RENT-MARCH"),
+        b'D' => format!("310326{cents}02400000000123456AB1232{customer:16}"),
+        b'S' => String::from("IT60X0123402400000000123456"),
+        b'C' => format!(
+            "{:24}{:24}{:48}",
+            "RESIDENZA SAN MARTINO", "VIA DEI COLLEGI 12", "20100 MILANO MI"
+        ),
+        b'B' => format!("{name:60}{tax_code}"),
+        b'A' => format!(
+            "{:30}20100{:25}{room:50}",
+            "VIA DEI COLLEGI 12", "MILANO MI"
+        ),
+        b'R' | b'X' => format!("{:110}", "RETTA MARZO 2026"),
+        b'K' => format!("{reference:110}"),
+        _ => format!("{:26}", ""),
+    };
+    [&[kind][..], body.as_bytes()].concat()
+}
+
+/// Printable bytes other than the blank, from the `start`-th on: no two that
+/// stand near one another are equal.
+fn run(start: usize, len: usize) -> Vec<u8> {
+    let byte = |i: usize| b'!' + ((start + i) % 94) as u8;
+    (0..len).map(byte).collect()
+}
+
+/// The cases so far.
+struct Cases(Vec<Case>);
+
+impl Cases {
+    fn push(&mut self, name: impl Into<String>, bytes: Vec<u8>, asked: &[Asked]) {
+        self.0.push(Case {
+            name: name.into(),
+            bytes,
+            asked: asked.to_vec(),
+        });
+    }
+
+    /// A list that is written to as much room as its flow needs.
+    fn list(&mut self, name: impl Into<String>, list: &List) {
+        self.push(name, list.bytes(), &[Write(list.room())]);
+    }
+
+    /// The same, which is accepted, and back.
+    fn right(&mut self, name: impl Into<String>, list: &List) {
+        self.push(name, list.bytes(), &[Write(list.room()), WriteAndBack]);
+    }
+
+    /// Document 01's example, at every room about the 1,920 bytes needed.
+    fn two_rents(&mut self) {
+        let list = List::of(TWO_RENTS).bytes();
+        let rooms = [
+            0, 1, 119, 120, 1_800, 1_919, 1_920, 1_921, 2_039, 2_040, 3_000,
+        ];
+        let mut asked = rooms.map(Write).to_vec();
+        asked.extend([WriteAndBack, Write(131_008)]);
+        self.push("two rents", list, &asked);
+        self.right("one rent", &List::of(ONE_RENT));
+        self.right("one rent with S and X", &List::of(FULL));
+    }
+
+    /// Other bytes in every carried position of every kind.
+    fn carried(&mut self) {
+        let text = |start, len| String::from_utf8(run(start, len)).unwrap_or_default();
+        let header = format!("{}56789290228{}1$34567", text(0, 5), text(5, 26));
+        let account = format!("SM98{}5678913579{}", text(80, 1), text(11, 12));
+        let opening = |i| {
+            format!(
+                "3112991234567890123456{i}8{}9{}",
+                text(40, 17),
+                text(57, 16)
+            )
+        };
+        let distinct = |kinds: &str| {
+            List::of(kinds)
+                .with_bodies(b'H', |_| header.clone().into_bytes())
+                .with_bodies(b'D', |i| opening(i).into_bytes())
+                .with_bodies(b'S', |_| account.clone().into_bytes())
+                .with_bodies(b'C', |_| run(3, 96))
+                .with_bodies(b'B', |_| run(17, 76))
+                .with_bodies(b'A', |_| run(31, 110))
+                .with_bodies(b'R', |_| run(47, 110))
+                .with_bodies(b'X', |i| run(59 + 7 * i, 110))
+                .with_bodies(b'K', |_| run(71, 110))
+                .with_bodies(b'Z', |i| [&b"PB"[i % 2..][..1], &run(23 + i, 25)].concat())
+        };
+        let both = format!("H D S C B A X X K Z {RENT}");
+        self.right("distinct bytes, S and X then R", &distinct(&both));
+        let five = "H D C B A X X X X X K Z";
+        self.right("distinct bytes, five X", &distinct(five));
+        self.right("every byte from 32 to 126", &every_byte());
+    }
+
+    /// An empty list: 21 below the room of EF, then 3 at its place.
+    fn empty(&mut self) {
+        let rooms = [0, 1, 119, 120, 121, 240, 1_000];
+        self.push("empty list", Vec::new(), &rooms.map(Write));
+    }
+}
+
+/// A list whose C, A and K hold every byte from 32 to 126, upwards and
+/// downwards.
+fn every_byte() -> List {
+    let up: Vec<u8> = (32..=126).collect();
+    let down: Vec<u8> = (32..=126).rev().collect();
+    List::of(ONE_RENT)
+        .with(3, 11, &up)
+        .with(5, 11, &up)
+        .with(7, 26, &down)
+}
+
+/// The ten kinds.
+const KINDS: &[u8; 10] = b"HDSCBARXKZ";
+
+/// 20: kinds that are none, and bodies cut short.
+impl Cases {
+    /// Bytes that are no kind: what stands behind them would be the body of
+    /// any kind, and then no item.
+    fn unknown_kinds(&mut self) {
+        let others = [0, 1, 9, 10, 13, 31, 32, 127, 128, 255];
+        let printable = (33..=126).filter(|byte| !KINDS.contains(byte));
+        let with_high_bit = KINDS.iter().map(|kind| kind | 128);
+        for byte in others.into_iter().chain(printable).chain(with_high_bit) {
+            let list = [&[byte][..], &[b'.'; 111]].concat();
+            self.push(format!("kind {byte}"), list, &[Write(1_200)]);
+        }
+        let right = List::of(ONE_RENT);
+        for byte in [b'E', b'h', b'Q', b' ', b'1', 0, 255] {
+            for (place, at) in [
+                ("first", 0),
+                ("second", 1),
+                ("in the middle", 4),
+                ("last", 8),
+            ] {
+                let mut list = right.clone();
+                list.0.insert(at, vec![byte]);
+                self.push(
+                    format!("kind {byte} {place}"),
+                    list.bytes(),
+                    &[Write(1_200)],
+                );
+            }
+        }
+        let mut lines = right.clone();
+        lines.0.iter_mut().for_each(|item| item.push(b'\n'));
+        self.push(
+            "a line feed behind each item",
+            lines.bytes(),
+            &[Write(4_000)],
+        );
+        let end = [&right.bytes()[..], b"\n"].concat();
+        self.push("a line feed at the end", end, &[Write(1_080), Write(4_000)]);
+    }
+
+    /// The last item cut by a byte, by half and by its whole body.
+    fn cut(&mut self) {
+        for (kinds, kind) in [
+            ("", "H"),
+            ("H", "D"),
+            ("H D", "S"),
+            ("H D", "C"),
+            ("H D C", "B"),
+            ("H D C B", "A"),
+            ("H D C B A", "R"),
+            ("H D C B A", "X"),
+            ("H D C B A R", "K"),
+            ("H D C B A R K", "Z"),
+        ] {
+            let list = List::of(&format!("{kinds} {kind}"));
+            let (bytes, whole) = (list.bytes(), list.0.last().map_or(0, Vec::len));
+            for (cut, missing) in [
+                ("one byte", 1),
+                ("half of it", whole / 2),
+                ("its body", whole - 1),
+            ] {
+                let name = format!("{kind} cut by {cut}");
+                let left = bytes[..bytes.len() - missing].to_vec();
+                self.push(name, left, &[Write(list.room())]);
+            }
+        }
+        self.shifted();
+    }
+
+    /// A body with a byte too few or too many inside the list: what comes
+    /// next is no kind. And items that end where a list may.
+    fn shifted(&mut self) {
+        for (kind, item) in [("H", 1), ("D", 2), ("C", 3), ("B", 4), ("A", 5), ("Z", 8)] {
+            let mut list = List::of(TWO_RENTS);
+            list.0[item - 1].pop();
+            self.push(
+                format!("{kind} a byte short"),
+                list.bytes(),
+                &[Write(1_920)],
+            );
+            list.0[item - 1].extend(b"..");
+            self.push(format!("{kind} a byte long"), list.bytes(), &[Write(1_920)]);
+        }
+    }
+
+    /// 20 comes before any other refusal.
+    fn items_first(&mut self) {
+        let wrong = List::of(TWO_RENTS).with(1, 4, b"     ").bytes();
+        let cut = wrong[..wrong.len() - 1].to_vec();
+        let rooms = [0, 119, 1_800, 1_920, 3_000].map(Write);
+        self.push("20 at the end, 7 in H", cut, &rooms);
+        let unknown = [&wrong[..], b"Y"].concat();
+        self.push("20 behind the end, 7 in H", unknown, &rooms);
+        let bad = [&List::of("D H").with(1, 23, b"\0").bytes()[..], b"E"].concat();
+        self.push("20 behind 2 and 3", bad, &[Write(0), Write(480)]);
+        let two = [b"Y", &List::of("H").bytes()[..], b"Q"].concat();
+        self.push("20 twice", two, &[Write(0), Write(480)]);
+        let many = List::of(&format!("H {}", [RENT; 12].join(" ")));
+        let behind = [&many.bytes()[..], b"W"].concat();
+        self.push("20 behind 85 items", behind, &[Write(many.room())]);
+    }
+
+    /// 21 comes before the reader's refusals and before 3.
+    fn room_first(&mut self) {
+        let wrong = List::of(ONE_RENT).with(1, 4, b"     ");
+        let rooms = [0, 1_079, 1_080, 1_081].map(Write);
+        self.push("7 in H, at several rooms", wrong.bytes(), &rooms);
+        let byte = List::of(ONE_RENT).with(8, 120, b"\x7f");
+        self.push("2 in Z, at several rooms", byte.bytes(), &rooms);
+        let alone = List::of("H");
+        let rooms = [0, 120, 239, 240, 241].map(Write);
+        self.push("H alone, at several rooms", alone.bytes(), &rooms);
+        let no_header = List::of("D");
+        self.push("D alone, at several rooms", no_header.bytes(), &rooms);
+    }
+}
+
+/// Lists in which only the order of the items is wrong, or that end too early;
+/// and right ones.
+#[rustfmt::skip]
+const ORDERS: [(&str, &str); 37] = [
+    ("two X", "H D C B A X X K Z"),
+    ("three X", "H D C B A X X X K Z"),
+    ("four X", "H D C B A X X X X K Z"),
+    ("five X", "H D C B A X X X X X K Z"),
+    ("S and five X", "H D S C B A X X X X X K Z"),
+    ("S and R", "H D S C B A R K Z"),
+    ("six X", "H D C B A X X X X X X K Z"),
+    ("S and six X", "H D S C B A X X X X X X K Z"),
+    ("R after X", "H D C B A X R K Z"),
+    ("X after R", "H D C B A R X K Z"),
+    ("R twice", "H D C B A R R K Z"),
+    ("no R and no X", "H D C B A K Z"),
+    ("K before R", "H D C B A K R Z"),
+    ("X before and after K", "H D C B A X K X Z"),
+    ("S twice", "H D S S C B A R K Z"),
+    ("S after C", "H D C S B A R K Z"),
+    ("S before D", "H S D C B A R K Z"),
+    ("C and B swapped", "H D B C A R K Z"),
+    ("B and A swapped", "H D C A B R K Z"),
+    ("A and R swapped", "H D C B R A K Z"),
+    ("K and Z swapped", "H D C B A R Z K"),
+    ("H twice", "H H D C B A R K Z"),
+    ("H inside a disposition", "H D C B H A R K Z"),
+    ("H between dispositions", "H D C B A R K Z H D C B A R K Z"),
+    ("H at the end", "H D C B A R K Z H"),
+    ("two whole lists", "H D C B A R K Z D C B A R K Z H D C B A R K Z"),
+    ("D before H", "D H C B A R K Z"),
+    ("no H", "D C B A R K Z"),
+    ("H and Z", "H Z"),
+    ("D twice", "H D D C B A R K Z"),
+    ("no Z", "H D C B A R K"),
+    ("no K and no Z", "H D C B A R"),
+    ("no Z in the first disposition", "H D C B A R K D C B A R K Z"),
+    ("no Z in the second disposition", "H D C B A R K Z D C B A R K"),
+    ("the second D alone", "H D C B A R K Z D"),
+    ("S at the end", "H D S"),
+    ("ends inside the third disposition", "H D C B A R K Z D C B A R K Z D C"),
+];
+
+/// Kinds that may not stand at a place: the place, the kinds before it, the
+/// kinds put there as the list's last.
+#[rustfmt::skip]
+const MISPLACED: [(&str, &str, &str); 10] = [
+    ("alone", "", "H D S C B A R X K Z"),
+    ("after H", "H", "H S C B A R X K Z"),
+    ("after D", "H D", "H D B A R X K Z"),
+    ("after S", "H D S", "H D S B A R X K Z"),
+    ("after C", "H D C", "D S C A R X K Z"),
+    ("after B", "H D C B", "D S C B R X K Z"),
+    ("after A", "H D C B A", "D S C B A K Z"),
+    ("after R", "H D C B A R", "D A R X Z"),
+    ("after K", "H D C B A R K", "D R X K"),
+    ("after Z", "H D C B A R K Z", "H S C B A R X K Z"),
+];
+
+/// 3, and the reader's other refusals.
+impl Cases {
+    fn orders(&mut self) {
+        for (name, kinds) in ORDERS {
+            self.list(name, &List::of(kinds));
+        }
+        let other = List::of("H D C B A R K Z H D C").with(9, 9, b"56789");
+        self.list("H with another ABI between dispositions", &other);
+        let other = List::of("H H D C B A R K Z").with(2, 9, b"56789");
+        self.list("H with another ABI behind the first", &other);
+        let other = List::of("H D S C B A R K Z H").with(10, 40, b"SECOND");
+        self.list("another H at the end", &other);
+    }
+
+    fn misplaced(&mut self) {
+        for (place, before, kinds) in MISPLACED {
+            for kind in kinds.split(' ') {
+                let list = List::of(&format!("{before} {kind}"));
+                self.list(format!("ends with {kind} {place}"), &list);
+            }
+        }
+    }
+
+    /// Right and wrong values of each checked field that is carried.
+    fn values(&mut self) {
+        for (name, kinds, item, position, values) in VALUES {
+            for value in values {
+                let list = List::of(kinds).with(item, position, value.as_bytes());
+                self.list(format!("{name} is '{}'", value.trim_end()), &list);
+            }
+        }
+    }
+
+    /// A byte outside 32 to 126 at the first and the last position of each
+    /// carried part: the refusal gives its own place.
+    fn bytes_outside(&mut self) {
+        for (kind, kinds, item, positions) in CARRIED_ENDS {
+            for (index, &position) in positions.iter().enumerate() {
+                let byte = [0, 31, 127, 128, 255, 10][index % 6];
+                let list = List::of(kinds).with(item, position, &[byte]);
+                self.list(format!("byte {byte} in {kind} at {position}"), &list);
+            }
+        }
+    }
+
+    /// Faults of more than one item or field, and right lists.
+    fn changes(&mut self) {
+        for (name, kinds, changes) in RIGHT {
+            self.right(name, &List::of(kinds).with_all(changes));
+        }
+        for (name, kinds, changes) in FAULTS {
+            self.list(name, &List::of(kinds).with_all(changes));
+        }
+    }
+}
+
+/// Values of one field: name, kinds, item, position, values.
+type Values = (
+    &'static str,
+    &'static str,
+    usize,
+    usize,
+    &'static [&'static str],
+);
+
+/// The checked fields that a list carries, by the rows of document 01's table
+/// of checks.
+#[rustfmt::skip]
+const VALUES: [Values; 21] = [
+    ("H 4-8", "H", 1, 4, &["     "]),
+    ("H 9-13", "H", 1, 9, &["0123:", "/1234", "     "]),
+    ("H date", "H", 1, 14, &["290227", "000126", "29022:", "      "]),
+    ("H 20-39", "H", 1, 20, &["                    "]),
+    ("H 105-111", "H", 1, 105, &["2$05678", "1E05678", "1$0567:", "      1"]),
+    ("H 105-111 in a right list", ONE_RENT, 1, 105, &["1$05678"]),
+    ("H date in a right list", ONE_RENT, 1, 14, &["290228"]),
+    ("D date", ONE_RENT, 2, 23, &["290227", "310426", "29022:", "      "]),
+    ("D date in a right list", ONE_RENT, 2, 23, &["290228"]),
+    ("D amount", ONE_RENT, 2, 34, &["0000000450.00", "/000000045000", "000000004500:", "             "]),
+    ("D 53-57", ONE_RENT, 2, 53, &["024  ", "    0", "0240:"]),
+    ("D 53-57 in a right list", ONE_RENT, 2, 53, &["     ", "99999"]),
+    ("D at 97", ONE_RENT, 2, 97, &["0", "7", "A"]),
+    ("D at 97 in a right list", ONE_RENT, 2, 97, &[" ", "9"]),
+    ("S 11-12", FULL, 3, 11, &["DE", "  "]),
+    ("S 13-14", FULL, 3, 13, &["6:", "  "]),
+    ("S at 15", FULL, 3, 15, &[" "]),
+    ("S 16-20", FULL, 3, 16, &["0123:", "01235", "00000"]),
+    ("S 21-25", FULL, 3, 21, &["0240:", "00000", "00001"]),
+    ("S 26-37", FULL, 3, 26, &["            "]),
+    ("Z at 94", ONE_RENT, 8, 94, &["A", "p", "P", "B"]),
+];
+
+/// The ends of the carried parts: kind, kinds of the list, item, positions.
+#[rustfmt::skip]
+const CARRIED_ENDS: [(&str, &str, usize, &[usize]); 11] = [
+    ("H", ONE_RENT, 1, &[4, 45, 105, 111]),
+    ("D", ONE_RENT, 2, &[23, 28, 34, 46, 53, 69, 92, 113]),
+    ("S", FULL, 3, &[11, 37]),
+    ("C", ONE_RENT, 3, &[11, 106]),
+    ("B", ONE_RENT, 4, &[11, 86]),
+    ("A", ONE_RENT, 5, &[11, 120]),
+    ("R", ONE_RENT, 6, &[11, 120]),
+    ("X", FULL, 7, &[11, 120]),
+    ("K", ONE_RENT, 7, &[11, 120]),
+    ("Z", ONE_RENT, 8, &[94, 96, 120]),
+    ("the second Z", TWO_RENTS, 15, &[120]),
+];
+
+const ABSENT: &[u8] = b"     ";
+const THREE_RENTS: &str = "H D C B A R K Z D C B A R K Z D C B A R K Z";
+
+/// Right lists with bytes put into them.
+#[rustfmt::skip]
+const RIGHT: [(&str, &str, &[Change]); 13] = [
+    ("amount 0", ONE_RENT, &[(2, 34, b"0000000000000")]),
+    ("amount 9999999999999", ONE_RENT, &[(2, 34, b"9999999999999")]),
+    ("amount 1234567890123", ONE_RENT, &[(2, 34, b"1234567890123")]),
+    ("amounts that carry", TWO_RENTS, &[(2, 34, b"9999999999999"), (9, 34, b"0000000000001")]),
+    ("H 40-45 used", ONE_RENT, &[(1, 40, b"CASE40")]),
+    ("H at 45 used", ONE_RENT, &[(1, 45, b"~")]),
+    ("H 105-111 used", ONE_RENT, &[(1, 105, b"1$05678"), (1, 20, b"                   ~")]),
+    ("company code absent in all", TWO_RENTS, &[(2, 92, ABSENT), (9, 92, ABSENT)]),
+    ("company code absent then present", TWO_RENTS, &[(2, 92, ABSENT)]),
+    ("company code present then absent", TWO_RENTS, &[(9, 92, ABSENT)]),
+    ("company code present, absent, equal", THREE_RENTS, &[(9, 92, ABSENT)]),
+    ("A R K blank", ONE_RENT, &[(5, 11, &[b' '; 110]), (6, 11, &[b' '; 110]), (7, 11, &[b' '; 110])]),
+    ("another ABI in H and S", FULL, &[(1, 9, b"98765"), (3, 16, b"98765")]),
+];
+
+/// Lists with faults of more than one item or field, or of the second
+/// disposition.
+#[rustfmt::skip]
+const FAULTS: [(&str, &str, &[Change]); 25] = [
+    ("company code different", TWO_RENTS, &[(9, 92, b"AB124")]),
+    ("company code different by a blank", TWO_RENTS, &[(9, 92, b"AB12 ")]),
+    ("company code present, absent, different", THREE_RENTS, &[(9, 92, ABSENT), (16, 92, b"AB124")]),
+    ("S with the ABI of another H", FULL, &[(1, 9, b"98765")]),
+    ("C 11-34 blank", ONE_RENT, &[(3, 11, &[b' '; 24])]),
+    ("B 11-40 blank and text behind", ONE_RENT, &[(4, 11, &[b' '; 30]), (4, 41, b"X")]),
+    ("X 11-65 blank and text behind", FULL, &[(7, 11, &[b' '; 55]), (7, 66, b"X")]),
+    ("5 in the second D", TWO_RENTS, &[(9, 34, b"0000000380.50")]),
+    ("8 in the second D", TWO_RENTS, &[(9, 23, b"300226")]),
+    ("7 in the second C", TWO_RENTS, &[(10, 11, &[b' '; 24])]),
+    ("6 in the second Z", TWO_RENTS, &[(15, 94, b"A")]),
+    ("two bytes outside, the higher first", ONE_RENT, &[(3, 30, b"\xff"), (3, 90, b"\0")]),
+    ("two bytes outside, the lower first", ONE_RENT, &[(3, 30, b"\0"), (3, 90, b"\xff")]),
+    ("bytes outside earlier in each later item", ONE_RENT, &[
+        (1, 45, b"\0"), (2, 28, b"\0"), (3, 11, b"\0"),
+    ]),
+    ("a byte outside and a wrong kind", "H D B C A R K Z", &[(3, 86, b"\x1f")]),
+    ("a byte outside and a wrong field", ONE_RENT, &[(2, 23, b"290227"), (2, 113, b"\0")]),
+    ("a byte outside in D before H", "D H", &[(1, 113, b"\x80")]),
+    ("a byte outside in the second H", "H H", &[(2, 4, b"\x80")]),
+    ("a wrong kind and wrong fields", "H D D", &[(3, 23, b"290227"), (3, 97, b"0")]),
+    ("7 in H then 2 in D", ONE_RENT, &[(1, 20, &[b' '; 20]), (2, 23, b"\0")]),
+    ("6 in D then 3 in S", "H D C S", &[(2, 97, b"0")]),
+    ("5 and 8 and 6 in D", ONE_RENT, &[(2, 23, b"290227"), (2, 34, b":"), (2, 97, b"0")]),
+    ("8 in D then no Z", "H D C B A R K", &[(2, 23, b"290227")]),
+    ("6 in the last Z", ONE_RENT, &[(8, 94, b"x")]),
+    ("5 at both ends of H", ONE_RENT, &[(1, 9, b"0123 "), (1, 105, b"1$0567 ")]),
+];
+
+/// Many dispositions.
+impl Cases {
+    /// Numbers of two digits, amounts that differ, every kind.
+    fn many(&mut self) {
+        let kinds = format!("H {}", [RENT, RENT_X].repeat(6).join(" "));
+        let list = List::of(&kinds).with_bodies(b'D', |i| opening(1_001 * (i as u64 + 1)));
+        self.right("12 dispositions", &list);
+        let wrong = list.clone().with(91, 94, b"A");
+        self.list("6 in the last of 91 items", &wrong);
+    }
+
+    /// A total of 999,999,999,999,999, and one cent more: 17, after 21 and
+    /// after the reader's refusals.
+    fn limit(&mut self) {
+        let kinds = format!("H {}", [RENT; 101].join(" "));
+        let amounts = |last| move |i| opening(if i < 100 { MAX_AMOUNT } else { last });
+        let full = List::of(&kinds).with_bodies(b'D', amounts(99));
+        let room = full.room();
+        let asked = [Write(room - 1), Write(room), Write(room + 1), WriteAndBack];
+        self.push("a total of 999999999999999", full.bytes(), &asked);
+        let above = List::of(&kinds).with_bodies(b'D', amounts(100));
+        self.push("a total of 1000000000000000", above.bytes(), &asked);
+        let mut open = above.clone();
+        open.0.pop();
+        self.list("a total above the limit and no Z", &open);
+    }
+}
+
+/// The body of a D of that amount.
+fn opening(cents: u64) -> Vec<u8> {
+    let text = format!("310326{cents:013}02400000000123456AB1232{:16}", cents % 97);
+    text.into_bytes()
+}
+
+/// Reading back.
+impl Cases {
+    /// The two-rent flow, at every room about the 1,236 bytes needed.
+    fn back(&mut self) {
+        let rooms = [0, 1, 50, 1_235, 1_236, 1_237, 1_355, 1_356, 1_920, 3_000];
+        let mut asked = rooms.map(ReadBack).to_vec();
+        asked.extend([BackAndWrite, ReadBack(131_008)]);
+        self.push("back: two rents", Flow::of(TWO).bytes(), &asked);
+        for (name, types, len) in BACK {
+            let asked = [len - 1, len, len + 1].map(ReadBack);
+            let asked = [&asked[..], &[BackAndWrite]].concat();
+            self.push(format!("back: {name}"), Flow::of(types).bytes(), &asked);
+        }
+    }
+
+    /// The reader's refusals come before 21.
+    fn back_refused(&mut self) {
+        let asked = [ReadBack(0), ReadBack(1_235), ReadBack(2_000), BackAndWrite];
+        self.push("back: no byte", Vec::new(), &asked);
+        let flow = Flow::of(TWO).bytes();
+        self.push("back: a byte short", flow[..1_919].to_vec(), &asked);
+        let end = [&flow[..], b"\n"].concat();
+        self.push("back: a line feed at the end", end, &asked);
+        self.push("back: 14 after EF", Flow::of(AND_14).bytes(), &asked);
+        for (name, types) in CUT {
+            self.push(format!("back: {name}"), Flow::of(types).bytes(), &asked);
+        }
+        for (name, changes) in BACK_FAULTS {
+            let flow = Flow::of(TWO).with_all(changes);
+            self.push(format!("back: {name}"), flow.bytes(), &asked);
+        }
+        let list = List::of(TWO_RENTS).bytes();
+        self.push("back: a list for a flow", list, &asked);
+    }
+
+    /// Other bytes in every position that is not checked, carried or not.
+    fn back_carried(&mut self) {
+        for (name, types, len) in [
+            ("S and X then R", EVERY, 1_264),
+            ("five X", "IM 14 20 30 40 59 59 59 59 59 51 70 EF", 1_087),
+        ] {
+            let mut flow = Flow::of(types);
+            for (index, record) in flow.0.iter_mut().enumerate() {
+                fill(record, 13 * index);
+            }
+            let asked = [ReadBack(len - 1), ReadBack(len), BackAndWrite];
+            let name = format!("back: unchecked bytes distinct, {name}");
+            self.push(name, flow.bytes(), &asked);
+        }
+    }
+
+    /// One byte that the list does not carry, in each part of each record.
+    fn unclean(&mut self) {
+        for (name, types, record, positions) in NOT_CARRIED {
+            let len = if types == ONE { 643 } else { 671 };
+            for &position in positions {
+                let mut flow = Flow::of(types);
+                flow.0[record - 1][position - 1] = b'~';
+                let name = format!("back: unclean in {name} at {position}");
+                self.push(name, flow.bytes(), &[ReadBack(len), BackAndWrite]);
+            }
+        }
+        let asked = [ReadBack(643), BackAndWrite];
+        let header = Flow::of(ONE).with_all(&[(1, 40, b"CASE40")]);
+        self.push("back: 40-45 in IM alone", header.bytes(), &asked);
+        let other = Flow::of(ONE).with_all(&[(1, 40, b"CASE40"), (9, 40, b"CASE41")]);
+        self.push("back: 40-45 unlike in EF", other.bytes(), &asked);
+    }
+
+    /// One byte that is carried and not checked; a clean flow comes again.
+    fn clean(&mut self) {
+        for (name, types, record, positions) in CARRIED {
+            for &position in positions {
+                let mut flow = Flow::of(types);
+                flow.0[record - 1][position - 1] = b'~';
+                let name = format!("back: clean, {name} at {position}");
+                self.push(name, flow.bytes(), &[BackAndWrite]);
+            }
+        }
+        let both = Flow::of(ONE).with_all(&[(1, 40, b"CASE40"), (9, 40, b"CASE40")]);
+        self.push(
+            "back: 40-45 alike in IM and EF",
+            both.bytes(),
+            &[BackAndWrite],
+        );
+    }
+}
+
+/// Right flows: name, types, length of the list.
+#[rustfmt::skip]
+const BACK: [(&str, &str, usize); 5] = [
+    ("one rent", ONE, 643),
+    ("16 and 50", "IM 14 16 20 30 40 50 51 70 EF", 671),
+    ("16 and 59", "IM 14 16 20 30 40 59 51 70 EF", 671),
+    ("five 59s", "IM 14 20 30 40 59 59 59 59 59 51 70 EF", 1_087),
+    ("16 in the second", "IM 14 20 30 40 50 51 70 14 16 20 30 40 59 59 51 70 EF", 1_375),
+];
+
+/// Right records, of which none is EF.
+#[rustfmt::skip]
+const CUT: [(&str, &str); 3] = [
+    ("the header alone", "IM"),
+    ("cut inside a disposition", "IM 14 20 30 40"),
+    ("no EF", "IM 14 20 30 40 50 51 70 14 20 30 40 50 51 70"),
+];
+
+/// Bytes put into `TWO`, whose second 14 is record 9 and whose EF is
+/// record 16.
+#[rustfmt::skip]
+const BACK_FAULTS: [(&str, &[Change]); 13] = [
+    ("2 in the last byte", &[(16, 120, b"\x7f")]),
+    ("3 in the second 70", &[(15, 2, b"14")]),
+    ("5 in the second 14", &[(9, 34, b"0000000380.50")]),
+    ("6 in IM", &[(1, 114, b"L")]),
+    ("7 in the second 30", &[(11, 11, &[b' '; 30])]),
+    ("8 in the second 14", &[(9, 23, b"290227")]),
+    ("9 in the second 20", &[(10, 4, b"0000001")]),
+    ("10 in EF", &[(16, 114, b"L")]),
+    ("11 in the second 14", &[(9, 92, b"AB124")]),
+    ("12 in EF", &[(16, 46, b"0000003")]),
+    ("13 in EF", &[(16, 53, b"000000000083051")]),
+    ("13 in EF at 68", &[(16, 68, b"000000000000001")]),
+    ("14 in EF", &[(16, 83, b"0000015")]),
+];
+
+const FULL_FLOW: &str = "IM 14 16 20 30 40 59 51 70 EF";
+
+/// Ends of the parts that are neither checked nor carried: name, types of the
+/// flow, record, positions.
+#[rustfmt::skip]
+const NOT_CARRIED: [(&str, &str, usize, &[usize]); 11] = [
+    ("IM", ONE, 1, &[1, 46, 104, 112, 113, 115, 120]),
+    ("14", ONE, 2, &[1, 11, 22, 70, 91, 114, 119]),
+    ("16", FULL_FLOW, 3, &[1, 38, 120]),
+    ("20", ONE, 3, &[1, 107, 120]),
+    ("30", ONE, 4, &[1, 87, 120]),
+    ("40", ONE, 5, &[1]),
+    ("50", ONE, 6, &[1]),
+    ("59", FULL_FLOW, 7, &[1]),
+    ("51", ONE, 7, &[1]),
+    ("70", ONE, 8, &[1, 11, 93, 95]),
+    ("EF", ONE, 9, &[1, 40, 45, 90, 113, 115, 120]),
+];
+
+/// Ends of the parts that are carried and not checked.
+#[rustfmt::skip]
+const CARRIED: [(&str, &str, usize, &[usize]); 9] = [
+    ("14", ONE, 2, &[58, 69, 98, 113]),
+    ("16", FULL_FLOW, 3, &[15, 26, 37]),
+    ("20", ONE, 3, &[35, 106]),
+    ("30", ONE, 4, &[41, 86]),
+    ("40", ONE, 5, &[11, 120]),
+    ("50", ONE, 6, &[11, 120]),
+    ("59", FULL_FLOW, 7, &[66, 120]),
+    ("51", ONE, 7, &[11, 120]),
+    ("70", ONE, 8, &[96, 120]),
+];
+
+/// Fills the positions of a record that are not checked with a run of bytes.
+fn fill(record: &mut Record, start: usize) {
+    let mut filled = BLANK_RECORD;
+    filled.copy_from_slice(&run(start, RECORD_LEN));
+    for &(first, last) in checked(record_type(record)) {
+        field_mut(&mut filled, first, last).copy_from_slice(field(record, first, last));
+    }
+    *record = filled;
+}
