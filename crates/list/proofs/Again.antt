@@ -1,25 +1,25 @@
 -- A right record and the record that its own item encodes: alike at every position that is checked, so that the one is right at its place
 -- where the other is. Assumes nothing.
-use Prim.Native.Nat.{ℕ, suc, _+_, _-_, _≤_, _<_}
+use Prim.Native.Nat.{ℕ, _+_, _-_}
 use mathlib.Core.Bool.{Bool, true, false, true≢false}
 use mathlib.Core.List.{List, [], _∷_, _++_}
-use mathlib.Core.Logic.{_⊎_, inl, inr}
+use mathlib.Core.Logic.{inl}
 use mathlib.Core.Path.{_≡_, refl, sym, _∙_, ap, subst}
 use native.Mathlib.Omega.{arith}
-use lib.ListN.{length, getD}
+use lib.ListN.{length}
 use Rattle.sequences.specs.All.{All}
-use Rattle.sequences.specs.Part.{part, put}
+use Rattle.sequences.specs.Part.{part}
 use Rattle.sequences.proofs.All.{all-append}
 use Rattle.sequences.proofs.Part.{part-length}
 use Rattle.fields.specs.Digits.{number, digits}
 use Rattle.fields.proofs.Decimal.{written-length, read-written}
-use Rattle.records.specs.Bytes.{badFrom, badByte}
+use Rattle.records.specs.Bytes.{badFrom}
 use Rattle.records.specs.Checked.{checked, Alike}
 use Rattle.records.specs.Checks.{checks}
-use Rattle.records.specs.Constants.{causale, sign, currency}
+use Rattle.records.specs.Constants.{currency}
 use Rattle.records.specs.Context.{Header}
 use Rattle.records.specs.Field.{field}
-use Rattle.records.specs.Finding.{Check, Hold}
+use Rattle.records.specs.Finding.{Hold}
 use Rattle.records.specs.Judge.{asked}
 use Rattle.records.specs.Kinds.{typeOf, heads}
 use Rattle.records.specs.declared.kind.Kind.{Kind}
@@ -31,13 +31,13 @@ use Rattle.flow.specs.declared.walk.Walk.{Walk}
 use Rattle.grammar.specs.Rules.{Says, Printable, Formed, MemberRules}
 use Rattle.grammar.proofs.AtPlace.{asks, RightAt}
 use Rattle.grammar.proofs.Rules.{digits-exact, printable-exact, header-rules, member-rules}
-use Rattle.list.specs.Encode.{Placed, place, fill, blanks, carriedAt, supplied, bodyPlaced, encodeItem}
+use Rattle.list.specs.Encode.{Placed, place, blanks, carriedAt, supplied, bodyPlaced, encodeItem}
 use Rattle.list.specs.Items.{Item, item, Proper}
 use Rattle.list.specs.ReadBack.{gather}
 use Rattle.list.specs.Table.{carried, hasItem}
-use Rattle.list.proofs.Carried.{body-fits, gather-length, gather-matches}
+use Rattle.list.proofs.Carried.{gather-length, gather-matches}
 use Rattle.list.proofs.Encoded.{type-length, encoded-length, encoded-type}
-use Rattle.list.proofs.Placing.{Fits, Matches, Agrees, AllPlaced, matches-agrees, fill-agrees, fill-all, all-part}
+use Rattle.list.proofs.Placing.{Matches, Agrees, AllPlaced, matches-agrees, fill-agrees, fill-all, all-part}
 use Rattle.list.proofs.Spanned.{Spanned, spanned-append, spanned-covers, body-spanned, supplied-spanned, spanned-fits, writtenSpans, written-within, checked-written, checked-within, alike-by-bytes}
 use Rattle.list.proofs.Spans.{carried-within}
 

@@ -1,8 +1,8 @@
 -- The carried bytes of a record: gathered from it, and placed in it. Assumes nothing.
-use Prim.Native.Nat.{ℕ, _+_, _-_, _≤_, _<_}
+use Prim.Native.Nat.{ℕ, _+_, _-_, _≤_}
 use mathlib.Core.Bool.{Bool, true, false, cond, _&&_, and-eq-true-iff, true≢false}
-use mathlib.Core.List.{List, [], _∷_, _++_, append-nil, map, flatten}
-use mathlib.Core.Logic.{_⊎_, inl, inr}
+use mathlib.Core.List.{List, [], _∷_, _++_, map, flatten}
+use mathlib.Core.Logic.{inl}
 use mathlib.Core.Path.{_≡_, refl, sym, _∙_, ap}
 use native.Mathlib.Omega.{arith}
 use lib.Dec.{leb}
@@ -12,13 +12,13 @@ use borrow.Author.Tests.{leb-true}
 use Rattle.sequences.specs.All.{All}
 use Rattle.sequences.specs.Part.{part, put}
 use Rattle.sequences.specs.Sum.{sum}
-use Rattle.sequences.proofs.Part.{part-length, part-part, part-put, put-length}
+use Rattle.sequences.proofs.Part.{part-length, part-put, put-length}
 use Rattle.records.specs.Field.{Span, _to_, width, field}
 use Rattle.records.proofs.Checked.{field-within}
-use Rattle.list.specs.Encode.{Placed, place, fill, bodyPlaced, indexIn}
+use Rattle.list.specs.Encode.{fill, bodyPlaced, indexIn}
 use Rattle.list.specs.ReadBack.{gather}
-use Rattle.list.proofs.Placing.{Fits, Outside, Matches, fill-length, fill-outside}
-use Rattle.list.proofs.Spans.{first, last, Within, Rising}
+use Rattle.list.proofs.Placing.{Fits, Outside, Matches, fill-outside}
+use Rattle.list.proofs.Spans.{first, Within, Rising}
 
 -- a body as long as the spans: what of it goes to the first, and the rest
 pub split-first : (s : Span) (ss : List Span) (body : List ℕ) → sum (map width (s ∷ ss)) ≡ length body → (length (take (width s) body) ≡ width s) × (sum (map width ss) ≡ length (drop (width s) body))

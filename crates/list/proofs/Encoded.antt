@@ -1,8 +1,8 @@
 -- The record that an item encodes: its length, its type, and its carried bytes. Assumes nothing.
 use Prim.Native.Nat.{ℕ, _+_, _-_, _≤_}
 use mathlib.Core.Bool.{true}
-use mathlib.Core.List.{List, [], _∷_, _++_}
-use mathlib.Core.Logic.{_⊎_, inl, inr}
+use mathlib.Core.List.{List, _++_}
+use mathlib.Core.Logic.{inl}
 use mathlib.Core.Path.{_≡_, refl, sym, _∙_, ap}
 use native.Mathlib.Omega.{arith}
 use lib.ListN.{length}
@@ -12,12 +12,12 @@ use Rattle.sequences.proofs.All.{all-append}
 use Rattle.sequences.proofs.Part.{part-at-most, part-put, put-length}
 use Rattle.fields.specs.Digits.{digits}
 use Rattle.fields.proofs.Decimal.{written-length}
-use Rattle.records.specs.Field.{Span, _to_, width, field}
+use Rattle.records.specs.Field.{field}
 use Rattle.records.specs.Kinds.{typeOf}
 use Rattle.records.specs.declared.kind.Kind.{Kind}
-use Rattle.records.specs.declared.kind.Kind.the-variants.{Im, R14}
+use Rattle.records.specs.declared.kind.Kind.the-variants.{Im}
 use Rattle.records.proofs.EachKind.{each-kind}
-use Rattle.list.specs.Encode.{Placed, place, fill, blanks, carriedAt, supplied, bodyPlaced, encodeItem}
+use Rattle.list.specs.Encode.{Placed, fill, blanks, carriedAt, supplied, bodyPlaced, encodeItem}
 use Rattle.list.specs.Items.{Item, Proper}
 use Rattle.list.specs.ReadBack.{gather}
 use Rattle.list.specs.Table.{carried, bodyLength}

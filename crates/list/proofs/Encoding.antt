@@ -1,8 +1,7 @@
 -- The records that items encode, and their items again. Assumes nothing.
 use Prim.Native.Nat.{ℕ, suc, _+_, _-_, _*_, _≤_}
-use mathlib.Core.Bool.{true}
 use mathlib.Core.List.{List, [], _∷_, _++_, append-nil, map, map-append, flatten}
-use mathlib.Core.Path.{_≡_, refl, sym, _∙_, ap, subst}
+use mathlib.Core.Path.{_≡_, refl, sym, _∙_, ap}
 use native.Mathlib.Omega.{arith}
 use lib.ListN.{length, drop, length-append}
 use lib.Seq.{length-take-le}
@@ -23,10 +22,10 @@ use Rattle.records.proofs.EachKind.{each-kind}
 use Rattle.flow.specs.Records.{recordsOf}
 use Rattle.flow.specs.Steps.{opened}
 use Rattle.flow.proofs.Cut.{Whole, flatten-length, joined-records}
-use Rattle.list.specs.Encode.{Placed, place, blanks, carriedAt, headerBehind, lastHeader, dispositionsOf, centsOf, encodeItem, trailerPlaced, encodeTrailer, encodeFrom, recordsFor, trailerFor, encode}
-use Rattle.list.specs.Items.{Item, item, Proper}
-use Rattle.list.specs.ReadBack.{gather, itemOf, itemsOf}
-use Rattle.list.specs.Table.{rows, carried, firstKind, kindIn}
+use Rattle.list.specs.Encode.{blanks, carriedAt, headerBehind, lastHeader, dispositionsOf, centsOf, encodeItem, trailerPlaced, encodeTrailer, encodeFrom, recordsFor, trailerFor, encode}
+use Rattle.list.specs.Items.{Item, Proper}
+use Rattle.list.specs.ReadBack.{itemOf, itemsOf}
+use Rattle.list.specs.Table.{rows, firstKind, kindIn}
 use Rattle.list.proofs.Encoded.{encoded-length, encoded-type, encoded-body}
 use Rattle.list.proofs.Placing.{Fits, Matches, InRow, fill-length, row-stands}
 

@@ -1,19 +1,18 @@
 -- The records that items encode, judged as the reader judges them: all are right, or one is the first that is not. Assumes nothing.
-use Prim.Native.Nat.{ℕ, suc, _+_, _*_, _≤_}
+use Prim.Native.Nat.{ℕ, suc, _+_}
 use mathlib.Core.Bool.{Bool, true, false, cond, _||_, true≢false}
-use mathlib.Core.List.{List, [], _∷_, _++_, map, flatten, head-eq-of-cons-eq, tail-eq-of-cons-eq}
+use mathlib.Core.List.{List, [], _∷_, _++_, map, flatten}
 use mathlib.Core.Logic.{_⊎_, inl, inr}
 use mathlib.Core.Path.{_≡_, refl, sym, _∙_, ap, subst}
 use native.Mathlib.Omega.{arith}
-use lib.Dec.{leb, ltb}
-use lib.ListN.{length, take, length-map, length-append}
-use borrow.Author.Tests.{leb-true}
+use lib.Dec.{ltb}
+use lib.ListN.{length, take, length-map}
 use Rattle.sequences.specs.All.{All}
 use Rattle.sequences.proofs.All.{all-at}
 use Rattle.fields.specs.Digits.{number}
 use Rattle.records.specs.Context.{headerOf}
 use Rattle.records.specs.Field.{field}
-use Rattle.records.specs.Kinds.{typeOf, hasType, heads, opens, closes}
+use Rattle.records.specs.Kinds.{hasType, heads, opens, closes}
 use Rattle.records.specs.declared.kind.Kind.{Kind}
 use Rattle.records.specs.declared.kind.Kind.the-variants.{Im, R14, R16, R20, R30, R40, R50, R59, R51, R70, Ef}
 use Rattle.records.proofs.ByKind.{type-tested, opens-type}
@@ -22,20 +21,16 @@ use Rattle.flow.specs.Judge.{go}
 use Rattle.flow.specs.Order.{permitted, mayClose, place, placeAfter}
 use Rattle.flow.specs.Steps.{start, opened}
 use Rattle.flow.specs.Sums.{dispositionsOf as Sums·dispositionsOf, centsOf as Sums·centsOf}
-use Rattle.flow.specs.Verdict.{accepted, refused}
+use Rattle.flow.specs.Verdict.{refused}
 use Rattle.flow.specs.declared.order.Due.the-variants.{OnlyIm, R59OrR51, OnlyR51}
-use Rattle.flow.specs.declared.order.Place.{Place}
-use Rattle.flow.specs.declared.walk.Walk.{Walk}
-use Rattle.flow.proofs.Accepted.{accepted-not-refused}
 use Rattle.flow.proofs.Among.{In}
 use Rattle.flow.proofs.Cut.{Whole}
 use Rattle.grammar.specs.Fault.{HaveKinds}
 use Rattle.grammar.specs.Grammar.{Typed, kindsOf, recordsIn}
-use Rattle.grammar.proofs.AtPlace.{May}
 use Rattle.grammar.proofs.Behind.{FromStart, FaultNext, formed-so, same-kinds}
 use Rattle.grammar.proofs.FirstFault.{ends-so, stops-so}
 use Rattle.grammar.proofs.Order.{Allowed}
-use Rattle.grammar.proofs.Walked.{stateBehind, walked-allowed, state-counts, Outcome, all-right, stops, outcome}
+use Rattle.grammar.proofs.Walked.{stateBehind, state-counts, Outcome, all-right, stops, outcome}
 use Rattle.list.specs.Encode.{carriedAt, headerBehind, lastHeader, dispositionsOf, amountOf, centsOf, encodeItem, encodeFrom, recordsFor}
 use Rattle.list.specs.Items.{Item, Proper}
 use Rattle.list.specs.Table.{carried}

@@ -1,6 +1,6 @@
 -- The items that a list is read as are those that it is the bytes of. Assumes nothing.
 use Prim.Native.Nat.{ℕ, zero, suc, _+_, _≤_, _<_}
-use mathlib.Core.Bool.{Bool, true, false, cond, _&&_, true≢false}
+use mathlib.Core.Bool.{Bool, true, false, cond, true≢false}
 use mathlib.Core.List.{List, [], _∷_, _++_, append-nil, append-assoc, flatten}
 use mathlib.Core.Logic.{_⊎_, inl, inr, ⊎-elim}
 use mathlib.Core.Path.{_≡_, refl, sym, _∙_, ap, subst}
@@ -11,9 +11,7 @@ use lib.ListN.{length, take, drop, length-drop, length-append, take-append-drop}
 use lib.Seq.{length-take-le, take-at, drop-at}
 use borrow.Author.Tests.{leb-true, leb-false, le-leb, eqb-true}
 use Rattle.sequences.specs.All.{All}
-use Rattle.sequences.proofs.All.{all-append}
 use Rattle.records.specs.declared.kind.Kind.{Kind}
-use Rattle.records.specs.declared.kind.Kind.the-variants.{Ef}
 use Rattle.records.proofs.EachKind.{each-kind}
 use Rattle.list.specs.Items.{Item, item, Proper, listBytes, Parsed, items, faulty, before, itemsFrom, parse}
 use Rattle.list.specs.Laws.{ItemsExact, NoItem, FaultyAt, FaultyExact}

@@ -1,9 +1,8 @@
 -- An accepted flow and its own list: written again the list is accepted with the same numbers, and what it encodes is like the flow at
 -- every position that is checked. Assumes nothing.
 use Prim.Native.Nat.{ℕ, suc, _+_, _*_, _/_, _^_, _≤_, _<_}
-use mathlib.Core.Bool.{Bool, true, false, cond, true≢false}
+use mathlib.Core.Bool.{true, false, true≢false}
 use mathlib.Core.List.{List, [], _∷_, _++_, append-nil, map, map-append, map-map, dropLast, flatten}
-use mathlib.Core.Logic.{_↔_, _⊎_, inl, inr}
 use mathlib.Core.Path.{_≡_, refl, sym, _∙_, ap, subst}
 use native.Mathlib.Omega.{arith}
 use lib.Dec.{leb}
@@ -11,7 +10,7 @@ use lib.ListN.{length, take, getD, length-map, length-append}
 use lib.Seq.{take-at}
 use borrow.Author.Tests.{le-leb}
 use Rattle.sequences.specs.All.{All}
-use Rattle.sequences.specs.Part.{part, put}
+use Rattle.sequences.specs.Part.{part}
 use Rattle.sequences.proofs.All.{all-before}
 use Rattle.sequences.proofs.DropLast.{dropLast-append}
 use Rattle.sequences.proofs.Flatten.{flatten-append}
@@ -19,41 +18,38 @@ use Rattle.sequences.proofs.Part.{part-length, part-put}
 use Rattle.fields.specs.Digits.{number}
 use Rattle.fields.proofs.Decimal.{number-below}
 use Rattle.records.specs.Checked.{checked, Alike}
-use Rattle.records.specs.Checks.{checks}
 use Rattle.records.specs.Context.{Header, headerOf, headed}
 use Rattle.records.specs.Field.{field}
-use Rattle.records.specs.Judge.{asked}
 use Rattle.records.specs.Kinds.{typeOf, heads}
 use Rattle.records.specs.declared.kind.Kind.{Kind}
 use Rattle.records.specs.declared.kind.Kind.the-variants.{Im, Ef}
 use Rattle.flow.specs.Judge.{judge}
 use Rattle.flow.specs.Order.{permitted, mayClose, place}
 use Rattle.flow.specs.Records.{recordAt, recordsOf}
-use Rattle.flow.specs.Steps.{start, opened, counted, step, latest}
+use Rattle.flow.specs.Steps.{start, opened, counted, step}
 use Rattle.flow.specs.Verdict.{Verdict, accepted}
 use Rattle.flow.specs.declared.order.Due.the-variants.{OnlyIm}
 use Rattle.flow.specs.declared.walk.Walk.{Walk}
 use Rattle.flow.proofs.Accepted.{accepted-exact}
 use Rattle.flow.proofs.Cut.{cut-at}
-use Rattle.grammar.specs.Grammar.{Typed, Parts, kindsOf, recordsIn, Grammar}
+use Rattle.grammar.specs.Grammar.{Typed, kindsOf, recordsIn, Grammar}
 use Rattle.grammar.specs.Rules.{Says, Formed, TrailerRules}
 use Rattle.grammar.proofs.AtPlace.{asks, RightAt}
 use Rattle.grammar.proofs.Behind.{FromStart}
-use Rattle.grammar.proofs.Bytes.{typedOf}
 use Rattle.grammar.proofs.Grammar.{grammar-exact, header-first, grammar-records, grammar-start}
 use Rattle.grammar.proofs.Order.{Allowed}
 use Rattle.grammar.proofs.Rules.{digits-exact, header-rules, trailer-rules}
 use Rattle.grammar.proofs.Walked.{stateBehind, codeBehind, Walked, walked-append, walked-allowed, walked-formed, AllFormed}
 use Rattle.list.specs.Encode.{carriedAt, encodeItem, encodeFrom, encodeTrailer, lastHeader, dispositionsOf, centsOf, recordsFor, trailerFor, encode}
-use Rattle.list.specs.Items.{Item, item, Proper, listBytes, items, parse, itemsOr, itemsIn}
-use Rattle.list.specs.Laws.{Fitting, OwnList, RewrittenExact, RewrittenSame, UncheckedOnly}
+use Rattle.list.specs.Items.{Item, item, Proper, items, parse, itemsOr, itemsIn}
+use Rattle.list.specs.Laws.{OwnList, RewrittenExact, RewrittenSame, UncheckedOnly}
 use Rattle.list.specs.Output.{Output, output}
-use Rattle.list.specs.ReadBack.{gather, itemOf, itemsOf, listOf, Canonical}
+use Rattle.list.specs.ReadBack.{gather, itemOf, itemsOf, listOf}
 use Rattle.list.specs.Table.{carried, hasItem, kindIn}
 use Rattle.list.specs.Write.{closed, judgeItems, judgeList, write}
 use Rattle.list.proofs.Again.{again-alike, again-right, own-proper, says-digits}
-use Rattle.list.proofs.Carried.{gather-length, gather-at, inOne}
-use Rattle.list.proofs.Encoding.{kind-in, encoded-count, encode-records, encode-length, trailer-length, trailer-type}
+use Rattle.list.proofs.Carried.{gather-length, gather-at}
+use Rattle.list.proofs.Encoding.{kind-in, encode-records, encode-length}
 use Rattle.list.proofs.Judging.{front, RightItems, right-judged, right-sums, kindsIn, close-tested, header-first as Judging·header-first, header-stays}
 use Rattle.list.proofs.ListItems.{read-items}
 use Rattle.list.proofs.Rewritten.{ownItem, againFrom, Like, Again, again-walked, all-open, all-kinds, like-at, like-append}

@@ -1,35 +1,29 @@
 -- An accepted flow's own list, written again: it is accepted with the same numbers, and its records are like the flow's at every position
 -- that is checked. Assumes nothing.
-use Prim.Native.Nat.{ℕ, zero, suc, _+_, _*_, _^_, _≤_, _<_}
-use mathlib.Core.Bool.{Bool, true, false, cond, true≢false}
-use mathlib.Core.List.{List, [], _∷_, _++_, append-nil, map, map-append, flatten}
-use mathlib.Core.Logic.{_↔_, _⊎_, inl, inr, ⊎-elim}
+use Prim.Native.Nat.{ℕ, zero, suc, _+_, _<_}
+use mathlib.Core.Bool.{Bool, true, false, cond}
+use mathlib.Core.List.{List, [], _∷_, _++_, map}
 use mathlib.Core.Path.{_≡_, refl, sym, _∙_, ap, subst}
 use native.Mathlib.Nat.{le-of-suc-le-suc, not-suc-le-zero}
-use native.Mathlib.Omega.{arith}
-use lib.ListN.{length, take, getD, length-map}
-use lib.Seq.{take-at}
+use lib.ListN.{length, getD}
 use Rattle.sequences.specs.All.{All}
-use Rattle.fields.specs.Digits.{number}
 use Rattle.records.specs.Checked.{checked, Alike}
-use Rattle.records.specs.Context.{Header, headerOf}
+use Rattle.records.specs.Context.{Header}
 use Rattle.records.specs.Field.{field}
 use Rattle.records.specs.Judge.{asked}
 use Rattle.records.specs.Kinds.{typeOf, heads}
 use Rattle.records.specs.declared.kind.Kind.{Kind}
-use Rattle.records.specs.declared.kind.Kind.the-variants.{Im, Ef}
+use Rattle.records.specs.declared.kind.Kind.the-variants.{Im}
 use Rattle.records.proofs.ByKind.{types-differ}
 use Rattle.records.proofs.EachKind.{each-kind}
-use Rattle.flow.specs.Order.{permitted, place, placeAfter}
-use Rattle.flow.specs.Steps.{start, opened, counted, step, latest}
-use Rattle.flow.specs.declared.order.Due.the-variants.{OnlyIm}
+use Rattle.flow.specs.Order.{permitted, placeAfter}
+use Rattle.flow.specs.Steps.{opened, counted, step, latest}
 use Rattle.flow.specs.declared.order.Place.{Place}
 use Rattle.flow.specs.declared.walk.Walk.{Walk}
 use Rattle.flow.proofs.Among.{In}
 use Rattle.grammar.specs.Grammar.{Typed, kindsOf, recordsIn}
-use Rattle.grammar.proofs.AtPlace.{RightAt}
 use Rattle.grammar.proofs.Order.{Allowed}
-use Rattle.grammar.proofs.Walked.{stateBehind, codeBehind, Walked, AllFormed}
+use Rattle.grammar.proofs.Walked.{stateBehind, Walked, AllFormed}
 use Rattle.list.specs.Encode.{carriedAt, encodeItem, encodeFrom}
 use Rattle.list.specs.Items.{Item, item, Proper}
 use Rattle.list.specs.ReadBack.{gather}

@@ -1,7 +1,7 @@
 -- Writing is refused exactly where document 01 says so, and by that number. Assumes nothing.
-use Prim.Native.Nat.{ℕ, suc, _+_, _*_, _≤_, _<_}
+use Prim.Native.Nat.{ℕ, suc, _+_, _*_, _≤_}
 use mathlib.Core.Bool.{Bool, true, false, cond, true≢false}
-use mathlib.Core.List.{List, [], _∷_, _++_, flatten}
+use mathlib.Core.List.{List, [], _∷_}
 use mathlib.Core.Logic.{_↔_, _⊎_, inl, inr}
 use mathlib.Core.Path.{_≡_, refl, sym, _∙_, ap, subst}
 use native.Mathlib.Omega.{arith}
@@ -12,10 +12,9 @@ use Rattle.sequences.specs.All.{All}
 use Rattle.records.specs.declared.kind.Kind.the-variants.{Ef}
 use Rattle.flow.specs.Judge.{ended, judge}
 use Rattle.flow.specs.Order.{permitted, isDue, mayClose}
-use Rattle.flow.specs.Records.{RightLength, recordsOf}
+use Rattle.flow.specs.Records.{RightLength}
 use Rattle.flow.specs.Steps.{start}
-use Rattle.flow.specs.Verdict.{Verdict, accepted, refused}
-use Rattle.flow.specs.declared.walk.Walk.{Walk}
+use Rattle.flow.specs.Verdict.{accepted, refused}
 use Rattle.flow.proofs.Accepted.{accepted-not-refused}
 use Rattle.flow.proofs.Cut.{flatten-length, joined-records}
 use Rattle.grammar.specs.Fault.{MayFollow, EachRight}
@@ -23,7 +22,7 @@ use Rattle.grammar.specs.Grammar.{Typed, recordsIn}
 use Rattle.grammar.proofs.Behind.{may-follow, follows-may, walked-of, each-of}
 use Rattle.grammar.proofs.FirstFault.{judgeFrom, judged, ends-so, stops-so}
 use Rattle.grammar.proofs.Walked.{stateBehind}
-use Rattle.list.specs.Encode.{centsOf, recordsFor}
+use Rattle.list.specs.Encode.{recordsFor}
 use Rattle.list.specs.Items.{Item, Proper, Parsed, items, faulty, parse}
 use Rattle.list.specs.Laws.{Fitting, WriteFault, no-item, too-many, no-room, in-record, no-trailer, too-much, WriteRefused}
 use Rattle.list.specs.Write.{closed, judgeItems, judgeParsed, judgeList}

@@ -18,22 +18,21 @@ use Rattle.records.specs.Context.{Header}
 use Rattle.records.specs.Field.{field}
 use Rattle.records.specs.Finding.{right}
 use Rattle.records.specs.Finding.{refused as Finding·refused}
-use Rattle.records.specs.Kinds.{typeOf, heads, opens}
+use Rattle.records.specs.Kinds.{opens}
 use Rattle.records.specs.Limits.{countLimit, centsLimit}
 use Rattle.records.specs.declared.kind.Kind.{Kind}
 use Rattle.records.specs.declared.kind.Kind.the-variants.{R14}
 use Rattle.records.proofs.ByKind.{types-differ, type-said}
 use Rattle.flow.specs.Judge.{go}
-use Rattle.flow.specs.Order.{permitted, mayClose}
 use Rattle.flow.specs.Steps.{start, opened, step, latestOf, latest, judgeRecord, stopped}
-use Rattle.flow.specs.Verdict.{accepted, refused}
+use Rattle.flow.specs.Verdict.{refused}
 use Rattle.flow.specs.declared.walk.Walk.{Walk}
 use Rattle.flow.proofs.Cut.{Whole, flatten-length}
 use Rattle.flow.proofs.Exact.{right-typed}
 use Rattle.flow.proofs.Reading.{Reading, begin, go-on, refuse, finish}
 use Rattle.list.specs.Encode.{carriedAt, headerBehind, lastHeader, dispositionsOf, centsOf, encodeItem, encodeFrom, recordsFor, trailerFor, encode}
-use Rattle.list.specs.Items.{Item, item, Proper, items, itemsFrom, parse, itemsIn, Listed}
-use Rattle.list.specs.Table.{carried, bodyLength, hasItem, kindOf}
+use Rattle.list.specs.Items.{Item, item, Proper, items, itemsFrom, itemsIn, Listed}
+use Rattle.list.specs.Table.{carried, bodyLength, kindOf}
 use Rattle.list.specs.Write.{closed, judgeItems}
 use Rattle.list.proofs.Carried.{inOne}
 use Rattle.list.proofs.Encoded.{encoded-length, encoded-type, encoded-at}

@@ -1,17 +1,16 @@
 -- A list that is accepted encodes a flow that the reader accepts with the same numbers, and whose list is the list written. Assumes
 -- nothing.
-use Prim.Native.Nat.{ℕ, suc, _+_, _*_, _^_, _≤_, _<_}
+use Prim.Native.Nat.{ℕ, suc, _+_, _*_, _≤_}
 use mathlib.Core.Bool.{Bool, true, false, cond, true≢false}
-use mathlib.Core.List.{List, [], _∷_, _++_, append-nil, map-append, flatten, nil≢cons, head-eq-of-cons-eq}
+use mathlib.Core.List.{List, [], _∷_, _++_, map-append, flatten, nil≢cons, head-eq-of-cons-eq}
 use mathlib.Core.Logic.{_⊎_, inl, inr, ⊎-elim}
 use mathlib.Core.Path.{_≡_, refl, sym, _∙_, ap, subst}
 use native.Mathlib.Omega.{arith}
 use lib.Dec.{leb}
 use lib.ListN.{length, take, length-append, length-map}
-use lib.Seq.{take-at, take-append-le}
+use lib.Seq.{take-at}
 use borrow.Author.Tests.{leb-true}
 use Rattle.sequences.specs.All.{All}
-use Rattle.sequences.proofs.Flatten.{flatten-append}
 use Rattle.records.specs.Checks.{checks}
 use Rattle.records.specs.Constants.{currency}
 use Rattle.records.specs.Context.{headerOf}
@@ -23,9 +22,9 @@ use Rattle.records.specs.declared.kind.Kind.the-variants.{Im, Ef}
 use Rattle.records.proofs.EachKind.{each-kind}
 use Rattle.flow.specs.Judge.{ended, judge}
 use Rattle.flow.specs.Order.{permitted, mayClose, place}
-use Rattle.flow.specs.Records.{RightLength, recordsOf}
+use Rattle.flow.specs.Records.{RightLength}
 use Rattle.flow.specs.Steps.{start, opened}
-use Rattle.flow.specs.Verdict.{Verdict, accepted, refused}
+use Rattle.flow.specs.Verdict.{accepted, refused}
 use Rattle.flow.specs.declared.order.Due.the-variants.{OnlyIm}
 use Rattle.flow.specs.declared.walk.Walk.{Walk}
 use Rattle.flow.proofs.Accepted.{accepted-not-refused}
@@ -37,7 +36,7 @@ use Rattle.grammar.proofs.FirstFault.{judgeFrom, judged, ends-so}
 use Rattle.grammar.proofs.Order.{Allowed}
 use Rattle.grammar.proofs.Rules.{header-rules}
 use Rattle.grammar.proofs.Walked.{Walked, stateBehind, codeBehind, walked-append, walked-allowed, state-append}
-use Rattle.list.specs.Encode.{carriedAt, headerBehind, lastHeader, dispositionsOf, centsOf, encodeItem, encodeFrom, recordsFor, trailerFor, encode}
+use Rattle.list.specs.Encode.{carriedAt, lastHeader, dispositionsOf, centsOf, encodeItem, encodeFrom, recordsFor, trailerFor, encode}
 use Rattle.list.specs.Items.{Item, Proper, listBytes, Parsed, items, faulty, parse, itemsOr, itemsIn}
 use Rattle.list.specs.Laws.{WrittenExact}
 use Rattle.list.specs.ReadBack.{listOf}

@@ -1,9 +1,9 @@
 -- `list::encode_item` meets its contract. Assumes nothing.
 use Prim.Native.Nat.{_≤_}
 use mathlib.Core.Path.{refl}
-use lib.ListN.{length}
+use native.Mathlib.Omega.{arith}
+use lib.ListN.{length, length-take}
 use borrow.Author.Needs.{needs}
-use Rattle.sequences.proofs.Part.{part-at-most}
 use Rattle.list.specs.Encode.{encodeItem}
 use Rattle.list.proofs.encode.encode_item.Statement.{statement}
 use Rattle.list.proofs.encode.encode_item.Tie as tie
@@ -17,7 +17,7 @@ field-requires c κs = search needs
 fill-item-requires : tie.Need-fill-item-requires
 fill-item-requires c κs =
     let at = c .before .before .before .before in
-    let short : length (c .field .result .now) ≤ 5 = rw (c .field .ensures) (part-at-most 5 5 (at .args .header .now)) in
+    let short : length (c .field .result .now) ≤ 5 = rw (c .field .ensures, length-take) (omega arith) in
     (refl, (short, at .pre))
 
 returns : tie.Need-returns

@@ -2,6 +2,7 @@
 use mathlib.Core.Bool.{true, false}
 use mathlib.Core.Path.{_≡_, sym, _∙_}
 use native.Mathlib.Numerals.{add-one}
+use native.Mathlib.Omega.{arith}
 use lib.Dec.{leb}
 use borrow.Author.Needs.{needs}
 use borrow.Author.Tests.{not-true, not-false, le-leb, lt-leb}
@@ -23,7 +24,7 @@ returns c =
 returns-2 : tie.Need-returns-2
 returns-2 c =
     let due : mayClose (permitted (c .before .before .before .before .args .walk .place .due)) ≡ true = sym (c .before .before .before .may-close .ensures) ∙ not-false _ (c .before .before .if1 .left) in
-    let over : leb (c .before .before .before .before .args .walk .cents) 999999999999999 ≡ false = lt-leb _ _ (c .if2 .taken) in
+    let over : leb (c .before .before .before .before .args .walk .cents) 999999999999999 ≡ false = lt-leb (c .before .before .before .before .args .walk .cents) 999999999999999 (omega (arith, c .if2 .taken)) in
     rw (due, over)
 
 add-t6 : tie.Need-add-t6
@@ -32,7 +33,7 @@ add-t6 c = search needs
 returns-3 : tie.Need-returns-3
 returns-3 c =
     let due : mayClose (permitted (c .before .before .before .before .args .walk .place .due)) ≡ true = sym (c .before .before .before .may-close .ensures) ∙ not-false _ (c .before .before .if1 .left) in
-    let small : leb (c .before .before .before .before .args .walk .cents) 999999999999999 ≡ true = le-leb _ _ (c .if2 .left) in
+    let small : leb (c .before .before .before .before .args .walk .cents) 999999999999999 ≡ true = le-leb (c .before .before .before .before .args .walk .cents) 999999999999999 (omega (arith, c .if2 .left)) in
     rw (due, small, add-one)
 
 pub close-spec : {M : Type 1} → statement M

@@ -16,7 +16,7 @@ add-result c = search needs
 returns : tie.Need-returns
 returns c =
     let one : opens (c .before .before .args .kind) ≡ true = sym (c .before .opens .ensures) ∙ c .if1 .taken in
-    rw one
+    rw one (omega arith)
 
 returns-2 : tie.Need-returns-2
 returns-2 c =

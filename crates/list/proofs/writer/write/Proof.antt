@@ -1,5 +1,5 @@
 -- `list::write` meets its contract. Assumes nothing.
-use Prim.Native.Nat.{ℕ, suc, _*_, _≤_}
+use Prim.Native.Nat.{ℕ, _*_}
 use mathlib.Core.List.{List}
 use mathlib.Core.Path.{_≡_, sym, _∙_, ap}
 use native.Mathlib.Omega.{arith}
@@ -10,7 +10,7 @@ use Rattle.flow.specs.Verdict.{accepted, refused, verdict}
 use Rattle.list.specs.Encode.{encode}
 use Rattle.list.specs.Items.{Proper, items, parse, itemsIn, Listed}
 use Rattle.list.specs.Laws.{Fitting, no-item, too-many, no-room}
-use Rattle.list.specs.Write.{judgeItems, judgeList}
+use Rattle.list.specs.Write.{judgeItems}
 use Rattle.list.proofs.Answered.{items-counted, faulty-counted, write-refuses, write-accepts}
 use Rattle.list.proofs.Encoding.{encode-length}
 use Rattle.list.proofs.ListItems.{items-exact, faulty-exact}

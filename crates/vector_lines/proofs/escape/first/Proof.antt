@@ -1,5 +1,4 @@
 -- `vector_lines::escape::first` meets its contract: each test decides the definition's. Assumes nothing.
-use native.Mathlib.Omega.{arith}
 use borrow.Author.Needs.{needs}
 use borrow.Author.Tests.{le-leb, lt-leb, eq-eqb, ne-eqb}
 use Rattle.vector_lines.specs.Escapes.{escapedByte}
