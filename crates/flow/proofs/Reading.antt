@@ -29,7 +29,7 @@ pub begin : (end : Walk → ℕ → Verdict) (header : Header) (all : List (List
 begin end header all = record { exact = start; stops = refl; final = λ e. refl; few = omega arith; left = refl }
 
 -- a record opens one disposition at the most
-one-at-most : (k : Kind) → opened k ≤ 1
+pub one-at-most : (k : Kind) → opened k ≤ 1
 one-at-most k = by (opens k) refl
   where
     by : (b : Bool) → opens k ≡ b → opened k ≤ 1

@@ -18,4 +18,5 @@ pub use order::Due;
 pub use order::Place;
 pub use reader::latest_company;
 pub use reader::read;
+pub use walk::WRONG_TYPE;
 pub use walk::Walk;

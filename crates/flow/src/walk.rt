@@ -34,7 +34,7 @@ const CENTS_LIMIT: u64 = 1000000000000000;
 // Document 01, "Numbers a clerk may see".
 const BAD_BYTE: u64 = 2;
 
-const WRONG_TYPE: u64 = 3;
+pub const WRONG_TYPE: u64 = 3;
 
 impl Walk {
     // Before the header.

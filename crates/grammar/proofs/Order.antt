@@ -8,8 +8,11 @@ use native.Mathlib.Omega.{arith}
 use lib.Dec.{ltb}
 use lib.ListN.{drop, replicate}
 use borrow.Author.Tests.{ltb-true, ltb-false}
+use Rattle.sequences.specs.All.{All}
+use Rattle.records.specs.Kinds.{heads, closes}
 use Rattle.records.specs.declared.kind.Kind.{Kind}
 use Rattle.records.specs.declared.kind.Kind.the-variants.{Im, R14, R16, R20, R30, R40, R50, R59, R51, R70, Ef}
+use Rattle.records.proofs.EachKind.{each-kind}
 use Rattle.flow.specs.Order.{permitted, place, placeAfter}
 use Rattle.flow.specs.declared.order.Due.{Due}
 use Rattle.flow.specs.declared.order.Due.the-variants.{OnlyIm, OnlyR14, R16OrR20, OnlyR20, OnlyR30, OnlyR40, R50OrR59, R59OrR51, OnlyR51, OnlyR70, R14OrEf, Nothing}
@@ -244,3 +247,46 @@ pub went-on : (ks : List Kind) (k : Kind) (rest : List Kind) → InOrder (ks ++ 
 went-on ks k rest o =
     let a = order-runs o .0 in
     (allowed-before (place OnlyIm) ks (k ∷ rest) a, allowed-behind (place OnlyIm) ks (k ∷ rest) a .0)
+
+-- a flow has one header, and it comes first
+no-header : (ks : List Kind) (l : Kind) → All (λ (k : Kind). heads k ≡ false) ks → In l ks → heads l ≡ false
+no-header [] l none h = absurd h
+no-header (k ∷ ks) l none (inl e) = ap heads e ∙ none .0
+no-header (k ∷ ks) l none (inr h) = no-header ks l (none .1) h
+
+none-permitted : (m : ℕ) (k : Kind) → All (λ (l : Kind). heads l ≡ false) (permitted (placeAfter m k .due))
+none-permitted m Im = (refl, tt)
+none-permitted m R14 = (refl, (refl, tt))
+none-permitted m R16 = (refl, tt)
+none-permitted m R20 = (refl, tt)
+none-permitted m R30 = (refl, tt)
+none-permitted m R40 = (refl, (refl, tt))
+none-permitted m R50 = (refl, tt)
+none-permitted m R59 = by (ltb m 4)
+  where
+    by : (b : Bool) → All (λ (l : Kind). heads l ≡ false) (permitted (cond b (record { due = R59OrR51; further = suc m }) (place OnlyR51) .due))
+    by true = (refl, (refl, tt))
+    by false = (refl, tt)
+none-permitted m R51 = (refl, tt)
+none-permitted m R70 = (refl, (refl, tt))
+none-permitted m Ef = tt
+
+later-not-header : (m : ℕ) (k : Kind) (ks : List Kind) → Allowed (placeAfter m k) ks → All (λ (l : Kind). heads l ≡ false) ks
+later-not-header m k [] allowed = tt
+later-not-header m k (l ∷ ks) allowed = (no-header (permitted (placeAfter m k .due)) l (none-permitted m k) (allowed .0), later-not-header (placeAfter m k .further) l ks (allowed .1))
+
+pub header-only-first : (k : Kind) (ks : List Kind) → Allowed (place OnlyIm) (k ∷ ks) → (k ≡ Im) × All (λ (l : Kind). heads l ≡ false) ks
+header-only-first k ks allowed = (first (allowed .0), later-not-header 0 k ks (allowed .1))
+  where
+    first : In k (Im ∷ []) → k ≡ Im
+    first (inl e) = e
+    first (inr h) = absurd h
+
+-- no record but the last is an EF
+open-behind : (m : ℕ) (l k : Kind) → In l (permitted (placeAfter m k .due)) → closes k ≡ false
+open-behind m l = each-kind (λ (k : Kind). In l (permitted (placeAfter m k .due)) → closes k ≡ false) (λ h. refl, (λ h. refl, (λ h. refl, (λ h. refl, (λ h. refl, (λ h. refl, (λ h. refl, (λ h. refl, (λ h. refl, (λ h. refl, (λ h. absurd h, tt)))))))))))
+
+pub all-open : (p : Place) (ks : List Kind) (l : Kind) → Allowed p (ks ++ (l ∷ [])) → All (λ (k : Kind). closes k ≡ false) ks
+all-open p [] l allowed = tt
+all-open p (k ∷ []) l allowed = (open-behind (p .further) l k (allowed .1 .0), tt)
+all-open p (k ∷ m ∷ ks) l allowed = (open-behind (p .further) m k (allowed .1 .0), all-open (placeAfter (p .further) k) (m ∷ ks) l (allowed .1))

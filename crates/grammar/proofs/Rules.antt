@@ -1,10 +1,10 @@
 -- The table of checks as tests and as statements, row by row: the checks of a record hold exactly where what the table says is true of it.
 -- Assumes nothing.
-use Prim.Native.Nat.{ℕ, suc, _+_, _≤_}
+use Prim.Native.Nat.{ℕ, suc, _+_, _^_, _≤_, _<_}
 use mathlib.Core.Bool.{Bool, true, false, not, _&&_, _||_, and-eq-true-iff, false≢true}
 use mathlib.Core.List.{List, [], _∷_, _++_, List·Memᴰ, List·Memᴰ·head, List·Memᴰ·tail, List·Memᴰ·not-nil, List·Memᴰ·cases-cons}
 use mathlib.Core.Logic.{_↔_, _⊎_, inl, inr, ⊎-elim, Iff·rfl, Iff·trans, Iff·and}
-use mathlib.Core.Path.{_≡_, refl, _∙_, ap}
+use mathlib.Core.Path.{_≡_, refl, sym, _∙_, ap, subst}
 use native.Mathlib.Omega.{arith}
 use lib.Dec.{leb, eqb}
 use lib.ListN.{length}
@@ -16,8 +16,9 @@ use Rattle.sequences.proofs.Every.{all-every}
 use Rattle.fields.specs.Bytes.{isBlankByte, isBlank}
 use Rattle.fields.specs.Calendar.{Gregorian}
 use Rattle.fields.specs.Date.{dayOf}
-use Rattle.fields.specs.Digits.{isDigit, isDigits, number}
+use Rattle.fields.specs.Digits.{isDigit, isDigits, number, digits}
 use Rattle.fields.proofs.Bytes.{equal-exact}
+use Rattle.fields.proofs.Decimal.{number-below, written-digits, written-read-fits, read-written}
 use Rattle.fields.proofs.Gregorian.{day-said, day-tested}
 use Rattle.records.specs.Bytes.{isPrintable, badFrom, badByte}
 use Rattle.records.specs.Checks.{isPresent, isDate, isListed, agrees, numberChecks, dispositionChecks, coordinatesChecks, checks}
@@ -28,7 +29,7 @@ use Rattle.records.specs.Finding.{Check, check, Hold}
 use Rattle.records.specs.declared.kind.Kind.{Kind}
 use Rattle.records.specs.declared.kind.Kind.the-variants.{Im, R14, R16, R20, R30, R40, R50, R59, R51, R70, Ef}
 use Rattle.records.proofs.Printable.{no-bad-byte}
-use Rattle.grammar.specs.Rules.{Digits, Blank, Present, Printable, HeaderRules, DispositionRules, CoordinatesRules, BesideNumber, MemberRules, TrailerRules}
+use Rattle.grammar.specs.Rules.{Digits, Blank, Present, Says, Printable, HeaderRules, DispositionRules, CoordinatesRules, BesideNumber, MemberRules, TrailerRules}
 
 -- tests joined, and what they say
 either : {A B : Type 0} {a b : Bool} → (a ≡ true) ↔ A → (b ≡ true) ↔ B → ((a || b) ≡ true) ↔ (A ⊎ B)
@@ -271,3 +272,25 @@ trailer-rules ctx rec =
           record { mittente = m; ricevente = r; created = d; name = n; dispositions-said = (a, b); cents-said = (e, f); zeros = (g, h); records-said = (j, k); currency-code = c },
       λ h. (h .mittente, (h .ricevente, (h .created, (h .name, (h .dispositions-said .0, (h .dispositions-said .1, (h .cents-said .0, (h .cents-said .1, (h .zeros .0, (h .zeros .1, (h .records-said .0, (h .records-said .1, (h .currency-code, tt))))))))))))),
     )
+
+-- the digits of a number that a field says are the field
+pub says-digits : (w v : ℕ) (bs : List ℕ) → length bs ≡ w → Says v bs → bs ≡ digits w v
+says-digits w v bs size said =
+    sym (read-written bs (digits-exact bs .1 (said .0))) ∙ (λ i. digits (size i) (said .1 i))
+
+-- a field of w digits says a number of w digits
+pub said-below : (w v : ℕ) (bs : List ℕ) → length bs ≡ w → Says v bs → v < 10 ^ w
+said-below w v bs size said =
+    let small : number bs < 10 ^ length bs = number-below bs (digits-exact bs .1 (said .0)) in
+    subst (λ (m : ℕ). v < 10 ^ m) size (subst (λ (m : ℕ). m < 10 ^ length bs) (said .1) small)
+
+-- a number written in enough digits says it
+pub says-written : (w v : ℕ) → v < 10 ^ w → Says v (digits w v)
+says-written w v small = (digits-exact (digits w v) .0 (written-digits w v), written-read-fits w v small)
+
+pub digits-printable : (bs : List ℕ) → Digits bs → All Printable bs
+digits-printable [] ds = tt
+digits-printable (b ∷ bs) ds =
+    let low = ds .0 .0 in
+    let high = ds .0 .1 in
+    ((omega arith, omega arith), digits-printable bs (ds .1))

@@ -18,7 +18,7 @@ use Rattle.records.proofs.Checked.{field-within}
 use Rattle.list.specs.Encode.{fill, bodyPlaced, indexIn}
 use Rattle.list.specs.ReadBack.{gather}
 use Rattle.list.proofs.Placing.{Fits, Outside, Matches, fill-outside}
-use Rattle.list.proofs.Spans.{first, Within, Rising}
+use Rattle.list.proofs.TableSpans.{first, Within, Rising}
 
 -- a body as long as the spans: what of it goes to the first, and the rest
 pub split-first : (s : Span) (ss : List Span) (body : List ℕ) → sum (map width (s ∷ ss)) ≡ length body → (length (take (width s) body) ≡ width s) × (sum (map width ss) ≡ length (drop (width s) body))

@@ -13,7 +13,7 @@ use Rattle.records.specs.declared.kind.Kind.{Kind}
 use Rattle.list.specs.Encode.{Placed, place, fill, bodyPlaced}
 use Rattle.list.specs.Table.{carried, fourOf}
 use Rattle.list.proofs.Placing.{fill-append}
-use Rattle.list.proofs.Spans.{four-padded}
+use Rattle.list.proofs.TableSpans.{four-padded}
 
 -- a run of the code that fills the places in order: `out` is what it leaves of the record
 pub record Fills (ps : List Placed) (rec out : List ℕ) : Type 0 where

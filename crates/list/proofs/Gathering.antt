@@ -17,7 +17,7 @@ use Rattle.records.proofs.EachKind.{each-kind}
 use Rattle.list.specs.ReadBack.{gather}
 use Rattle.list.specs.Table.{carried, bodyLength, fourOf, boundsOf}
 use Rattle.list.proofs.Carried.{span-length, gather-length}
-use Rattle.list.proofs.Spans.{Within, spanAt, carried-within, four-within, four-widths, four-next}
+use Rattle.list.proofs.TableSpans.{Within, spanAt, carried-within, four-within, four-widths, four-next}
 
 -- no body is longer than the positions behind a record's number
 pub body-at-most : (k : Kind) → bodyLength k ≤ 110

@@ -5,7 +5,6 @@ use mathlib.Core.List.{List, [], _∷_, _++_, map, flatten}
 use mathlib.Core.Logic.{_⊎_, inl, inr}
 use mathlib.Core.Path.{_≡_, refl, sym, _∙_, ap, subst}
 use native.Mathlib.Omega.{arith}
-use lib.Dec.{ltb}
 use lib.ListN.{length, take, length-map}
 use Rattle.sequences.specs.All.{All}
 use Rattle.sequences.proofs.All.{all-at}
@@ -14,30 +13,28 @@ use Rattle.records.specs.Context.{headerOf}
 use Rattle.records.specs.Field.{field}
 use Rattle.records.specs.Kinds.{hasType, heads, opens, closes}
 use Rattle.records.specs.declared.kind.Kind.{Kind}
-use Rattle.records.specs.declared.kind.Kind.the-variants.{Im, R14, R16, R20, R30, R40, R50, R59, R51, R70, Ef}
+use Rattle.records.specs.declared.kind.Kind.the-variants.{R14, Ef}
 use Rattle.records.proofs.ByKind.{type-tested, opens-type}
-use Rattle.records.proofs.EachKind.{each-kind}
+use Rattle.records.proofs.EachKind.{opens-14, closes-ef}
 use Rattle.flow.specs.Judge.{go}
-use Rattle.flow.specs.Order.{permitted, mayClose, place, placeAfter}
+use Rattle.flow.specs.Order.{mayClose}
 use Rattle.flow.specs.Steps.{start, opened}
 use Rattle.flow.specs.Sums.{dispositionsOf as Sums·dispositionsOf, centsOf as Sums·centsOf}
 use Rattle.flow.specs.Verdict.{refused}
-use Rattle.flow.specs.declared.order.Due.the-variants.{OnlyIm, R59OrR51, OnlyR51}
 use Rattle.flow.proofs.Among.{In}
 use Rattle.flow.proofs.Cut.{Whole}
 use Rattle.grammar.specs.Fault.{HaveKinds}
 use Rattle.grammar.specs.Grammar.{Typed, kindsOf, recordsIn}
 use Rattle.grammar.proofs.Behind.{FromStart, FaultNext, formed-so, same-kinds}
 use Rattle.grammar.proofs.FirstFault.{ends-so, stops-so}
-use Rattle.grammar.proofs.Order.{Allowed}
 use Rattle.grammar.proofs.Walked.{stateBehind, state-counts, Outcome, all-right, stops, outcome}
 use Rattle.list.specs.Encode.{carriedAt, headerBehind, lastHeader, dispositionsOf, amountOf, centsOf, encodeItem, encodeFrom, recordsFor}
 use Rattle.list.specs.Items.{Item, Proper}
 use Rattle.list.specs.Table.{carried}
 use Rattle.list.specs.Write.{closed, judgeItems}
 use Rattle.list.proofs.Carried.{inOne}
-use Rattle.list.proofs.Encoded.{encoded-type, encoded-at}
-use Rattle.list.proofs.Encoding.{encoded-whole, encoded-count}
+use Rattle.list.proofs.OneRecord.{encoded-type, encoded-at}
+use Rattle.list.proofs.AllRecords.{encoded-whole, encoded-count}
 
 -- the records together
 abbrev pub front : List Item → List ℕ
@@ -61,6 +58,9 @@ pub record FaultyItems (is : List Item) : Type 0 where
   pub whole : length rec ≡ 120
   pub fault : FaultNext (front is) typed rec number position
 
+pub typed-count : (is : List Item) (rs : List Typed) → recordsIn rs ≡ recordsFor is → length rs ≡ length is
+typed-count is rs same = sym (length-map rs (λ (r : Typed). r .bytes)) ∙ ap (λ (l : List (List ℕ)). length l) same ∙ encoded-count 0 [] is
+
 module _ (is : List Item) (proper : All Proper is) where
   pub view-items : RightItems is ⊎ FaultyItems is
   view-items = by refl (encoded-whole 0 [] is proper) (outcome (headerOf (take 120 (front is))) start [] 0 (recordsFor is) (encoded-whole 0 [] is proper))
@@ -70,36 +70,30 @@ module _ (is : List Item) (proper : All Proper is) where
       by same whole (stops rs rec rest m p walked fault) =
           inr (record { typed = rs; rec = rec; rest = rest; number = m; position = p; same = same; walked = walked; whole = all-at (λ (l : List ℕ). length l ≡ 120) (recordsIn rs) rec rest whole; fault = fault })
 
-  typed-count : (rs : List Typed) → recordsIn rs ≡ recordsFor is → length rs ≡ length is
-  typed-count rs same = sym (length-map rs (λ (r : Typed). r .bytes)) ∙ ap (λ (l : List (List ℕ)). length l) same ∙ encoded-count 0 [] is
-
   -- what is answered then
   pub right-judged : (r : RightItems is) → judgeItems is ≡ closed (stateBehind start (r .typed)) (length is)
   unfolding judgeItems
-  right-judged r = ap (λ (recs : List (List ℕ)). go closed (headerOf (take 120 (front is))) start [] 0 recs) (sym (r .same)) ∙ ends-so closed (front is) (r .typed) (r .walked) ∙ ap (closed (stateBehind start (r .typed))) (typed-count (r .typed) (r .same))
+  right-judged r = ap (λ (recs : List (List ℕ)). go closed (headerOf (take 120 (front is))) start [] 0 recs) (sym (r .same)) ∙ ends-so closed (front is) (r .typed) (r .walked) ∙ ap (closed (stateBehind start (r .typed))) (typed-count is (r .typed) (r .same))
 
   pub faulty-judged : (r : FaultyItems is) → judgeItems is ≡ refused (r .number) (suc (length (recordsIn (r .typed)))) (r .position)
   unfolding judgeItems
   faulty-judged r = ap (λ (recs : List (List ℕ)). go closed (headerOf (take 120 (front is))) start [] 0 recs) (r .same) ∙ stops-so closed (front is) (r .typed) (r .walked) (r .rec) (r .rest) (r .number) (r .position) (r .whole) (r .fault)
 
 -- the kinds of the records are those of the items
-kinds-had : (n : ℕ) (header : List ℕ) (is : List Item) → All Proper is → HaveKinds (map (λ (it : Item). it .kind) is) (encodeFrom n header is)
+abbrev pub kindsIn : List Item → List Kind
+kindsIn is = map (λ (it : Item). it .kind) is
+
+kinds-had : (n : ℕ) (header : List ℕ) (is : List Item) → All Proper is → HaveKinds (kindsIn is) (encodeFrom n header is)
 unfolding encodeFrom
 kinds-had n header [] proper = refl
 kinds-had n header (it ∷ is) proper =
     let number = n + opened (it .kind) in
     λ i. sym (encoded-type number header it (proper .0)) i ∷ kinds-had number (headerBehind header it) is (proper .1) i
 
-abbrev pub kindsIn : List Item → List Kind
-kindsIn is = map (λ (it : Item). it .kind) is
-
 pub right-kinds : (is : List Item) → All Proper is → (r : RightItems is) → kindsIn is ≡ kindsOf (r .typed)
 right-kinds is proper r = same-kinds (front is) (r .typed) (r .walked) (kindsIn is) (subst (HaveKinds (kindsIn is)) (sym (r .same)) (kinds-had 0 [] is proper))
 
 -- their sums are those of the items
-pub opens-14 : (k : Kind) → opens k ≡ true → k ≡ R14
-opens-14 = each-kind (λ (k : Kind). opens k ≡ true → k ≡ R14) (λ e. absurd (true≢false (sym e)), (λ e. refl, (λ e. absurd (true≢false (sym e)), (λ e. absurd (true≢false (sym e)), (λ e. absurd (true≢false (sym e)), (λ e. absurd (true≢false (sym e)), (λ e. absurd (true≢false (sym e)), (λ e. absurd (true≢false (sym e)), (λ e. absurd (true≢false (sym e)), (λ e. absurd (true≢false (sym e)), (λ e. absurd (true≢false (sym e)), tt)))))))))))
-
 pub encoded-amount : (n : ℕ) (header : List ℕ) (it : Item) → Proper it → cond (opens (it .kind)) (number (field 34 46 (encodeItem n header it))) 0 ≡ amountOf it
 encoded-amount n header it proper = by (opens (it .kind)) refl
   where
@@ -132,15 +126,12 @@ right-sums is proper r =
     (omega arith, omega arith)
 
 -- EF may follow, as the test says it and as the place does
-closes-ef : (k : Kind) → closes k ≡ true → Ef ≡ k
-closes-ef = each-kind (λ (k : Kind). closes k ≡ true → Ef ≡ k) (λ e. absurd (true≢false (sym e)), (λ e. absurd (true≢false (sym e)), (λ e. absurd (true≢false (sym e)), (λ e. absurd (true≢false (sym e)), (λ e. absurd (true≢false (sym e)), (λ e. absurd (true≢false (sym e)), (λ e. absurd (true≢false (sym e)), (λ e. absurd (true≢false (sym e)), (λ e. absurd (true≢false (sym e)), (λ e. absurd (true≢false (sym e)), (λ e. refl, tt)))))))))))
-
 pub close-said : (ks : List Kind) → mayClose ks ≡ true → In Ef ks
 close-said [] t = absurd (true≢false (sym t))
 close-said (k ∷ ks) t = by (closes k) refl t (close-said ks)
   where
     by : (b : Bool) → closes k ≡ b → (b || mayClose ks) ≡ true → (mayClose ks ≡ true → In Ef ks) → In Ef (k ∷ ks)
-    by true e t rest = inl (closes-ef k e)
+    by true e t rest = inl (sym (closes-ef k e))
     by false e t rest = inr (rest t)
 
 pub close-tested : (ks : List Kind) → In Ef ks → mayClose ks ≡ true
@@ -152,41 +143,7 @@ close-tested (k ∷ ks) (inr h) = by (closes k) (close-tested ks h)
     by true t = refl
     by false t = t
 
--- a flow has one header, and it comes first
-no-header : (ks : List Kind) (l : Kind) → All (λ (k : Kind). heads k ≡ false) ks → In l ks → heads l ≡ false
-no-header [] l none h = absurd h
-no-header (k ∷ ks) l none (inl e) = ap heads e ∙ none .0
-no-header (k ∷ ks) l none (inr h) = no-header ks l (none .1) h
-
-none-permitted : (m : ℕ) (k : Kind) → All (λ (l : Kind). heads l ≡ false) (permitted (placeAfter m k .due))
-none-permitted m Im = (refl, tt)
-none-permitted m R14 = (refl, (refl, tt))
-none-permitted m R16 = (refl, tt)
-none-permitted m R20 = (refl, tt)
-none-permitted m R30 = (refl, tt)
-none-permitted m R40 = (refl, (refl, tt))
-none-permitted m R50 = (refl, tt)
-none-permitted m R59 = by (ltb m 4)
-  where
-    by : (b : Bool) → All (λ (l : Kind). heads l ≡ false) (permitted (cond b (record { due = R59OrR51; further = suc m }) (place OnlyR51) .due))
-    by true = (refl, (refl, tt))
-    by false = (refl, tt)
-none-permitted m R51 = (refl, tt)
-none-permitted m R70 = (refl, (refl, tt))
-none-permitted m Ef = tt
-
-later-not-header : (m : ℕ) (k : Kind) (ks : List Kind) → Allowed (placeAfter m k) ks → All (λ (l : Kind). heads l ≡ false) ks
-later-not-header m k [] allowed = tt
-later-not-header m k (l ∷ ks) allowed = (no-header (permitted (placeAfter m k .due)) l (none-permitted m k) (allowed .0), later-not-header (placeAfter m k .further) l ks (allowed .1))
-
-pub header-first : (k : Kind) (ks : List Kind) → Allowed (place OnlyIm) (k ∷ ks) → (k ≡ Im) × All (λ (l : Kind). heads l ≡ false) ks
-header-first k ks allowed = (first (allowed .0), later-not-header 0 k ks (allowed .1))
-  where
-    first : In k (Im ∷ []) → k ≡ Im
-    first (inl e) = e
-    first (inr h) = absurd h
-
--- so the header meant stays the first
+-- the header meant stays the first
 pub header-stays : (header : List ℕ) (is : List Item) → All (λ (k : Kind). heads k ≡ false) (kindsIn is) → lastHeader header is ≡ header
 unfolding lastHeader
 header-stays header [] none = refl

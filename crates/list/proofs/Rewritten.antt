@@ -1,107 +1,344 @@
--- An accepted flow's own list, written again: it is accepted with the same numbers, and its records are like the flow's at every position
--- that is checked. Assumes nothing.
-use Prim.Native.Nat.{ℕ, zero, suc, _+_, _<_}
-use mathlib.Core.Bool.{Bool, true, false, cond}
-use mathlib.Core.List.{List, [], _∷_, _++_, map}
+-- An accepted flow and its own list: written again the list is accepted with the same numbers, and what it encodes is like the flow at
+-- every position that is checked. Assumes nothing.
+use Prim.Native.Nat.{ℕ, suc, _+_, _*_, _/_, _≤_, _<_}
+use mathlib.Core.Bool.{true, false, not, true≢false}
+use mathlib.Core.List.{List, [], _∷_, _++_, append-nil, map, map-append, map-map, dropLast, flatten}
 use mathlib.Core.Path.{_≡_, refl, sym, _∙_, ap, subst}
-use native.Mathlib.Nat.{le-of-suc-le-suc, not-suc-le-zero}
-use lib.ListN.{length, getD}
+use native.Mathlib.Omega.{arith}
+use lib.Dec.{leb}
+use lib.ListN.{length, take, getD, length-map, length-append}
+use lib.Seq.{take-at}
+use borrow.Author.Tests.{le-leb}
 use Rattle.sequences.specs.All.{All}
+use Rattle.sequences.specs.Part.{part}
+use Rattle.sequences.proofs.All.{all-before}
+use Rattle.sequences.proofs.DropLast.{dropLast-append}
+use Rattle.sequences.proofs.Flatten.{flatten-append}
+use Rattle.sequences.proofs.Part.{part-length, part-put}
+use Rattle.fields.specs.Digits.{number}
 use Rattle.records.specs.Checked.{checked, Alike}
-use Rattle.records.specs.Context.{Header}
+use Rattle.records.specs.Context.{Header, headerOf, headed}
 use Rattle.records.specs.Field.{field}
-use Rattle.records.specs.Judge.{asked}
-use Rattle.records.specs.Kinds.{typeOf, heads}
+use Rattle.records.specs.Kinds.{typeOf, heads, closes}
 use Rattle.records.specs.declared.kind.Kind.{Kind}
-use Rattle.records.specs.declared.kind.Kind.the-variants.{Im}
-use Rattle.records.proofs.ByKind.{types-differ}
-use Rattle.records.proofs.EachKind.{each-kind}
-use Rattle.flow.specs.Order.{permitted, placeAfter}
-use Rattle.flow.specs.Steps.{opened, counted, step, latest}
-use Rattle.flow.specs.declared.order.Place.{Place}
+use Rattle.records.specs.declared.kind.Kind.the-variants.{Im, Ef}
+use Rattle.flow.specs.Judge.{judge}
+use Rattle.flow.specs.Order.{permitted, mayClose, place}
+use Rattle.flow.specs.Records.{recordAt, recordsOf}
+use Rattle.flow.specs.Steps.{start, opened, counted, step}
+use Rattle.flow.specs.Verdict.{Verdict, accepted}
+use Rattle.flow.specs.declared.order.Due.the-variants.{OnlyIm}
 use Rattle.flow.specs.declared.walk.Walk.{Walk}
-use Rattle.flow.proofs.Among.{In}
-use Rattle.grammar.specs.Grammar.{Typed, kindsOf, recordsIn}
-use Rattle.grammar.proofs.Order.{Allowed}
-use Rattle.grammar.proofs.Walked.{stateBehind, Walked, AllFormed}
-use Rattle.list.specs.Encode.{carriedAt, encodeItem, encodeFrom}
-use Rattle.list.specs.Items.{Item, item, Proper}
-use Rattle.list.specs.ReadBack.{gather}
-use Rattle.list.specs.Table.{carried, hasItem}
-use Rattle.list.proofs.Again.{again-alike, again-right, own-proper, alike-asked, alike-latest}
+use Rattle.flow.proofs.Accepted.{accepted-exact}
+use Rattle.flow.proofs.Cut.{cut-at}
+use Rattle.grammar.specs.Grammar.{Typed, kindsOf, recordsIn, Grammar}
+use Rattle.grammar.specs.Rules.{Says, Formed, TrailerRules}
+use Rattle.grammar.proofs.AtPlace.{asks, RightAt}
+use Rattle.grammar.proofs.Behind.{FromStart}
+use Rattle.grammar.proofs.Grammar.{grammar-exact, header-first, grammar-records, grammar-start}
+use Rattle.grammar.proofs.Order.{Allowed, header-only-first, all-open}
+use Rattle.grammar.proofs.Rules.{header-rules, trailer-rules, says-digits, said-below}
+use Rattle.grammar.proofs.Walked.{stateBehind, codeBehind, Walked, walked-append, walked-allowed, walked-formed, AllFormed}
+use Rattle.list.specs.Encode.{carriedAt, encodeItem, encodeFrom, encodeTrailer, lastHeader, dispositionsOf, centsOf, recordsFor, trailerFor, encode}
+use Rattle.list.specs.Items.{Item, item, Proper, listBytes, items, parse, itemsOr, itemsIn}
+use Rattle.list.specs.Laws.{OwnList, OwnItems, RewrittenExact, RewrittenSame, UncheckedOnly}
+use Rattle.list.specs.Output.{Output, output}
+use Rattle.list.specs.ReadBack.{gather, itemOf, itemsOf, listOf}
+use Rattle.list.specs.Table.{carried, hasItem, kindIn}
+use Rattle.list.specs.Write.{closed, judgeItems, judgeList, write}
+use Rattle.list.proofs.RecordAgain.{again-alike, again-right, own-proper}
+use Rattle.list.proofs.Carried.{gather-length, gather-at}
+use Rattle.list.proofs.AllRecords.{kind-in, encode-records, encode-length, encode-items}
+use Rattle.list.proofs.Judging.{front, RightItems, right-judged, right-sums, kindsIn, close-tested, header-stays}
+use Rattle.list.proofs.ListItems.{read-items}
+use Rattle.list.proofs.RecordsAgain.{ownItem, againFrom, Like, Again, again-walked, all-kinds, like-at, like-append}
+use Rattle.list.proofs.TableSpans.{carried-within}
+use Rattle.list.proofs.Trailer.{Meant, Counted, trailer-formed, trailer-keeps}
+use Rattle.list.proofs.WriteRefused.{fitting-judged}
 
--- the item of a record of a known kind
-abbrev pub ownItem : Typed → Item
-ownItem r = item (r .kind) (gather (carried (r .kind)) (r .bytes))
+-- two trailers of one header that say the same are alike
+trailers-alike : (h : Header) (d c n : ℕ) (rec other : List ℕ) → Formed Ef rec → Formed Ef other → TrailerRules h d c n rec → TrailerRules h d c n other → Alike (checked Ef) rec other
+trailers-alike h d c n rec other f g a b =
+    let said : (i w v : ℕ) → i + w ≤ 120 → Says v (part i w rec) → Says v (part i w other) → part i w rec ≡ part i w other = λ i w v fits x y.
+    says-digits w v (part i w rec) (part-length i w rec (omega (arith, f .whole))) x ∙ sym (says-digits w v (part i w other) (part-length i w other (omega (arith, g .whole))) y) in (
+      f .type ∙ sym (g .type),
+      (
+        a .mittente ∙ sym (b .mittente),
+        (
+          a .ricevente ∙ sym (b .ricevente),
+          (
+            a .created ∙ sym (b .created),
+            (
+              a .name ∙ sym (b .name),
+              (
+                said 45 7 d (omega arith) (a .dispositions-said) (b .dispositions-said),
+                (
+                  said 52 15 c (omega arith) (a .cents-said) (b .cents-said),
+                  (
+                    said 67 15 0 (omega arith) (a .zeros) (b .zeros),
+                    (
+                      said 82 7 n (omega arith) (a .records-said) (b .records-said),
+                      (a .currency-code ∙ sym (b .currency-code), tt),
+                    ),
+                  ),
+                ),
+              ),
+            ),
+          ),
+        ),
+      ),
+    )
 
--- records encoded again, behind n dispositions and with one header meant
-abbrev pub againFrom : ℕ → List ℕ → List Typed → List Typed
-againFrom n header [] = []
-againFrom n header (r ∷ rs) = record { kind = r .kind; bytes = encodeItem (n + opened (r .kind)) header (ownItem r) } ∷ againFrom (n + opened (r .kind)) header rs
+-- a record that does not close the flow has an item
+open-listed : (rs : List Typed) → All (λ (r : Typed). closes (r .kind) ≡ false) rs → All (λ (r : Typed). hasItem (r .kind) ≡ true) rs
+open-listed [] not-last = tt
+open-listed (r ∷ rs) not-last = (ap not (not-last .0), open-listed rs (not-last .1))
 
--- records like those of kinds that are known
-abbrev pub Like : List Typed → List (List ℕ) → Type 0
-Like [] [] = Unit
-Like [] (b ∷ bs) = ⊥
-Like (r ∷ rs) [] = ⊥
-Like (r ∷ rs) (b ∷ bs) = Alike (checked (r .kind)) (r .bytes) b × Like rs bs
+-- the items of records
+single-items : (rs : List Typed) → AllFormed rs → All (λ (r : Typed). hasItem (r .kind) ≡ true) rs → flatten (map itemOf (recordsIn rs)) ≡ map ownItem rs
+unfolding flatten
+single-items [] formed listed = refl
+single-items (r ∷ rs) formed listed =
+    let kind : kindIn (r .bytes) ≡ r .kind = kind-in (r .kind) (r .bytes) (formed .0 .type) in
+    rw (kind, listed .0) (ap (λ (l : List Item). ownItem r ∷ l) (single-items rs (formed .1) (listed .1)))
 
-pub record Again (h : Header) (w : Walk) (code : List ℕ) (i : ℕ) (header : List ℕ) (rs : List Typed) : Type 0 where
-  pub walked : Walked h w code i (againFrom (w .dispositions) header rs)
-  pub state : stateBehind w (againFrom (w .dispositions) header rs) ≡ stateBehind w rs
-  pub like : Like rs (recordsIn (againFrom (w .dispositions) header rs))
-  pub proper : All Proper (map ownItem rs)
-  pub same : recordsIn (againFrom (w .dispositions) header rs) ≡ encodeFrom (w .dispositions) header (map ownItem rs)
+module _ (f : List ℕ) (d c n : ℕ) (g : Grammar f d c n) where
+  abbrev im : List ℕ
+  im = g .parts .header
 
-module _ (h : Header) (header : List ℕ) (meant : h .abi ≡ carriedAt Im 9 13 header) where
-  pub again-walked :
-      (w : Walk) (code : List ℕ) (i : ℕ) (rs : List Typed) → Walked h w code i rs → All (λ (r : Typed). hasItem (r .kind) ≡ true) rs → All (λ (r : Typed). heads (r .kind) ≡ false) rs
-      → Again h w code i header rs
-  unfolding encodeFrom
-  again-walked w code i [] walked listed later = record { walked = tt; state = refl; like = tt; proper = tt; same = refl }
-  again-walked w code i (r ∷ rs) walked listed later =
-      let k = r .kind in
-      let rec = r .bytes in
-      let abi : heads k ≡ false → h .abi ≡ carriedAt Im 9 13 header = λ e. meant in
-      let enc = encodeItem (counted w k) header (ownItem r) in
-      let alike = again-alike h w code (suc i) k rec header (walked .0) (listed .0) abi in
-      let cents : asked k rec ≡ asked k enc = alike-asked k rec enc alike in
-      let company : latest k code rec ≡ latest k code enc = alike-latest k code rec enc alike in
-      let rest = again-walked (step w k (asked k rec)) (latest k code rec) (suc i) rs (walked .1) (listed .1) (later .1) in
-      let behind = againFrom (counted w k) header rs in
+  abbrev ef : List ℕ
+  ef = g .parts .trailer
+
+  abbrev members : List Typed
+  members = flatten (g .parts .dispositions)
+
+  -- the records but the last, and the last
+  abbrev before : List Typed
+  before = record { kind = Im; bytes = im } ∷ members
+
+  abbrev last : List Typed
+  last = record { kind = Ef; bytes = ef } ∷ []
+
+  abbrev h : Header
+  h = headerOf (take 120 f)
+
+  im-first : take 120 f ≡ im
+  im-first = header-first (g .parts) f (g .bytes) (g .right .header-formed .whole)
+
+  all-walked : FromStart f (before ++ last)
+  all-walked = grammar-start f d c n g
+
+  walked : Walked h start [] 0 before
+  walked = walked-append h start [] 0 before last .0 all-walked .0
+
+  abbrev behind : Walk
+  behind = stateBehind start before
+
+  closing : RightAt h behind (codeBehind [] before) (suc (0 + length before)) Ef ef
+  closing = walked-append h start [] 0 before last .0 all-walked .1 .0
+
+  formed : AllFormed (before ++ last)
+  formed = walked-formed h start [] 0 (before ++ last) all-walked
+
+  -- each but the last has an item, and none but the first is an IM
+  listed : All (λ (r : Typed). hasItem (r .kind) ≡ true) before
+  listed =
+      let allowed = subst (Allowed (place OnlyIm)) (map-append (λ (r : Typed). r .kind) before last) (walked-allowed h start [] 0 (before ++ last) all-walked) in
+      open-listed before (all-kinds (λ (k : Kind). closes k ≡ false) before (all-open (place OnlyIm) (kindsOf before) Ef allowed))
+
+  later : All (λ (k : Kind). heads k ≡ false) (kindsOf members)
+  later = header-only-first Im (kindsOf members) (walked-allowed h start [] 0 before walked) .1
+
+  -- so the flow's own list
+  abbrev own : List Item
+  own = map ownItem before
+
+  records : recordsOf f ≡ recordsIn before ++ (ef ∷ [])
+  records = grammar-records f d c n g ∙ map-append (λ (r : Typed). r .bytes) before last
+
+  pub own-list-items : itemsOf f ≡ own
+  unfolding flatten
+  own-list-items =
+      let none : itemOf ef ≡ [] = rw (kind-in Ef ef (closing .formed .type)) in
+      ap (λ (recs : List (List ℕ)). flatten (map itemOf recs)) records
+      ∙ ap flatten (map-append itemOf (recordsIn before) (ef ∷ []))
+      ∙ flatten-append (map itemOf (recordsIn before)) (itemOf ef ∷ [])
+      ∙ cc (single-items before (walked-formed h start [] 0 before walked) listed, none, append-nil own)
+
+  -- the header as its item carries it
+  abbrev header : List ℕ
+  header = gather (carried Im) im
+
+  im-right : RightAt h start [] 1 Im im
+  im-right = walked .0
+
+  meant : Meant im header
+  meant =
       record {
-        walked = (again-right h w code (suc i) k rec header (walked .0) (listed .0) abi, subst (λ (A : Type 0). A) (λ j. Walked h (step w k (cents j)) (company j) (suc i) behind) (rest .walked));
-        state = ap (λ (c : ℕ). stateBehind (step w k c) behind) (sym cents) ∙ rest .state;
-        like = (alike, rest .like);
-        proper = (own-proper h w code (suc i) k rec header (walked .0) (listed .0) abi, rest .proper);
-        same = ap (λ (l : List (List ℕ)). enc ∷ l) (rest .same ∙ ap (λ (b : Bool). encodeFrom (counted w k) (cond b (gather (carried k) rec) header) (map ownItem rs)) (sym (later .0)));
+        sized = sym (gather-length (carried Im) im (carried-within Im) (im-right .formed .whole));
+        carries = λ a e t. sym (gather-at (carried Im) a e im (carried-within Im) (im-right .formed .whole) t);
+        printable = im-right .formed .printable;
+        code = header-rules (asks h start [] 1 Im) im .0 (im-right .keeps) .currency-code;
       }
 
--- no record but the last is an EF
-open-behind : (m : ℕ) (l k : Kind) → In l (permitted (placeAfter m k .due)) → hasItem k ≡ true
-open-behind m l = each-kind (λ (k : Kind). In l (permitted (placeAfter m k .due)) → hasItem k ≡ true) (λ h. refl, (λ h. refl, (λ h. refl, (λ h. refl, (λ h. refl, (λ h. refl, (λ h. refl, (λ h. refl, (λ h. refl, (λ h. refl, (λ h. absurd h, tt)))))))))))
+  abi-meant : h .abi ≡ carriedAt Im 9 13 header
+  abi-meant = ap (field 9 13) im-first ∙ meant .carries 9 13 refl
 
-pub all-open : (p : Place) (ks : List Kind) (l : Kind) → Allowed p (ks ++ (l ∷ [])) → All (λ (k : Kind). hasItem k ≡ true) ks
-all-open p [] l allowed = tt
-all-open p (k ∷ []) l allowed = (open-behind (p .further) l k (allowed .1 .0), tt)
-all-open p (k ∷ m ∷ ks) l allowed = (open-behind (p .further) m k (allowed .1 .0), all-open (placeAfter (p .further) k) (m ∷ ks) l (allowed .1))
+  -- its records, encoded again
+  no-abi : heads Im ≡ false → h .abi ≡ carriedAt Im 9 13 []
+  no-abi e = absurd (true≢false e)
 
--- of records and of their kinds
-pub all-kinds : (P : Kind → Type 0) (rs : List Typed) → All P (kindsOf rs) → All (λ (r : Typed). P (r .kind)) rs
-all-kinds P [] all = tt
-all-kinds P (r ∷ rs) all = (all .0, all-kinds P rs (all .1))
+  abbrev im-again : List ℕ
+  im-again = encodeItem (counted start Im) [] (ownItem (record { kind = Im; bytes = im }))
 
--- a record by its number
-pub like-at :
-    (rs : List Typed) (bs : List (List ℕ)) → Like rs bs → AllFormed rs → (i : ℕ) (k : Kind) → i < length rs → field 2 3 (getD (recordsIn rs) i []) ≡ typeOf k
-    → Alike (checked k) (getD (recordsIn rs) i []) (getD bs i [])
-like-at [] bs like formed i k h type = absurd (not-suc-le-zero h)
-like-at (r ∷ rs) [] like formed i k h type = absurd like
-like-at (r ∷ rs) (b ∷ bs) like formed zero k h type = subst (λ (l : Kind). Alike (checked l) (r .bytes) b) (types-differ (r .kind) k (sym (formed .0 .type) ∙ type)) (like .0)
-like-at (r ∷ rs) (b ∷ bs) like formed (suc i) k h type = like-at rs bs (like .1) (formed .1) i k (le-of-suc-le-suc h) type
+  im-alike : Alike (checked Im) im im-again
+  im-alike = again-alike h start [] 1 Im im [] im-right refl no-abi
 
-pub like-append : (rs qs : List Typed) (bs cs : List (List ℕ)) → Like rs bs → Like qs cs → Like (rs ++ qs) (bs ++ cs)
-like-append [] qs [] cs p q = q
-like-append [] qs (b ∷ bs) cs p q = absurd p
-like-append (r ∷ rs) qs [] cs p q = absurd p
-like-append (r ∷ rs) qs (b ∷ bs) cs p q = (p .0, like-append rs qs bs cs (p .1) q)
+  members-again : Again h (step start Im 0) [] 1 header members
+  members-again = again-walked h header abi-meant (step start Im 0) [] 1 members (walked .1) (listed .1) (all-kinds (λ (k : Kind). heads k ≡ false) members later)
+
+  abbrev again : List Typed
+  again = record { kind = Im; bytes = im-again } ∷ againFrom 0 header members
+
+  again-walked-all : Walked h start [] 0 again
+  again-walked-all = (again-right h start [] 1 Im im [] im-right refl no-abi, members-again .walked)
+
+  pub own-proper-all : All Proper own
+  own-proper-all = (own-proper h start [] 1 Im im [] im-right refl no-abi, members-again .proper)
+
+  again-records : recordsIn again ≡ recordsFor own
+  unfolding encodeFrom
+  again-records = ap (λ (l : List (List ℕ)). im-again ∷ l) (members-again .same)
+
+  -- the header of the encoding is the flow's
+  header-again : headerOf (take 120 (front own)) ≡ h
+  unfolding encodeFrom flatten
+  header-again =
+      let first : take 120 (front own) ≡ im-again = take-at im-again _ 120 (again-walked-all .0 .formed .whole) in
+      let a = im-alike in
+      ap headerOf first ∙ (λ i. headed (sym (a .1 .0) i) (sym (a .1 .1 .0) i) (sym (a .1 .1 .1 .0) i) (sym (a .1 .1 .1 .1 .0) i) (sym (a .1 .1 .1 .1 .1 .1 .0) i)) ∙ ap headerOf (sym im-first)
+
+  abbrev right-items : RightItems own
+  right-items = record { typed = again; same = again-records; walked = subst (λ (x : Header). Walked x start [] 0 again) (sym header-again) again-walked-all }
+
+  -- the counts that the trailer says
+  rules : TrailerRules (headerOf im) d c n ef
+  rules = subst (λ (A : Type 0). A) (λ i. TrailerRules (headerOf im) (g .dispositions i) (g .cents i) (g .records i) ef) (g .right .trailer-rules)
+
+  walk-rules : TrailerRules h (behind .dispositions + opened Ef) (behind .cents) (suc (0 + length before)) ef
+  walk-rules = trailer-rules (asks h behind (codeBehind [] before) (suc (0 + length before)) Ef) ef .0 (closing .keeps)
+
+  counted-so : Counted d c n
+  counted-so =
+      let size : (i w : ℕ) → i + w ≤ 120 → length (part i w ef) ≡ w = λ i w fits. part-length i w ef (omega (arith, closing .formed .whole)) in
+      record {
+        dispositions = said-below 7 d (field 46 52 ef) (size 45 7 (omega arith)) (rules .dispositions-said);
+        cents = said-below 15 c (field 53 67 ef) (size 52 15 (omega arith)) (rules .cents-said);
+        records = said-below 7 n (field 83 89 ef) (size 82 7 (omega arith)) (rules .records-said);
+      }
+
+  dispositions-so : behind .dispositions ≡ d
+  dispositions-so = omega (arith, rules .dispositions-said .1, walk-rules .dispositions-said .1)
+
+  cents-so : behind .cents ≡ c
+  cents-so = omega (arith, rules .cents-said .1, walk-rules .cents-said .1)
+
+  pub items-so : suc (length own) ≡ n
+  items-so = omega (arith, rules .records-said .1, walk-rules .records-said .1, length-map before ownItem)
+
+  -- the list is accepted with the same numbers
+  own-judged : judgeItems own ≡ accepted d c n
+  own-judged =
+      let state : stateBehind start again ≡ behind = members-again .state in
+      let may : mayClose (permitted (behind .place .due)) ≡ true = close-tested (permitted (behind .place .due)) (closing .may) in
+      let cents = counted-so .cents in
+      let small : leb (behind .cents) 999999999999999 ≡ true = le-leb (behind .cents) 999999999999999 (omega (arith, cents-so)) in
+      right-judged own own-proper-all right-items
+      ∙ ap (λ (w : Walk). closed w (length own)) state
+      ∙ rw (may, small) (λ i. accepted (dispositions-so i) (cents-so i) (items-so i))
+
+  pub own-read : parse (listOf f) ≡ items (itemsOf f)
+  own-read = read-items (listOf f) (itemsOf f) refl (subst (All Proper) (sym own-list-items) own-proper-all)
+
+  pub own-accepted : (room : ℕ) → length f ≡ 120 * n → length f ≤ room → judgeList (listOf f) room ≡ accepted d c n
+  own-accepted room size roomy =
+      let few = counted-so .records in
+      let count = items-so in
+      fitting-judged (listOf f) room own (record { said = own-read ∙ ap items own-list-items; few = omega arith; roomy = omega arith }) ∙ own-judged
+
+  -- and encodes records like the flow's
+  own-sums : (dispositionsOf own ≡ d) × (centsOf own ≡ c)
+  own-sums =
+      let sums = right-sums own own-proper-all right-items in
+      let state : stateBehind start again ≡ behind = members-again .state in
+      (sym (sums .0) ∙ ap (λ (w : Walk). w .dispositions) state ∙ dispositions-so, sym (sums .1) ∙ ap (λ (w : Walk). w .cents) state ∙ cents-so)
+
+  trailer-so : trailerFor own ≡ encodeTrailer header d c n
+  unfolding lastHeader
+  trailer-so =
+      let kinds : kindsIn (map ownItem members) ≡ kindsOf members = map-map (λ (it : Item). it .kind) ownItem members in
+      let stays : lastHeader header (map ownItem members) ≡ header = header-stays header (map ownItem members) (subst (All (λ (k : Kind). heads k ≡ false)) (sym kinds) later) in
+      λ i. encodeTrailer (stays i) (own-sums .0 i) (own-sums .1 i) (items-so i)
+
+  trailer-alike : Alike (checked Ef) ef (trailerFor own)
+  trailer-alike =
+      subst (Alike (checked Ef) ef) (sym trailer-so)
+      (trailers-alike (headerOf im) d c n ef (encodeTrailer header d c n) (closing .formed) (trailer-formed im header meant d c n) rules (trailer-keeps im header meant d c n counted-so))
+
+  all-like : Like (before ++ last) (recordsFor own ++ (trailerFor own ∷ []))
+  all-like = like-append before last (recordsFor own) (trailerFor own ∷ []) (subst (Like before) again-records (im-alike, members-again .like)) (trailer-alike, tt)
+
+  pub encoding-like : (i : ℕ) (k : Kind) → i < n → length f ≡ 120 * n → field 2 3 (recordAt i f) ≡ typeOf k → Alike (checked k) (recordAt i f) (recordAt i (encode own))
+  encoding-like i k small size type =
+      let count : length f / 120 ≡ n = omega arith in
+      let size-again = encode-length own own-proper-all in
+      let number = items-so in
+      let here : getD (recordsIn (before ++ last)) i [] ≡ recordAt i f = ap (λ (recs : List (List ℕ)). getD recs i []) (sym (grammar-records f d c n g)) ∙ cut-at (length f / 120) i f (omega arith) in
+      let there : getD (recordsFor own ++ (trailerFor own ∷ [])) i [] ≡ recordAt i (encode own) = ap (λ (recs : List (List ℕ)). getD recs i []) (sym (encode-records own own-proper-all)) ∙ cut-at (length (encode own) / 120) i (encode own) (omega arith) in
+      let within : i < length (before ++ last) = omega (arith, length-append before last, length-map before ownItem) in
+      subst (λ (A : Type 0). A) (λ j. Alike (checked k) (here j) (there j)) (like-at (before ++ last) (recordsFor own ++ (trailerFor own ∷ [])) all-like formed i k within (ap (field 2 3) here ∙ type))
+
+records-length : (f : List ℕ) (d c n : ℕ) → judge f ≡ accepted d c n → length f ≡ 120 * n
+records-length f d c n e = omega (arith, accepted-exact f d c n e .2)
+
+own-by-type : (rs : List Typed) → AllFormed rs → map ownItem rs ≡ map (λ (rec : List ℕ). item (kindIn rec) (gather (carried (kindIn rec)) rec)) (recordsIn rs)
+own-by-type [] formed = refl
+own-by-type (r ∷ rs) formed =
+    let kind = kind-in (r .kind) (r .bytes) (formed .0 .type) in
+    λ i. item (sym kind i) (gather (carried (sym kind i)) (r .bytes)) ∷ own-by-type rs (formed .1) i
+
+pub own-list : OwnList
+own-list f d c n e =
+    let g = grammar-exact f d c n .0 e in
+    own-list-items f d c n g
+    ∙ own-by-type (before f d c n g) (all-before (λ (r : Typed). Formed (r .kind) (r .bytes)) (before f d c n g) (last f d c n g) (formed f d c n g))
+    ∙ ap (map (λ (rec : List ℕ). item (kindIn rec) (gather (carried (kindIn rec)) rec))) (sym (ap dropLast (records f d c n g) ∙ dropLast-append (recordsIn (before f d c n g)) (ef f d c n g)))
+
+pub own-items : OwnItems
+own-items f d c n e = own-read f d c n (grammar-exact f d c n .0 e)
+
+pub rewritten-exact : RewrittenExact
+rewritten-exact f d c n room e roomy = own-accepted f d c n (grammar-exact f d c n .0 e) room (records-length f d c n e) roomy
+
+pub rewritten-same : RewrittenSame
+unfolding write
+rewritten-same f out d c n e roomy =
+    let g = grammar-exact f d c n .0 e in
+    let size = records-length f d c n e in
+    let judged-so = own-accepted f d c n g (length out) size roomy in
+    let same : itemsIn (listOf f) ≡ itemsOf f = ap itemsOr (own-read f d c n g) in
+    let again = encode (itemsIn (listOf f)) in
+    let number = items-so f d c n g in
+    let long : length again ≡ 120 * suc (length (own f d c n g)) = ap (λ (is : List Item). length (encode is)) (same ∙ own-list-items f d c n g) ∙ encode-length (own f d c n g) (own-proper-all f d c n g) in
+    let written : write (listOf f) out ≡ output (accepted d c n) again out = ap (λ (v : Verdict). output v again out) judged-so in
+    let bytes : take (write (listOf f) out .written) (write (listOf f) out .bytes) ≡ encode (itemsOf f) = ap (λ (w : Output). take (w .written) (w .bytes)) written ∙ part-put 0 again out (omega arith) ∙ ap encode same in
+    (λ x. sym bytes ∙ x, λ y. bytes ∙ y)
+
+pub unchecked-only : UncheckedOnly
+unchecked-only f d c n e =
+    let g = grammar-exact f d c n .0 e in
+    let size = records-length f d c n e in
+    let same = own-list-items f d c n g in
+    let number = items-so f d c n g in
+    subst (λ (is : List Item). (length (encode is) ≡ length f) × (listOf (encode is) ≡ listBytes is) × ((i : ℕ) (k : Kind) → i < n → field 2 3 (recordAt i f) ≡ typeOf k → Alike (checked k) (recordAt i f) (recordAt i (encode is)))) (sym same)
+    (omega (arith, encode-length (own f d c n g) (own-proper-all f d c n g)), ap listBytes (encode-items (own f d c n g) (own-proper-all f d c n g)), λ i k small type. encoding-like f d c n g i k small size type)

@@ -1,7 +1,7 @@
 -- The trailer that a list encodes keeps the rules of EF. Assumes nothing.
 use Prim.Native.Nat.{ℕ, _+_, _-_, _^_, _≤_, _<_}
 use mathlib.Core.Bool.{true}
-use mathlib.Core.List.{List, [], _∷_}
+use mathlib.Core.List.{List}
 use mathlib.Core.Path.{_≡_, refl, sym, _∙_, ap, subst}
 use native.Mathlib.Omega.{arith}
 use lib.ListN.{length}
@@ -9,7 +9,7 @@ use Rattle.sequences.specs.All.{All}
 use Rattle.sequences.specs.Part.{part}
 use Rattle.sequences.proofs.Part.{part-part}
 use Rattle.fields.specs.Digits.{number, digits}
-use Rattle.fields.proofs.Decimal.{written-digits, written-read-fits}
+use Rattle.fields.proofs.Decimal.{written-digits}
 use Rattle.records.specs.Bytes.{badFrom, badByte}
 use Rattle.records.specs.Constants.{currency}
 use Rattle.records.specs.Context.{headerOf}
@@ -19,25 +19,14 @@ use Rattle.records.specs.declared.kind.Kind.the-variants.{Im, Ef}
 use Rattle.records.proofs.Checked.{field-within}
 use Rattle.flow.specs.Steps.{opened}
 use Rattle.flow.specs.declared.walk.Walk.{Walk}
-use Rattle.grammar.specs.Rules.{Digits, Says, Printable, Formed, TrailerRules}
+use Rattle.grammar.specs.Rules.{Says, Printable, Formed, TrailerRules}
 use Rattle.grammar.proofs.AtPlace.{asks, May, RightAt}
-use Rattle.grammar.proofs.Rules.{digits-exact, printable-exact, trailer-rules}
+use Rattle.grammar.proofs.Rules.{digits-exact, digits-printable, printable-exact, says-written, trailer-rules}
 use Rattle.list.specs.Table.{carried}
 use Rattle.list.specs.Encode.{blanks, carriedAt, trailerPlaced, encodeTrailer}
 use Rattle.list.proofs.Carried.{inOne}
-use Rattle.list.proofs.Encoding.{trailer-length, trailer-type, trailer-copied, trailer-dispositions, trailer-cents, trailer-zeros, trailer-records, trailer-currency}
+use Rattle.list.proofs.AllRecords.{trailer-length, trailer-type, trailer-copied, trailer-dispositions, trailer-cents, trailer-zeros, trailer-records, trailer-currency}
 use Rattle.list.proofs.Placing.{all-part, AllPlaced, fill-all}
-
--- a number written in enough digits says it
-pub says-written : (w v : ℕ) → v < 10 ^ w → Says v (digits w v)
-says-written w v small = (digits-exact (digits w v) .0 (written-digits w v), written-read-fits w v small)
-
-digits-printable : (bs : List ℕ) → Digits bs → All Printable bs
-digits-printable [] ds = tt
-digits-printable (b ∷ bs) ds =
-    let low = ds .0 .0 in
-    let high = ds .0 .1 in
-    ((omega arith, omega arith), digits-printable bs (ds .1))
 
 -- the counts that it says
 pub record Counted (d c n : ℕ) : Type 0 where

@@ -1,4 +1,4 @@
--- Writing is refused exactly where document 01 says so, and by that number. Assumes nothing.
+-- Writing is refused exactly where document 01 says so, and by that number, and else accepted with the list's own sums. Assumes nothing.
 use Prim.Native.Nat.{ℕ, suc, _+_, _*_, _≤_}
 use mathlib.Core.Bool.{Bool, true, false, cond, true≢false}
 use mathlib.Core.List.{List, [], _∷_}
@@ -6,7 +6,7 @@ use mathlib.Core.Logic.{_↔_, _⊎_, inl, inr}
 use mathlib.Core.Path.{_≡_, refl, sym, _∙_, ap, subst}
 use native.Mathlib.Omega.{arith}
 use lib.Dec.{leb}
-use lib.ListN.{length, length-append, length-map}
+use lib.ListN.{length, length-append}
 use borrow.Author.Tests.{leb-true, leb-false, le-leb, lt-leb}
 use Rattle.sequences.specs.All.{All}
 use Rattle.records.specs.declared.kind.Kind.the-variants.{Ef}
@@ -18,16 +18,17 @@ use Rattle.flow.specs.Verdict.{accepted, refused}
 use Rattle.flow.proofs.Accepted.{accepted-not-refused}
 use Rattle.flow.proofs.Cut.{flatten-length, joined-records}
 use Rattle.grammar.specs.Fault.{MayFollow, EachRight}
-use Rattle.grammar.specs.Grammar.{Typed, recordsIn}
+use Rattle.grammar.specs.Grammar.{recordsIn}
 use Rattle.grammar.proofs.Behind.{may-follow, follows-may, walked-of, each-of}
 use Rattle.grammar.proofs.FirstFault.{judgeFrom, judged, ends-so, stops-so}
 use Rattle.grammar.proofs.Walked.{stateBehind}
 use Rattle.list.specs.Encode.{recordsFor}
 use Rattle.list.specs.Items.{Item, Proper, Parsed, items, faulty, parse}
-use Rattle.list.specs.Laws.{Fitting, WriteFault, no-item, too-many, no-room, in-record, no-trailer, too-much, WriteRefused}
+use Rattle.list.specs.Laws.{Fitting, WriteFault, no-item, too-many, no-room, in-record, no-trailer, too-much, WriteRefused, WriteAccepts, WriteAccepted}
 use Rattle.list.specs.Write.{closed, judgeItems, judgeParsed, judgeList}
-use Rattle.list.proofs.Encoding.{encoded-whole, encoded-count}
-use Rattle.list.proofs.Judging.{front, RightItems, FaultyItems, view-items, right-judged, faulty-judged, right-sums, close-said, close-tested}
+use Rattle.list.proofs.AllRecords.{encoded-whole, encoded-count}
+use Rattle.list.proofs.Judging.{front, RightItems, FaultyItems, view-items, typed-count, right-judged, faulty-judged, right-sums, close-said, close-tested}
+use Rattle.list.proofs.Written.{accepted-list, accepted-items}
 use Rattle.list.proofs.ListItems.{items-exact, faulty-exact}
 
 -- the parts of a refusal
@@ -63,7 +64,7 @@ module _ (is : List Item) (proper : All Proper is) (few : suc (length is) ≤ 99
   -- where all are right the reader finds no fault in them
   right-read : (r : RightItems is) {n s p : ℕ} → judge (front is) ≡ refused n s p → 1 ≤ s → s ≤ length is → ⊥
   right-read r {n} {s} {p} e some within =
-      let all : length (r .typed) ≡ length is = sym (length-map (r .typed) (λ (x : Typed). x .bytes)) ∙ ap (λ (l : List (List ℕ)). length l) (r .same) ∙ encoded-count 0 [] is in
+      let all = typed-count is (r .typed) (r .same) in
       by (isDue (permitted (stateBehind start (r .typed) .place .due))) all (sym (front-judged (omega arith) ∙ ap (judgeFrom (front is)) (sym (r .same)) ∙ ends-so ended (front is) (r .typed) (r .walked)) ∙ e)
     where
       by : (b : Bool) → length (r .typed) ≡ length is → cond b (refused 4 (suc (length (r .typed))) 0) (accepted (stateBehind start (r .typed) .dispositions) (stateBehind start (r .typed) .cents) (length (r .typed))) ≡ refused n s p → ⊥
@@ -169,3 +170,33 @@ fault-refuses list room n r p (too-much is fits each follows much) =
 
 pub write-refused : WriteRefused
 write-refused list room n r p = (refused-so list room n r p, fault-refuses list room n r p)
+
+pub write-accepted : WriteAccepted
+write-accepted list room d c n = (accepted-so, so-accepted)
+  where
+    accepted-so : judgeList list room ≡ accepted d c n → WriteAccepts list room d c n
+    accepted-so e =
+        let a = accepted-list list room d c n e in
+        let is = a .these in
+        let so = accepted-items is (items-exact list is .0 (a .fits .said) .1) d c n (a .judged-so) in
+        let r = so .right in
+        record {
+          these = is;
+          fits = a .fits;
+          right = subst (EachRight (front is)) (r .same) (each-of (front is) (r .typed) (r .walked));
+          follows = trailer-follows is r .0 (so .may);
+          small = so .small;
+          dispositions = so .dispositions;
+          cents = so .cents;
+          records = so .records;
+        }
+
+    so-accepted : WriteAccepts list room d c n → judgeList list room ≡ accepted d c n
+    so-accepted a =
+        let is = a .these in
+        let proper = items-exact list is .0 (a .fits .said) .1 in
+        let q = right-of is proper (a .right) in
+        let sums = right-sums is proper q in
+        let due : may q ≡ true = trailer-follows is q .1 (a .follows) in
+        let small : leb (stateBehind start (q .typed) .cents) 999999999999999 ≡ true = le-leb (stateBehind start (q .typed) .cents) 999999999999999 (omega (arith, sums .1, a .small)) in
+        fitting-judged list room is (a .fits) ∙ right-judged is proper q ∙ rw (due, small) (λ i. accepted ((sums .0 ∙ a .dispositions) i) ((sums .1 ∙ a .cents) i) (a .records i))

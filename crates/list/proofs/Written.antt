@@ -7,7 +7,7 @@ use mathlib.Core.Logic.{_⊎_, inl, inr, ⊎-elim}
 use mathlib.Core.Path.{_≡_, refl, sym, _∙_, ap, subst}
 use native.Mathlib.Omega.{arith}
 use lib.Dec.{leb}
-use lib.ListN.{length, take, length-append, length-map}
+use lib.ListN.{length, take, length-append}
 use lib.Seq.{take-at}
 use borrow.Author.Tests.{leb-true}
 use Rattle.sequences.specs.All.{All}
@@ -19,7 +19,6 @@ use Rattle.records.specs.Finding.{Hold}
 use Rattle.records.specs.Kinds.{heads}
 use Rattle.records.specs.declared.kind.Kind.{Kind}
 use Rattle.records.specs.declared.kind.Kind.the-variants.{Im, Ef}
-use Rattle.records.proofs.EachKind.{each-kind}
 use Rattle.flow.specs.Judge.{ended, judge}
 use Rattle.flow.specs.Order.{permitted, mayClose, place}
 use Rattle.flow.specs.Records.{RightLength}
@@ -28,24 +27,25 @@ use Rattle.flow.specs.Verdict.{accepted, refused}
 use Rattle.flow.specs.declared.order.Due.the-variants.{OnlyIm}
 use Rattle.flow.specs.declared.walk.Walk.{Walk}
 use Rattle.flow.proofs.Accepted.{accepted-not-refused}
+use Rattle.flow.proofs.Reading.{one-at-most}
 use Rattle.grammar.specs.Grammar.{Typed, recordsIn}
 use Rattle.grammar.specs.Rules.{Printable}
 use Rattle.grammar.proofs.AtPlace.{RightAt, asks}
 use Rattle.grammar.proofs.Behind.{FromStart}
 use Rattle.grammar.proofs.FirstFault.{judgeFrom, judged, ends-so}
-use Rattle.grammar.proofs.Order.{Allowed}
+use Rattle.grammar.proofs.Order.{Allowed, header-only-first}
 use Rattle.grammar.proofs.Rules.{header-rules}
 use Rattle.grammar.proofs.Walked.{Walked, stateBehind, codeBehind, walked-append, walked-allowed, state-append}
 use Rattle.list.specs.Encode.{carriedAt, lastHeader, dispositionsOf, centsOf, encodeItem, encodeFrom, recordsFor, trailerFor, encode}
 use Rattle.list.specs.Items.{Item, Proper, listBytes, Parsed, items, faulty, parse, itemsOr, itemsIn}
-use Rattle.list.specs.Laws.{WrittenExact}
-use Rattle.list.specs.ReadBack.{listOf}
+use Rattle.list.specs.Laws.{Fitting, WrittenExact}
+use Rattle.list.specs.ReadBack.{listOf, Canonical}
 use Rattle.list.specs.Table.{carried, bodyLength}
 use Rattle.list.specs.Write.{closed, judgeItems, judgeParsed, judgeList}
 use Rattle.list.proofs.Carried.{inOne}
-use Rattle.list.proofs.Encoded.{encoded-length, encoded-at}
-use Rattle.list.proofs.Encoding.{encoded-count, encode-records, encode-length, encode-items}
-use Rattle.list.proofs.Judging.{front, RightItems, FaultyItems, view-items, right-judged, faulty-judged, kindsIn, right-kinds, right-sums, close-said, header-first, header-stays}
+use Rattle.list.proofs.OneRecord.{encoded-length, encoded-at}
+use Rattle.list.proofs.AllRecords.{encode-records, encode-length, encode-items}
+use Rattle.list.proofs.Judging.{front, RightItems, FaultyItems, view-items, typed-count, right-judged, faulty-judged, kindsIn, right-kinds, right-sums, close-said, header-stays}
 use Rattle.list.proofs.ListItems.{items-exact}
 use Rattle.list.proofs.Trailer.{Meant, Counted, trailer-right}
 
@@ -62,13 +62,10 @@ closed-so w i {d} {c} {n} = by (mayClose (permitted (w .place .due))) (leb (w .c
     by false b e f x = absurd (accepted-not-refused x)
 
 -- no more dispositions than items
-pub opened-one : (k : Kind) → opened k ≤ 1
-opened-one = each-kind (λ (k : Kind). opened k ≤ 1) (omega arith, (omega arith, (omega arith, (omega arith, (omega arith, (omega arith, (omega arith, (omega arith, (omega arith, (omega arith, (omega arith, tt)))))))))))
-
 pub few-dispositions : (is : List Item) → dispositionsOf is ≤ length is
 unfolding dispositionsOf
 few-dispositions [] = omega arith
-few-dispositions (it ∷ is) = omega (arith, opened-one (it .kind), few-dispositions is)
+few-dispositions (it ∷ is) = omega (arith, one-at-most (it .kind), few-dispositions is)
 
 -- a list with a first item, whose records are right
 module _ (it : Item) (others : List Item) (proper : All Proper (it ∷ others)) (r : RightItems (it ∷ others)) where
@@ -94,7 +91,7 @@ module _ (it : Item) (others : List Item) (proper : All Proper (it ∷ others)) 
 
   -- the first item is the only H
   kinds : (it .kind ≡ Im) × All (λ (k : Kind). heads k ≡ false) (kindsIn others)
-  kinds = header-first (it .kind) (kindsIn others) (subst (Allowed (place OnlyIm)) (sym (right-kinds all proper r)) (walked-allowed (headerOf (take 120 (front all))) start [] 0 (r .typed) (r .walked)))
+  kinds = header-only-first (it .kind) (kindsIn others) (subst (Allowed (place OnlyIm)) (sym (right-kinds all proper r)) (walked-allowed (headerOf (take 120 (front all))) start [] 0 (r .typed) (r .walked)))
 
   pub header-meant : lastHeader [] all ≡ it .body
   unfolding lastHeader
@@ -126,7 +123,7 @@ module _ (it : Item) (others : List Item) (proper : All Proper (it ∷ others)) 
       let rs = r .typed ++ last in
       let same : recordsIn rs ≡ recordsFor all ++ (tr ∷ []) = map-append (λ (x : Typed). x .bytes) (r .typed) last ∙ ap (λ (l : List (List ℕ)). l ++ (tr ∷ [])) (r .same) in
       let sums = right-sums all proper r in
-      let count : length (r .typed) ≡ length all = sym (length-map (r .typed) (λ (x : Typed). x .bytes)) ∙ ap (λ (l : List (List ℕ)). length l) (r .same) ∙ encoded-count 0 [] all in
+      let count : length (r .typed) ≡ length all = typed-count all (r .typed) (r .same) in
       let counted : Counted (dispositionsOf all) (centsOf all) (suc (length all)) = record { dispositions = omega (arith, few-dispositions all); cents = omega arith; records = omega arith } in
       let closing : RightAt (headerOf im) behind (codeBehind [] (r .typed)) (suc (0 + length (r .typed))) Ef tr = trailer-right im (lastHeader [] all) meant (dispositionsOf all) (centsOf all) (suc (length all)) counted behind (codeBehind [] (r .typed)) (suc (0 + length (r .typed))) (close-said (permitted (behind .place .due)) may) (sums .0) (sums .1) (omega arith) in
       let front-walked : Walked (headerOf im) start [] 0 (r .typed) = subst (λ (l : List ℕ). Walked (headerOf l) start [] 0 (r .typed)) first-of-front (r .walked) in
@@ -160,9 +157,7 @@ accepted-encoding (it ∷ is) proper r may few small = encode-accepted it is pro
 -- what was accepted of a list
 pub record AcceptedList (list : List ℕ) (room d c n : ℕ) : Type 0 where
   pub these : List Item
-  pub said : parse list ≡ items these
-  pub few : suc (length these) ≤ 9999999
-  pub roomy : 120 * suc (length these) ≤ room
+  pub fits : Fitting list room these
   pub judged-so : judgeItems these ≡ accepted d c n
 
 pub accepted-list : (list : List ℕ) (room d c n : ℕ) → judgeList list room ≡ accepted d c n → AcceptedList list room d c n
@@ -170,7 +165,7 @@ unfolding judgeList
 accepted-list list room d c n e = by (parse list) refl e
   where
     sizes : (is : List Item) (a b : Bool) → parse list ≡ items is → leb (suc (length is)) 9999999 ≡ a → leb (120 * suc (length is)) room ≡ b → cond a (cond b (judgeItems is) (refused 21 0 0)) (refused 1 0 0) ≡ accepted d c n → AcceptedList list room d c n
-    sizes is true true said few roomy e = record { these = is; said = said; few = leb-true (suc (length is)) 9999999 few; roomy = leb-true (120 * suc (length is)) room roomy; judged-so = e }
+    sizes is true true said few roomy e = record { these = is; fits = record { said = said; few = leb-true (suc (length is)) 9999999 few; roomy = leb-true (120 * suc (length is)) room roomy }; judged-so = e }
     sizes is true false said few roomy e = absurd (accepted-not-refused e)
     sizes is false b said few roomy e = absurd (accepted-not-refused e)
 
@@ -201,17 +196,18 @@ pub written-exact : WrittenExact
 written-exact list room d c n e =
     let a = accepted-list list room d c n e in
     let is = a .these in
-    let exact = items-exact list is .0 (a .said) in
+    let exact = items-exact list is .0 (a .fits .said) in
     let proper = exact .1 in
     let so = accepted-items is proper d c n (a .judged-so) in
-    let few = a .few in
-    let roomy = a .roomy in
+    let few = a .fits .few in
+    let roomy = a .fits .roomy in
     let records = so .records in
     let size = encode-length is proper in
-    let same : itemsIn list ≡ is = ap itemsOr (a .said) in
-    subst (λ (l : List Item). (judge (encode l) ≡ accepted d c n) × (listOf (encode l) ≡ list) × (length (encode l) ≡ 120 * n) × (length (encode l) ≤ room)) (sym same) (
+    let same : itemsIn list ≡ is = ap itemsOr (a .fits .said) in
+    subst (λ (l : List Item). (judge (encode l) ≡ accepted d c n) × (listOf (encode l) ≡ list) × Canonical (encode l) × (length (encode l) ≡ 120 * n) × (length (encode l) ≤ room)) (sym same) (
       accepted-encoding is proper (so .right) (so .may) few (so .small) ∙ (λ i. accepted (so .dispositions i) (so .cents i) (so .records i)),
       ap listBytes (encode-items is proper) ∙ exact .0,
+      ap encode (encode-items is proper),
       omega arith,
       omega arith,
     )

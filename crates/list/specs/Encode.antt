@@ -28,10 +28,10 @@ fill (place p bs ∷ ps) rec = fill ps (put (p - 1) bs rec)
 abbrev pub blanks : List ℕ
 blanks = replicate 120 32
 
--- where positions a to e stand in a body that carries the spans: the index of the first
+-- the index, in a body that carries the spans, of position p
 abbrev pub indexIn : List Span → ℕ → ℕ
-indexIn [] a = 0
-indexIn ((b to e) ∷ ss) a = cond (leb b a && leb a e) (a - b) (width (b to e) + indexIn ss a)
+indexIn [] p = 0
+indexIn ((a to e) ∷ ss) p = cond (leb a p && leb p e) (p - a) (width (a to e) + indexIn ss p)
 
 -- positions a to e of a record of the kind, as its item's body carries them
 abbrev pub carriedAt : Kind → ℕ → ℕ → List ℕ → List ℕ
@@ -65,9 +65,9 @@ encodeItem n header it =
 
 -- EF: 4-45 of the header, the counts, the sum, zeros, "E"
 abbrev pub trailerPlaced : List ℕ → ℕ → ℕ → ℕ → List Placed
-trailerPlaced header dispositions cents records =
+trailerPlaced copied dispositions cents records =
     place 2 (typeOf Ef)
-    ∷ place 4 header
+    ∷ place 4 copied
     ∷ place 46 (digits 7 dispositions)
     ∷ place 53 (digits 15 cents)
     ∷ place 68 (digits 15 0)

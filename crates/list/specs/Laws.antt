@@ -5,7 +5,7 @@ use mathlib.Core.Bool.{true}
 use mathlib.Core.List.{List, _∷_, _++_, map, dropLast, flatten}
 use mathlib.Core.Logic.{_↔_, _⊎_}
 use mathlib.Core.Path.{_≡_}
-use lib.ListN.{length, take}
+use lib.ListN.{length, take, drop}
 use Rattle.sequences.specs.All.{All}
 use Rattle.records.specs.Checked.{checked, Alike}
 use Rattle.records.specs.Field.{field}
@@ -16,10 +16,10 @@ use Rattle.flow.specs.Judge.{judge}
 use Rattle.flow.specs.Records.{recordAt, recordsOf}
 use Rattle.flow.specs.Verdict.{accepted, refused}
 use Rattle.grammar.specs.Fault.{MayFollow, EachRight}
-use Rattle.list.specs.Encode.{centsOf, recordsFor, encode}
+use Rattle.list.specs.Encode.{dispositionsOf, centsOf, recordsFor, encode}
 use Rattle.list.specs.Items.{Item, item, Proper, listBytes, items, faulty, parse, itemsIn}
-use Rattle.list.specs.Output.{outputOf}
-use Rattle.list.specs.ReadBack.{gather, itemsOf, listOf, judgeRoom, Canonical}
+use Rattle.list.specs.Output.{Output, outputOf}
+use Rattle.list.specs.ReadBack.{gather, itemsOf, listOf, judgeRoom, readBack, Canonical}
 use Rattle.list.specs.Table.{letter, carried, bodyLength, hasItem, kindIn}
 use Rattle.list.specs.Write.{judgeList, write}
 use Rattle.list.specs.declared.filled.Filled.{Filled}
@@ -28,7 +28,7 @@ use Rattle.list.specs.declared.filled.Filled.{Filled}
 abbrev pub ItemsExact : Type 0
 ItemsExact = (list : List ℕ) (is : List Item) → (parse list ≡ items is) ↔ ((listBytes is ≡ list) × All Proper is)
 
--- bytes that do not begin with an item: the kind is unknown, or the body is cut short
+-- one or more bytes that do not begin with an item: the kind is unknown, or the body is cut short
 pub record NoItem (bytes : List ℕ) : Type 0 where
   pub byte : ℕ
   pub rest : List ℕ
@@ -74,12 +74,43 @@ pub data WriteFault (list : List ℕ) (room : ℕ) : ℕ → ℕ → ℕ → Typ
 abbrev pub WriteRefused : Type 0
 WriteRefused = (list : List ℕ) (room n r p : ℕ) → (judgeList list room ≡ refused n r p) ↔ WriteFault list room n r p
 
--- what a list that is accepted encodes is a flow that the reader accepts with the same numbers, that has its length, and whose list is
--- the list written
+-- a list that is accepted: there is room, each record is right, EF may follow, and its digits hold the total. The numbers answered are the
+-- list's own: its D items, the sum of their amounts, and its items with EF
+pub record WriteAccepts (list : List ℕ) (room d c n : ℕ) : Type 0 where
+  pub these : List Item
+  pub fits : Fitting list room these
+  pub right : EachRight (flatten (recordsFor these)) (recordsFor these)
+  pub follows : MayFollow (recordsFor these) Ef
+  pub small : centsOf these ≤ 999999999999999
+  pub dispositions : dispositionsOf these ≡ d
+  pub cents : centsOf these ≡ c
+  pub records : suc (length these) ≡ n
+
+abbrev pub WriteAccepted : Type 0
+WriteAccepted = (list : List ℕ) (room d c n : ℕ) → (judgeList list room ≡ accepted d c n) ↔ WriteAccepts list room d c n
+
+-- what is left of an output of the call: bytes at its front and the rest as it was, or all of it as it was
+pub record Leaves (o : Output) (bytes out : List ℕ) : Type 0 where
+  pub length-said : o .written ≡ length bytes
+  pub front : take (o .written) (o .bytes) ≡ bytes
+  pub behind : drop (o .written) (o .bytes) ≡ drop (o .written) out
+
+abbrev pub LeavesAlone : Output → List ℕ → Type 0
+LeavesAlone o out = (o .written ≡ 0) × (o .bytes ≡ out)
+
+-- an accepted writing leaves exactly the encoding, a refused one nothing
+abbrev pub WriteLeaves : Type 0
+WriteLeaves =
+    (list out : List ℕ)
+    → ((d c n : ℕ) → judgeList list (length out) ≡ accepted d c n → Leaves (write list out) (encode (itemsIn list)) out)
+    × ((n r p : ℕ) → judgeList list (length out) ≡ refused n r p → LeavesAlone (write list out) out)
+
+-- what a list that is accepted encodes is a canonical flow that the reader accepts with the same numbers, that has its length, and whose
+-- list is the list written
 abbrev pub WrittenExact : Type 0
 WrittenExact =
     (list : List ℕ) (room d c n : ℕ) → judgeList list room ≡ accepted d c n → let flow = encode (itemsIn list) in
-    (judge flow ≡ accepted d c n) × (listOf flow ≡ list) × (length flow ≡ 120 * n) × (length flow ≤ room)
+    (judge flow ≡ accepted d c n) × (listOf flow ≡ list) × Canonical flow × (length flow ≡ 120 * n) × (length flow ≤ room)
 
 -- an accepted flow's own list has one item for each record but EF: its kind, then its carried bytes as they stand
 abbrev pub OwnList : Type 0
@@ -87,11 +118,26 @@ OwnList =
     (f : List ℕ) (d c n : ℕ) → judge f ≡ accepted d c n
     → itemsOf f ≡ map (λ (rec : List ℕ). item (kindIn rec) (gather (carried (kindIn rec)) rec)) (dropLast (recordsOf f))
 
--- reading back is refused exactly where the reader refuses, by the same, or by 21
+-- and says these items
+abbrev pub OwnItems : Type 0
+OwnItems = (f : List ℕ) (d c n : ℕ) → judge f ≡ accepted d c n → parse (listOf f) ≡ items (itemsOf f)
+
+-- reading back is accepted exactly where the reader accepts, with its numbers, and there is room; and refused exactly where the reader
+-- refuses, by the same, or by 21
+abbrev pub ReadBackAccepted : Type 0
+ReadBackAccepted = (f : List ℕ) (room d c n : ℕ) → (judgeRoom f room ≡ accepted d c n) ↔ ((judge f ≡ accepted d c n) × (length (listOf f) ≤ room))
+
 abbrev pub ReadBackRefused : Type 0
 ReadBackRefused =
     (f : List ℕ) (room n r p : ℕ)
     → (judgeRoom f room ≡ refused n r p) ↔ ((judge f ≡ refused n r p) ⊎ ((d c m : ℕ) × (judge f ≡ accepted d c m) × (room < length (listOf f)) × (n ≡ 21) × (r ≡ 0) × (p ≡ 0)))
+
+-- it leaves exactly the list, and where it is refused nothing
+abbrev pub ReadBackLeaves : Type 0
+ReadBackLeaves =
+    (f out : List ℕ)
+    → ((d c n : ℕ) → judgeRoom f (length out) ≡ accepted d c n → Leaves (readBack f out) (listOf f) out)
+    × ((n r p : ℕ) → judgeRoom f (length out) ≡ refused n r p → LeavesAlone (readBack f out) out)
 
 -- an accepted flow's list, written again, is accepted with the same numbers; a flow's total is one that EF's digits hold
 abbrev pub RewrittenExact : Type 0
@@ -103,11 +149,12 @@ RewrittenSame =
     (f out : List ℕ) (d c n : ℕ) → judge f ≡ accepted d c n → length f ≤ length out → let w = write (listOf f) out in
     (take (w .written) (w .bytes) ≡ f) ↔ Canonical f
 
--- an accepted flow and the encoding of its list differ only at positions that the table of checks does not name
+-- an accepted flow and the encoding of its list have one length and one list, and differ only at positions that the table of checks does
+-- not name
 abbrev pub UncheckedOnly : Type 0
 UncheckedOnly =
     (f : List ℕ) (d c n : ℕ) → judge f ≡ accepted d c n → let again = encode (itemsOf f) in
-    (length again ≡ length f) × ((i : ℕ) (k : Kind) → i < n → field 2 3 (recordAt i f) ≡ typeOf k → Alike (checked k) (recordAt i f) (recordAt i again))
+    (length again ≡ length f) × (listOf again ≡ listOf f) × ((i : ℕ) (k : Kind) → i < n → field 2 3 (recordAt i f) ≡ typeOf k → Alike (checked k) (recordAt i f) (recordAt i again))
 
 -- what an answer stands for on paper determines it
 abbrev pub FilledDetermined : Type 0

@@ -26,7 +26,7 @@ gather ss rec = flatten (map (λ (s : Span). fieldAt s rec) ss)
 abbrev pub itemOf : List ℕ → List Item
 itemOf rec = let k = kindIn rec in cond (hasItem k) (item k (gather (carried k) rec) ∷ []) []
 
--- the length of the item of a record of the kind
+-- for the contracts of private functions: the length of the item of a record of the kind
 abbrev pub itemLength : Kind → ℕ
 itemLength k = cond (hasItem k) (suc (bodyLength k)) 0
 
@@ -38,12 +38,12 @@ abbrev pub listOf : List ℕ → List ℕ
 listOf f = listBytes (itemsOf f)
 
 -- the answer to a flow, with an output of so many bytes
-abbrev pub behindReading : Verdict → List ℕ → ℕ → Verdict
-behindReading (accepted d c n) list room = cond (leb (length list) room) (accepted d c n) (refused 21 0 0)
-behindReading (refused e r p) list room = refused e r p
+abbrev pub withRoom : Verdict → List ℕ → ℕ → Verdict
+withRoom (accepted d c n) list room = cond (leb (length list) room) (accepted d c n) (refused 21 0 0)
+withRoom (refused e r p) list room = refused e r p
 
 unfoldable pub judgeRoom : List ℕ → ℕ → Verdict
-judgeRoom f room = behindReading (judge f) (listOf f) room
+judgeRoom f room = withRoom (judge f) (listOf f) room
 
 unfoldable pub readBack : List ℕ → List ℕ → Output
 readBack f out = output (judgeRoom f (length out)) (listOf f) out

@@ -15,7 +15,7 @@ use Rattle.list.specs.Encode.{recordsFor, encode}
 use Rattle.list.specs.Items.{Item, Parsed, items, faulty, parse, itemsIn}
 use Rattle.list.specs.Output.{Output, output}
 
--- the items have ended behind n records: EF is due, and its fifteen digits hold the total
+-- the answer behind the last of n records: 3 where EF may not follow, 17 where its fifteen digits do not hold the total
 abbrev pub closed : Walk → ℕ → Verdict
 closed w n =
     cond (mayClose (permitted (w .place .due)))
@@ -26,7 +26,7 @@ closed w n =
 unfoldable pub judgeItems : List Item → Verdict
 judgeItems is = go closed (headerOf (take 120 (flatten (recordsFor is)))) start [] 0 (recordsFor is)
 
--- how many records and bytes, and then the records
+-- 20; then 1; then 21; then the records
 abbrev pub judgeParsed : Parsed → ℕ → Verdict
 judgeParsed (faulty n) room = refused 20 n 0
 judgeParsed (items is) room =

@@ -26,6 +26,7 @@ pub(crate) fn encode_item(kind: Kind, number: u64, header: &[u8], body: &[u8]) -
     ensures { λ r. ⌜ r ≡ encodeItem number (now (header .entry)) (item kind (now (body .entry))) ⌝ }
 {
     let mut rec = [b' '; 120];
+    // 9-13 of the header, as its H carries them.
     fill_item(&mut rec, kind, number, field(header, 6, 10), body);
     rec
 }
@@ -100,18 +101,19 @@ pub(crate) fn encode_trailer(
     ensures { λ r. ⌜ r ≡ encodeTrailer (now (header .entry)) dispositions cents records ⌝ }
 {
     let mut rec = [b' '; 120];
+    // 4-45 of the header, as its H carries them.
     fill_trailer(&mut rec, field(header, 1, 42), dispositions, cents, records);
     rec
 }
 
-fn fill_trailer(rec: &mut [u8], header: &[u8], dispositions: u64, cents: u64, records: u64)
+fn fill_trailer(rec: &mut [u8], copied: &[u8], dispositions: u64, cents: u64, records: u64)
     requires { ⌜ length (now rec) ≡ 120 ⌝ }
-    requires { ⌜ length (now header) ≤ 42 ⌝ }
-    ensures { λ _. ⌜ now (rec .exit) ≡ fill (trailerPlaced (now (header .entry)) dispositions cents records) (now (rec .entry)) ⌝ }
+    requires { ⌜ length (now copied) ≤ 42 ⌝ }
+    ensures { λ _. ⌜ now (rec .exit) ≡ fill (trailerPlaced (now (copied .entry)) dispositions cents records) (now (rec .entry)) ⌝ }
 {
     let code = records::type_of(Kind::Ef);
     place(rec, 2, &code);
-    place(rec, 4, header);
+    place(rec, 4, copied);
     place_number(rec, 46, 52, dispositions);
     place_number(rec, 53, 67, cents);
     place_number(rec, 68, 82, 0);
@@ -120,13 +122,13 @@ fn fill_trailer(rec: &mut [u8], header: &[u8], dispositions: u64, cents: u64, re
 }
 
 // Puts the bytes in a record, or in a flow, from a position on.
-pub(crate) fn place(rec: &mut [u8], first: usize, content: &[u8])
+pub(crate) fn place(out: &mut [u8], first: usize, content: &[u8])
     requires { ⌜ 1 ≤ first ⌝ }
-    requires { ⌜ first - 1 + length (now content) ≤ length (now rec) ⌝ }
-    ensures { λ _. ⌜ now (rec .exit) ≡ put (first - 1) (now (content .entry)) (now (rec .entry)) ⌝ }
+    requires { ⌜ first - 1 + length (now content) ≤ length (now out) ⌝ }
+    ensures { λ _. ⌜ now (out .exit) ≡ put (first - 1) (now (content .entry)) (now (out .entry)) ⌝ }
 {
     let from = first - 1;
-    bytes::copy(content, &mut rec[from..from + content.len()]);
+    bytes::copy(content, &mut out[from..from + content.len()]);
 }
 
 // Puts the digits of a number in the record from position first to last.

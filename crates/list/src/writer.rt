@@ -25,6 +25,7 @@ use crate::filled::Filled;
 use crate::table::body_length;
 use crate::table::kind_of;
 use flow::Answer;
+use flow::WRONG_TYPE;
 use flow::Walk;
 use records::Judged;
 use records::Kind;
@@ -38,8 +39,6 @@ const MOST: usize = 9999998;
 const MOST_CENTS: u64 = 999999999999999;
 
 // Document 01, "Numbers a clerk may see".
-const WRONG_TYPE: u64 = 3;
-
 const TOTAL_TOO_LARGE: u64 = 17;
 
 const NO_ITEM: u64 = 20;
@@ -147,6 +146,7 @@ fn judge_records(
                 };
             }
             Judged::Right(right) => {
+                // 92-96 of a 14, as its D carries them: the record itself does not outlive this turn.
                 let latest = flow::latest_company(company, field(body, 37, 41), kind);
                 company = latest;
                 walk = walk.next(right);
@@ -207,29 +207,29 @@ fn close(walk: Walk, n: u64) -> Answer
 }
 
 // Each record, and then EF with the counts, at the front of out.
-fn store_items(list: &[u8], out: &mut [u8], dispositions: u64, cents: u64)
+fn store_items(list: &[u8], out: &mut [u8], count: u64, cents: u64)
     requires { ⌜ Listed (now list) ⌝ }
     requires { ⌜ 120 * suc (length (itemsIn (now list))) ≤ length (now out) ⌝ }
-    requires { ⌜ dispositions ≡ dispositionsOf (itemsIn (now list)) ⌝ }
+    requires { ⌜ count ≡ dispositionsOf (itemsIn (now list)) ⌝ }
     requires { ⌜ cents ≡ centsOf (itemsIn (now list)) ⌝ }
     ensures { λ _. ⌜ now (out .exit) ≡ put 0 (encode (itemsIn (now (list .entry)))) (now (out .entry)) ⌝ }
 {
     let mut header = &list[0..0];
-    let mut n: u64 = 0;
-    let mut i = 0;
+    let mut dispositions: u64 = 0;
+    let mut n = 0;
     let mut at = 0;
     while at < list.len() {
         let kind = kind_of(list[at]);
         let end = at + 1 + body_length(kind);
         let body = &list[at + 1..end];
-        n = counted(n, kind);
-        let rec = encode_item(kind, n, header, body);
-        place(out, 120 * i + 1, &rec);
+        dispositions = counted(dispositions, kind);
+        let rec = encode_item(kind, dispositions, header, body);
+        place(out, 120 * n + 1, &rec);
         let meant = header_behind(header, body, kind);
         header = meant;
-        i += 1;
+        n += 1;
         at = end;
     }
-    let trailer = encode_trailer(header, dispositions, cents, number(i + 1));
-    place(out, 120 * i + 1, &trailer);
+    let trailer = encode_trailer(header, count, cents, number(n + 1));
+    place(out, 120 * n + 1, &trailer);
 }

@@ -6,20 +6,20 @@ ghost use Prim.Native.Nat.{_≤_};
 // How many bytes behind the room are looked at too.
 const BEHIND: usize = 64;
 
-// `>` writes the list lent, `<` reads the flow lent back to its list.
-pub(crate) fn fill(kind: u8, lent: &[u8], out: &mut [u8]) -> Filled {
+// `>` writes the list given, `<` reads the flow given back to its list.
+pub(crate) fn fill(kind: u8, given: &[u8], out: &mut [u8]) -> Filled {
     if kind == b'>' {
-        return list::write(lent, out);
+        return list::write(given, out);
     }
-    list::read_back(lent, out)
+    list::read_back(given, out)
 }
 
 // Calls with an output of that room, or of all of `out` where it is shorter.
-pub(crate) fn print(kind: u8, lent: &[u8], room: u64, out: &mut [u8]) {
+pub(crate) fn print(kind: u8, given: &[u8], room: u64, out: &mut [u8]) {
     let n = least(room, out.len());
     let end = least(n as u64 + BEHIND as u64, out.len());
     output::mark(&mut out[0..end]);
-    let filled = fill(kind, lent, &mut out[0..n]);
+    let filled = fill(kind, given, &mut out[0..n]);
     output::print(filled, &out[0..end], n);
 }
 

@@ -8,10 +8,10 @@ use list::Filled;
 use printing::labelled;
 use printing::line_feed;
 
-// `there 1920 back 1236 same`, or where the bytes that came back first differ from those lent, as
+// `there 1920 back 1236 same`, or where the bytes that came back first differ from those given, as
 // `there 1236 back 1920 differs at 226`; or the refusal of the call that was refused.
-pub(crate) fn print(kind: u8, other: u8, lent: &[u8], between: &mut [u8], out: &mut [u8]) {
-    let there = fill_marked(kind, lent, between);
+pub(crate) fn print(kind: u8, other: u8, given: &[u8], between: &mut [u8], out: &mut [u8]) {
+    let there = fill_marked(kind, given, between);
     if refused(there) {
         return;
     }
@@ -23,14 +23,14 @@ pub(crate) fn print(kind: u8, other: u8, lent: &[u8], between: &mut [u8], out: &
     let m = least(back.length, out.len());
     labelled(b"there ", there.length);
     labelled(b" back ", back.length);
-    compared(lent, &out[0..m]);
+    compared(given, &out[0..m]);
     line_feed();
 }
 
 // The call with all of `out` for its output, which holds nothing of an earlier call.
-fn fill_marked(kind: u8, lent: &[u8], out: &mut [u8]) -> Filled {
+fn fill_marked(kind: u8, given: &[u8], out: &mut [u8]) -> Filled {
     mark(out);
-    fill(kind, lent, out)
+    fill(kind, given, out)
 }
 
 // Writes the line of a refusal, and answers whether it is one.

@@ -1,4 +1,5 @@
--- The positions that document 01's table of checks names, for each record type, and the type at 2-3. Assumes nothing.
+-- The positions that document 01's table of checks names, for each record type, and the type at 2-3. `ChecksByPosition` says that none is
+-- missing. Assumes nothing.
 use Prim.Native.Nat.{ℕ}
 use mathlib.Core.List.{List, [], _∷_}
 use mathlib.Core.Path.{_≡_}

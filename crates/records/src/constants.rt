@@ -1,5 +1,5 @@
-// The fixed contents of records, compared when a record is read (document 01, "Language forms in the
-// code"), and the numbers of the refusals that the rules of a record give.
+// The fixed contents of records, compared when a record is read and written when a list is encoded
+// (document 01, "Language forms in the code"), and the numbers of the refusals that the rules of a record give.
 
 // The types, as they stand at 2-3; `type_of` gives them to other crates.
 pub(crate) const TYPE_IM: [u8; 2] = *b"IM";

@@ -1,7 +1,7 @@
 // Lines, escaped bytes, hexadecimal digits and decimal numbers of the vector files, for the programs
 // that run them.
 //
-// No public function has a `requires`. The one that changes lent bytes, `unescape`, says each of them.
+// No public function has a `requires`. The one that changes bytes, `unescape`, says each of them.
 mod escape;
 
 pub use escape::unescape;

@@ -237,7 +237,7 @@ const LOOK_ALIKES: [(&str, &[Change]); 11] = [
 
 /// Right records, of which none is EF.
 #[rustfmt::skip]
-const CUT: [(&str, &str); 4] = [
+pub(crate) const CUT: [(&str, &str); 4] = [
     ("the header alone", "IM"),
     ("cut inside the first disposition", "IM 14 20 30 40"),
     ("cut inside the second disposition", "IM 14 20 30 40 50 51 70 14 20 30"),
@@ -247,7 +247,7 @@ const CUT: [(&str, &str); 4] = [
 /// Bytes put into `TWO`, whose second 14 is record 9 and whose EF is
 /// record 16.
 #[rustfmt::skip]
-const FAULTS: [(&str, &[Change]); 15] = [
+pub(crate) const FAULTS: [(&str, &[Change]); 15] = [
     ("6 in IM", &[(1, 114, b"L")]),
     ("2 in the last byte", &[(16, 120, b"\x7f")]),
     ("3 in the second 70", &[(15, 2, b"14")]),

@@ -9,6 +9,7 @@
 
 use crate::damage::checked;
 use crate::fields::MAX_AMOUNT;
+use crate::find_cases;
 use crate::reader_cases::{Change, Flow, AND_14, EVERY, ONE, TWO};
 use crate::record::{field, field_mut, record_type, Record, BLANK_RECORD, RECORD_LEN};
 
@@ -55,8 +56,8 @@ pub fn cases() -> Vec<Case> {
     cases.back();
     cases.back_refused();
     cases.back_carried();
-    cases.unclean();
-    cases.clean();
+    cases.not_canonical();
+    cases.canonical();
     cases.0
 }
 
@@ -670,10 +671,10 @@ impl Cases {
         let end = [&flow[..], b"\n"].concat();
         self.push("back: a line feed at the end", end, &asked);
         self.push("back: 14 after EF", Flow::of(AND_14).bytes(), &asked);
-        for (name, types) in CUT {
+        for (name, types) in find_cases::CUT {
             self.push(format!("back: {name}"), Flow::of(types).bytes(), &asked);
         }
-        for (name, changes) in BACK_FAULTS {
+        for (name, changes) in find_cases::FAULTS {
             let flow = Flow::of(TWO).with_all(changes);
             self.push(format!("back: {name}"), flow.bytes(), &asked);
         }
@@ -698,13 +699,13 @@ impl Cases {
     }
 
     /// One byte that the list does not carry, in each part of each record.
-    fn unclean(&mut self) {
+    fn not_canonical(&mut self) {
         for (name, types, record, positions) in NOT_CARRIED {
             let len = if types == ONE { 643 } else { 671 };
             for &position in positions {
                 let mut flow = Flow::of(types);
                 flow.0[record - 1][position - 1] = b'~';
-                let name = format!("back: unclean in {name} at {position}");
+                let name = format!("back: not canonical in {name} at {position}");
                 self.push(name, flow.bytes(), &[ReadBack(len), BackAndWrite]);
             }
         }
@@ -715,13 +716,13 @@ impl Cases {
         self.push("back: 40-45 unlike in EF", other.bytes(), &asked);
     }
 
-    /// One byte that is carried and not checked; a clean flow comes again.
-    fn clean(&mut self) {
+    /// One byte that is carried and not checked; a canonical flow comes again.
+    fn canonical(&mut self) {
         for (name, types, record, positions) in CARRIED {
             for &position in positions {
                 let mut flow = Flow::of(types);
                 flow.0[record - 1][position - 1] = b'~';
-                let name = format!("back: clean, {name} at {position}");
+                let name = format!("back: canonical, {name} at {position}");
                 self.push(name, flow.bytes(), &[BackAndWrite]);
             }
         }
@@ -742,33 +743,6 @@ const BACK: [(&str, &str, usize); 5] = [
     ("16 and 59", "IM 14 16 20 30 40 59 51 70 EF", 671),
     ("five 59s", "IM 14 20 30 40 59 59 59 59 59 51 70 EF", 1_087),
     ("16 in the second", "IM 14 20 30 40 50 51 70 14 16 20 30 40 59 59 51 70 EF", 1_375),
-];
-
-/// Right records, of which none is EF.
-#[rustfmt::skip]
-const CUT: [(&str, &str); 3] = [
-    ("the header alone", "IM"),
-    ("cut inside a disposition", "IM 14 20 30 40"),
-    ("no EF", "IM 14 20 30 40 50 51 70 14 20 30 40 50 51 70"),
-];
-
-/// Bytes put into `TWO`, whose second 14 is record 9 and whose EF is
-/// record 16.
-#[rustfmt::skip]
-const BACK_FAULTS: [(&str, &[Change]); 13] = [
-    ("2 in the last byte", &[(16, 120, b"\x7f")]),
-    ("3 in the second 70", &[(15, 2, b"14")]),
-    ("5 in the second 14", &[(9, 34, b"0000000380.50")]),
-    ("6 in IM", &[(1, 114, b"L")]),
-    ("7 in the second 30", &[(11, 11, &[b' '; 30])]),
-    ("8 in the second 14", &[(9, 23, b"290227")]),
-    ("9 in the second 20", &[(10, 4, b"0000001")]),
-    ("10 in EF", &[(16, 114, b"L")]),
-    ("11 in the second 14", &[(9, 92, b"AB124")]),
-    ("12 in EF", &[(16, 46, b"0000003")]),
-    ("13 in EF", &[(16, 53, b"000000000083051")]),
-    ("13 in EF at 68", &[(16, 68, b"000000000000001")]),
-    ("14 in EF", &[(16, 83, b"0000015")]),
 ];
 
 const FULL_FLOW: &str = "IM 14 16 20 30 40 59 51 70 EF";

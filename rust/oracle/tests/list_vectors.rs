@@ -1,5 +1,5 @@
 //! The cases of `oracle vectors list`, against literal answers from document 01
-//! and against a second statement of what a list spells and a flow carries.
+//! and against a second statement of what a list encodes and a flow carries.
 //!
 //! What the lines would catch:
 //! - a carried part that begins or ends at another position, a body of another
@@ -13,7 +13,7 @@
 //! - a room taken a byte too long or too short, bytes written behind the length,
 //!   output written before the refusal: the number of bytes kept;
 //! - a refusal of the list's place instead of the record's: the refused values;
-//! - a flow called clean that is not, or the reverse: the round trips.
+//! - a flow called canonical that is not, or the reverse: the round trips.
 
 mod common;
 
@@ -29,7 +29,7 @@ type Due = (&'static str, &'static [(&'static str, &'static str)]);
 
 /// The cases in the order of the file, but those of one byte that is no kind.
 #[rustfmt::skip]
-const DUE: [Due; 419] = [
+const DUE: [Due; 422] = [
     ("two rents", &[
         (">0", "refused 21 record 0 position 0"),
         (">1", "refused 21 record 0 position 0"),
@@ -564,17 +564,29 @@ const DUE: [Due; 419] = [
         ("<2000", "refused 4 record 2 position 0"),
         ("<>", "refused 4 record 2 position 0"),
     ]),
-    ("back: cut inside a disposition", &[
+    ("back: cut inside the first disposition", &[
         ("<0", "refused 4 record 6 position 0"),
         ("<1235", "refused 4 record 6 position 0"),
         ("<2000", "refused 4 record 6 position 0"),
         ("<>", "refused 4 record 6 position 0"),
+    ]),
+    ("back: cut inside the second disposition", &[
+        ("<0", "refused 4 record 12 position 0"),
+        ("<1235", "refused 4 record 12 position 0"),
+        ("<2000", "refused 4 record 12 position 0"),
+        ("<>", "refused 4 record 12 position 0"),
     ]),
     ("back: no EF", &[
         ("<0", "refused 4 record 16 position 0"),
         ("<1235", "refused 4 record 16 position 0"),
         ("<2000", "refused 4 record 16 position 0"),
         ("<>", "refused 4 record 16 position 0"),
+    ]),
+    ("back: 6 in IM", &[
+        ("<0", "refused 6 record 1 position 114"),
+        ("<1235", "refused 6 record 1 position 114"),
+        ("<2000", "refused 6 record 1 position 114"),
+        ("<>", "refused 6 record 1 position 114"),
     ]),
     ("back: 2 in the last byte", &[
         ("<0", "refused 2 record 16 position 120"),
@@ -594,11 +606,11 @@ const DUE: [Due; 419] = [
         ("<2000", "refused 5 record 9 position 34"),
         ("<>", "refused 5 record 9 position 34"),
     ]),
-    ("back: 6 in IM", &[
-        ("<0", "refused 6 record 1 position 114"),
-        ("<1235", "refused 6 record 1 position 114"),
-        ("<2000", "refused 6 record 1 position 114"),
-        ("<>", "refused 6 record 1 position 114"),
+    ("back: 6 in the second 70", &[
+        ("<0", "refused 6 record 15 position 94"),
+        ("<1235", "refused 6 record 15 position 94"),
+        ("<2000", "refused 6 record 15 position 94"),
+        ("<>", "refused 6 record 15 position 94"),
     ]),
     ("back: 7 in the second 30", &[
         ("<0", "refused 7 record 11 position 11"),
@@ -611,6 +623,12 @@ const DUE: [Due; 419] = [
         ("<1235", "refused 8 record 9 position 23"),
         ("<2000", "refused 8 record 9 position 23"),
         ("<>", "refused 8 record 9 position 23"),
+    ]),
+    ("back: 9 in the second 14", &[
+        ("<0", "refused 9 record 9 position 4"),
+        ("<1235", "refused 9 record 9 position 4"),
+        ("<2000", "refused 9 record 9 position 4"),
+        ("<>", "refused 9 record 9 position 4"),
     ]),
     ("back: 9 in the second 20", &[
         ("<0", "refused 9 record 10 position 4"),
@@ -670,155 +688,155 @@ const DUE: [Due; 419] = [
         ("<1087", "accepted dispositions 1 cents 45000 records 13 length 1087"),
         ("<>", "there 1087 back 1560 differs at 0"),
     ]),
-    ("back: unclean in IM at 1", &[
+    ("back: not canonical in IM at 1", &[
         ("<643", "accepted dispositions 1 cents 45000 records 9 length 643"),
         ("<>", "there 643 back 1080 differs at 0"),
     ]),
-    ("back: unclean in IM at 46", &[
+    ("back: not canonical in IM at 46", &[
         ("<643", "accepted dispositions 1 cents 45000 records 9 length 643"),
         ("<>", "there 643 back 1080 differs at 45"),
     ]),
-    ("back: unclean in IM at 104", &[
+    ("back: not canonical in IM at 104", &[
         ("<643", "accepted dispositions 1 cents 45000 records 9 length 643"),
         ("<>", "there 643 back 1080 differs at 103"),
     ]),
-    ("back: unclean in IM at 112", &[
+    ("back: not canonical in IM at 112", &[
         ("<643", "accepted dispositions 1 cents 45000 records 9 length 643"),
         ("<>", "there 643 back 1080 differs at 111"),
     ]),
-    ("back: unclean in IM at 113", &[
+    ("back: not canonical in IM at 113", &[
         ("<643", "accepted dispositions 1 cents 45000 records 9 length 643"),
         ("<>", "there 643 back 1080 differs at 112"),
     ]),
-    ("back: unclean in IM at 115", &[
+    ("back: not canonical in IM at 115", &[
         ("<643", "accepted dispositions 1 cents 45000 records 9 length 643"),
         ("<>", "there 643 back 1080 differs at 114"),
     ]),
-    ("back: unclean in IM at 120", &[
+    ("back: not canonical in IM at 120", &[
         ("<643", "accepted dispositions 1 cents 45000 records 9 length 643"),
         ("<>", "there 643 back 1080 differs at 119"),
     ]),
-    ("back: unclean in 14 at 1", &[
+    ("back: not canonical in 14 at 1", &[
         ("<643", "accepted dispositions 1 cents 45000 records 9 length 643"),
         ("<>", "there 643 back 1080 differs at 120"),
     ]),
-    ("back: unclean in 14 at 11", &[
+    ("back: not canonical in 14 at 11", &[
         ("<643", "accepted dispositions 1 cents 45000 records 9 length 643"),
         ("<>", "there 643 back 1080 differs at 130"),
     ]),
-    ("back: unclean in 14 at 22", &[
+    ("back: not canonical in 14 at 22", &[
         ("<643", "accepted dispositions 1 cents 45000 records 9 length 643"),
         ("<>", "there 643 back 1080 differs at 141"),
     ]),
-    ("back: unclean in 14 at 70", &[
+    ("back: not canonical in 14 at 70", &[
         ("<643", "accepted dispositions 1 cents 45000 records 9 length 643"),
         ("<>", "there 643 back 1080 differs at 189"),
     ]),
-    ("back: unclean in 14 at 91", &[
+    ("back: not canonical in 14 at 91", &[
         ("<643", "accepted dispositions 1 cents 45000 records 9 length 643"),
         ("<>", "there 643 back 1080 differs at 210"),
     ]),
-    ("back: unclean in 14 at 114", &[
+    ("back: not canonical in 14 at 114", &[
         ("<643", "accepted dispositions 1 cents 45000 records 9 length 643"),
         ("<>", "there 643 back 1080 differs at 233"),
     ]),
-    ("back: unclean in 14 at 119", &[
+    ("back: not canonical in 14 at 119", &[
         ("<643", "accepted dispositions 1 cents 45000 records 9 length 643"),
         ("<>", "there 643 back 1080 differs at 238"),
     ]),
-    ("back: unclean in 16 at 1", &[
+    ("back: not canonical in 16 at 1", &[
         ("<671", "accepted dispositions 1 cents 45000 records 10 length 671"),
         ("<>", "there 671 back 1200 differs at 240"),
     ]),
-    ("back: unclean in 16 at 38", &[
+    ("back: not canonical in 16 at 38", &[
         ("<671", "accepted dispositions 1 cents 45000 records 10 length 671"),
         ("<>", "there 671 back 1200 differs at 277"),
     ]),
-    ("back: unclean in 16 at 120", &[
+    ("back: not canonical in 16 at 120", &[
         ("<671", "accepted dispositions 1 cents 45000 records 10 length 671"),
         ("<>", "there 671 back 1200 differs at 359"),
     ]),
-    ("back: unclean in 20 at 1", &[
+    ("back: not canonical in 20 at 1", &[
         ("<643", "accepted dispositions 1 cents 45000 records 9 length 643"),
         ("<>", "there 643 back 1080 differs at 240"),
     ]),
-    ("back: unclean in 20 at 107", &[
+    ("back: not canonical in 20 at 107", &[
         ("<643", "accepted dispositions 1 cents 45000 records 9 length 643"),
         ("<>", "there 643 back 1080 differs at 346"),
     ]),
-    ("back: unclean in 20 at 120", &[
+    ("back: not canonical in 20 at 120", &[
         ("<643", "accepted dispositions 1 cents 45000 records 9 length 643"),
         ("<>", "there 643 back 1080 differs at 359"),
     ]),
-    ("back: unclean in 30 at 1", &[
+    ("back: not canonical in 30 at 1", &[
         ("<643", "accepted dispositions 1 cents 45000 records 9 length 643"),
         ("<>", "there 643 back 1080 differs at 360"),
     ]),
-    ("back: unclean in 30 at 87", &[
+    ("back: not canonical in 30 at 87", &[
         ("<643", "accepted dispositions 1 cents 45000 records 9 length 643"),
         ("<>", "there 643 back 1080 differs at 446"),
     ]),
-    ("back: unclean in 30 at 120", &[
+    ("back: not canonical in 30 at 120", &[
         ("<643", "accepted dispositions 1 cents 45000 records 9 length 643"),
         ("<>", "there 643 back 1080 differs at 479"),
     ]),
-    ("back: unclean in 40 at 1", &[
+    ("back: not canonical in 40 at 1", &[
         ("<643", "accepted dispositions 1 cents 45000 records 9 length 643"),
         ("<>", "there 643 back 1080 differs at 480"),
     ]),
-    ("back: unclean in 50 at 1", &[
+    ("back: not canonical in 50 at 1", &[
         ("<643", "accepted dispositions 1 cents 45000 records 9 length 643"),
         ("<>", "there 643 back 1080 differs at 600"),
     ]),
-    ("back: unclean in 59 at 1", &[
+    ("back: not canonical in 59 at 1", &[
         ("<671", "accepted dispositions 1 cents 45000 records 10 length 671"),
         ("<>", "there 671 back 1200 differs at 720"),
     ]),
-    ("back: unclean in 51 at 1", &[
+    ("back: not canonical in 51 at 1", &[
         ("<643", "accepted dispositions 1 cents 45000 records 9 length 643"),
         ("<>", "there 643 back 1080 differs at 720"),
     ]),
-    ("back: unclean in 70 at 1", &[
+    ("back: not canonical in 70 at 1", &[
         ("<643", "accepted dispositions 1 cents 45000 records 9 length 643"),
         ("<>", "there 643 back 1080 differs at 840"),
     ]),
-    ("back: unclean in 70 at 11", &[
+    ("back: not canonical in 70 at 11", &[
         ("<643", "accepted dispositions 1 cents 45000 records 9 length 643"),
         ("<>", "there 643 back 1080 differs at 850"),
     ]),
-    ("back: unclean in 70 at 93", &[
+    ("back: not canonical in 70 at 93", &[
         ("<643", "accepted dispositions 1 cents 45000 records 9 length 643"),
         ("<>", "there 643 back 1080 differs at 932"),
     ]),
-    ("back: unclean in 70 at 95", &[
+    ("back: not canonical in 70 at 95", &[
         ("<643", "accepted dispositions 1 cents 45000 records 9 length 643"),
         ("<>", "there 643 back 1080 differs at 934"),
     ]),
-    ("back: unclean in EF at 1", &[
+    ("back: not canonical in EF at 1", &[
         ("<643", "accepted dispositions 1 cents 45000 records 9 length 643"),
         ("<>", "there 643 back 1080 differs at 960"),
     ]),
-    ("back: unclean in EF at 40", &[
+    ("back: not canonical in EF at 40", &[
         ("<643", "accepted dispositions 1 cents 45000 records 9 length 643"),
         ("<>", "there 643 back 1080 differs at 999"),
     ]),
-    ("back: unclean in EF at 45", &[
+    ("back: not canonical in EF at 45", &[
         ("<643", "accepted dispositions 1 cents 45000 records 9 length 643"),
         ("<>", "there 643 back 1080 differs at 1004"),
     ]),
-    ("back: unclean in EF at 90", &[
+    ("back: not canonical in EF at 90", &[
         ("<643", "accepted dispositions 1 cents 45000 records 9 length 643"),
         ("<>", "there 643 back 1080 differs at 1049"),
     ]),
-    ("back: unclean in EF at 113", &[
+    ("back: not canonical in EF at 113", &[
         ("<643", "accepted dispositions 1 cents 45000 records 9 length 643"),
         ("<>", "there 643 back 1080 differs at 1072"),
     ]),
-    ("back: unclean in EF at 115", &[
+    ("back: not canonical in EF at 115", &[
         ("<643", "accepted dispositions 1 cents 45000 records 9 length 643"),
         ("<>", "there 643 back 1080 differs at 1074"),
     ]),
-    ("back: unclean in EF at 120", &[
+    ("back: not canonical in EF at 120", &[
         ("<643", "accepted dispositions 1 cents 45000 records 9 length 643"),
         ("<>", "there 643 back 1080 differs at 1079"),
     ]),
@@ -830,27 +848,27 @@ const DUE: [Due; 419] = [
         ("<643", "accepted dispositions 1 cents 45000 records 9 length 643"),
         ("<>", "there 643 back 1080 differs at 1004"),
     ]),
-    ("back: clean, 14 at 58", &[("<>", "there 643 back 1080 same")]),
-    ("back: clean, 14 at 69", &[("<>", "there 643 back 1080 same")]),
-    ("back: clean, 14 at 98", &[("<>", "there 643 back 1080 same")]),
-    ("back: clean, 14 at 113", &[("<>", "there 643 back 1080 same")]),
-    ("back: clean, 16 at 15", &[("<>", "there 671 back 1200 same")]),
-    ("back: clean, 16 at 26", &[("<>", "there 671 back 1200 same")]),
-    ("back: clean, 16 at 37", &[("<>", "there 671 back 1200 same")]),
-    ("back: clean, 20 at 35", &[("<>", "there 643 back 1080 same")]),
-    ("back: clean, 20 at 106", &[("<>", "there 643 back 1080 same")]),
-    ("back: clean, 30 at 41", &[("<>", "there 643 back 1080 same")]),
-    ("back: clean, 30 at 86", &[("<>", "there 643 back 1080 same")]),
-    ("back: clean, 40 at 11", &[("<>", "there 643 back 1080 same")]),
-    ("back: clean, 40 at 120", &[("<>", "there 643 back 1080 same")]),
-    ("back: clean, 50 at 11", &[("<>", "there 643 back 1080 same")]),
-    ("back: clean, 50 at 120", &[("<>", "there 643 back 1080 same")]),
-    ("back: clean, 59 at 66", &[("<>", "there 671 back 1200 same")]),
-    ("back: clean, 59 at 120", &[("<>", "there 671 back 1200 same")]),
-    ("back: clean, 51 at 11", &[("<>", "there 643 back 1080 same")]),
-    ("back: clean, 51 at 120", &[("<>", "there 643 back 1080 same")]),
-    ("back: clean, 70 at 96", &[("<>", "there 643 back 1080 same")]),
-    ("back: clean, 70 at 120", &[("<>", "there 643 back 1080 same")]),
+    ("back: canonical, 14 at 58", &[("<>", "there 643 back 1080 same")]),
+    ("back: canonical, 14 at 69", &[("<>", "there 643 back 1080 same")]),
+    ("back: canonical, 14 at 98", &[("<>", "there 643 back 1080 same")]),
+    ("back: canonical, 14 at 113", &[("<>", "there 643 back 1080 same")]),
+    ("back: canonical, 16 at 15", &[("<>", "there 671 back 1200 same")]),
+    ("back: canonical, 16 at 26", &[("<>", "there 671 back 1200 same")]),
+    ("back: canonical, 16 at 37", &[("<>", "there 671 back 1200 same")]),
+    ("back: canonical, 20 at 35", &[("<>", "there 643 back 1080 same")]),
+    ("back: canonical, 20 at 106", &[("<>", "there 643 back 1080 same")]),
+    ("back: canonical, 30 at 41", &[("<>", "there 643 back 1080 same")]),
+    ("back: canonical, 30 at 86", &[("<>", "there 643 back 1080 same")]),
+    ("back: canonical, 40 at 11", &[("<>", "there 643 back 1080 same")]),
+    ("back: canonical, 40 at 120", &[("<>", "there 643 back 1080 same")]),
+    ("back: canonical, 50 at 11", &[("<>", "there 643 back 1080 same")]),
+    ("back: canonical, 50 at 120", &[("<>", "there 643 back 1080 same")]),
+    ("back: canonical, 59 at 66", &[("<>", "there 671 back 1200 same")]),
+    ("back: canonical, 59 at 120", &[("<>", "there 671 back 1200 same")]),
+    ("back: canonical, 51 at 11", &[("<>", "there 643 back 1080 same")]),
+    ("back: canonical, 51 at 120", &[("<>", "there 643 back 1080 same")]),
+    ("back: canonical, 70 at 96", &[("<>", "there 643 back 1080 same")]),
+    ("back: canonical, 70 at 120", &[("<>", "there 643 back 1080 same")]),
     ("back: 40-45 alike in IM and EF", &[("<>", "there 643 back 1080 same")]),
 ];
 
@@ -970,8 +988,8 @@ fn table(kind: u8) -> (&'static str, Vec<usize>) {
     (record, positions)
 }
 
-/// What a list of whole items under one H spells.
-fn spelled(mut list: &[u8]) -> Vec<u8> {
+/// What a list of whole items under one H encodes.
+fn encoded(mut list: &[u8]) -> Vec<u8> {
     let header = list[1..50].to_vec();
     let (mut flow, mut count, mut cents) = (Vec::new(), 0, 0);
     while let Some((&kind, rest)) = list.split_first() {
@@ -1032,7 +1050,7 @@ fn adler(bytes: &[u8]) -> u64 {
 }
 
 #[test]
-fn every_output_is_what_is_spelled_or_carried() {
+fn every_output_is_what_is_encoded_or_carried() {
     let (input, output) = list_files();
     let (mut flows, mut lists) = (0, 0);
     for case in given(&input, &output) {
@@ -1042,7 +1060,7 @@ fn every_output_is_what_is_spelled_or_carried() {
             };
             let due = if question.starts_with('>') {
                 flows += 1;
-                spelled(&case.bytes)
+                encoded(&case.bytes)
             } else {
                 lists += 1;
                 carried(&case.bytes)
@@ -1063,36 +1081,36 @@ fn every_output_is_what_is_spelled_or_carried() {
     assert!(flows >= 40 && lists >= 50);
 }
 
-/// A flow comes again exactly where it is what its list spells, and else differs
+/// A flow comes again exactly where it is what its list encodes, and else differs
 /// first where it is not; a list that is written always comes again.
 #[test]
 fn round_trips() {
     let (input, output) = list_files();
-    let (mut clean, mut unclean) = (0, 0);
+    let (mut canonical, mut others) = (0, 0);
     for case in given(&input, &output) {
         for (question, line) in case.asked {
             if !matches!(question, "<>" | "><") || line.starts_with("refused") {
                 continue;
             }
             if question == "><" {
-                let flow = spelled(&case.bytes);
+                let flow = encoded(&case.bytes);
                 let due = format!("there {} back {} same", flow.len(), case.bytes.len());
                 assert_eq!(line, due, "{}", case.name);
                 continue;
             }
             let list = carried(&case.bytes);
-            let again = spelled(&list);
+            let again = encoded(&list);
             let lengths = format!("there {} back {} ", list.len(), again.len());
             let unlike = (0..again.len()).find(|&i| again[i] != case.bytes[i]);
             match unlike {
-                None => clean += 1,
-                Some(_) => unclean += 1,
+                None => canonical += 1,
+                Some(_) => others += 1,
             }
             let end = unlike.map_or(String::from("same"), |i| format!("differs at {i}"));
             assert_eq!(line, lengths + &end, "{}", case.name);
         }
     }
-    assert!(clean >= 20 && unclean >= 40);
+    assert!(canonical >= 20 && others >= 40);
 }
 
 /// Each number that writing and reading back can give, but 1 of writing, which

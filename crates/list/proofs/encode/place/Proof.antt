@@ -31,10 +31,10 @@ same-length c = search needs
 returns : tie.Need-returns
 returns c =
     let at = c .before .before .before .before .before .before in
-    let rec = at .args .rec .now in
+    let out = at .args .out .now in
     let content = at .args .content .now in
     let from = at .args .first - 1 in
-    copied-over from (from + length content) rec content (c .before .before .copy .last .1 .0) (omega arith) (omega (arith, at .pre .1)) (omega arith) (c .before .before .copy .ensures .1)
+    copied-over from (from + length content) out content (c .before .before .copy .last .1 .0) (omega arith) (omega (arith, at .pre .1)) (omega arith) (c .before .before .copy .ensures .1)
 
 pub place-spec : {M : Type 1} → statement M
 place-spec =

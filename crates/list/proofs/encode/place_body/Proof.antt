@@ -13,7 +13,7 @@ use Rattle.records.specs.declared.kind.Kind.{Kind}
 use Rattle.list.specs.Encode.{fill, bodyPlaced}
 use Rattle.list.specs.Table.{carried, bodyLength, fourOf, boundsOf}
 use Rattle.list.proofs.Filling.{BodyLeft, span-placed, body-placed, body-four}
-use Rattle.list.proofs.Spans.{Within, spanAt, span-within, four-widths, four-next, four-end}
+use Rattle.list.proofs.TableSpans.{Within, spanAt, span-within, four-widths, four-next, four-end}
 use Rattle.list.proofs.encode.place_body.Statement.{statement}
 use Rattle.list.proofs.encode.place_body.Tie as tie
 

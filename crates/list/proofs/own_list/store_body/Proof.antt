@@ -14,7 +14,7 @@ use Rattle.list.specs.ReadBack.{gather}
 use Rattle.list.specs.Table.{carried, bodyLength, fourOf, boundsOf}
 use Rattle.list.proofs.Carried.{span-length}
 use Rattle.list.proofs.Gathering.{Storing, storing, storing-turn, stored-next, stored-all}
-use Rattle.list.proofs.Spans.{Within, spanAt, four-end}
+use Rattle.list.proofs.TableSpans.{Within, spanAt, four-end}
 use Rattle.list.proofs.own_list.store_body.Statement.{statement}
 use Rattle.list.proofs.own_list.store_body.Tie as tie
 
@@ -91,7 +91,7 @@ part-copy-start c = search needs
 part-copy-end : tie.Need-part-copy-end Inv-loop μ-loop
 part-copy-end c = omega (arith, fits (c .before))
 
--- as many as the part that is lent
+-- as many as the part that is handed on
 sized : (c : tie.After-field Inv-loop μ-loop) → length (c .field .result .now) ≡ c .before .width .result
 sized c =
     let at = c .before .before in

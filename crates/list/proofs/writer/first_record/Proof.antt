@@ -12,7 +12,7 @@ use Rattle.list.specs.Encode.{encodeItem}
 use Rattle.list.specs.Items.{item, itemsIn}
 use Rattle.list.specs.Table.{bodyLength}
 use Rattle.list.proofs.Parsing.{Next, next-item}
-use Rattle.list.proofs.Writing.{kindAt, first-record}
+use Rattle.list.proofs.Loops.{kindAt, first-record}
 use Rattle.list.proofs.writer.first_record.Statement.{statement}
 use Rattle.list.proofs.writer.first_record.Tie as tie
 

@@ -11,7 +11,7 @@ use Rattle.flow.specs.declared.walk.Walk.{Walk}
 use Rattle.list.specs.Encode.{recordsFor}
 use Rattle.list.specs.Items.{itemsIn}
 use Rattle.list.specs.Write.{closed, judgeItems}
-use Rattle.list.proofs.Writing.{none-judged}
+use Rattle.list.proofs.Loops.{none-judged}
 use Rattle.list.proofs.writer.judge_items.Statement.{statement}
 use Rattle.list.proofs.writer.judge_items.Tie as tie
 

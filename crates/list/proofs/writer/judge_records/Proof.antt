@@ -17,7 +17,7 @@ use Rattle.flow.specs.Steps.{opened, latestOf, judgeRecord}
 use Rattle.list.specs.Encode.{carriedAt, encodeItem}
 use Rattle.list.specs.Items.{itemsIn}
 use Rattle.list.specs.Table.{bodyLength}
-use Rattle.list.proofs.Writing.{kindAt, itemAt, Turn, turn, turn-record, JudgingAt, judging-begins, next-judged, judging-on, judging-refused, judging-ends}
+use Rattle.list.proofs.Loops.{kindAt, itemAt, Turn, turn, turn-record, JudgingAt, judging-begins, next-judged, judging-on, judging-refused, judging-ends}
 use Rattle.list.proofs.writer.judge_records.Statement.{statement}
 use Rattle.list.proofs.writer.judge_records.Tie as tie
 

@@ -15,18 +15,18 @@ use Rattle.flow.specs.Steps.{opened}
 use Rattle.list.specs.Encode.{encodeItem, encodeTrailer, trailerFor, encode}
 use Rattle.list.specs.Items.{itemsIn}
 use Rattle.list.specs.Table.{bodyLength}
-use Rattle.list.proofs.Encoded.{encoded-length}
-use Rattle.list.proofs.Encoding.{trailer-length}
-use Rattle.list.proofs.Writing.{kindAt, itemAt, next-proper, Turn, turn, turn-record, StoringAt, storing-begins, next-stored, storing-on, storing-ends}
+use Rattle.list.proofs.OneRecord.{encoded-length}
+use Rattle.list.proofs.AllRecords.{trailer-length}
+use Rattle.list.proofs.Loops.{kindAt, itemAt, next-proper, Turn, turn, turn-record, StoringAt, storing-begins, next-stored, storing-on, storing-ends}
 use Rattle.list.proofs.writer.store_items.Statement.{statement}
 use Rattle.list.proofs.writer.store_items.Tie as tie
 
 abbrev Inv-loop : tie.InvT-loop
-Inv-loop list out₀ dispositions cents header₀ n₀ i₀ at₀ out header n i j =
-    (j ≤ length list) × (length (itemsIn list) ≤ 9999998) × (length out ≡ length out₀) × StoringAt list (put 0 (encode (itemsIn list)) out₀) j i n header out
+Inv-loop list out₀ count cents header₀ dispositions₀ n₀ at₀ out header dispositions n j =
+    (j ≤ length list) × (length (itemsIn list) ≤ 9999998) × (length out ≡ length out₀) × StoringAt list (put 0 (encode (itemsIn list)) out₀) j n dispositions header out
 
 abbrev μ-loop : tie.MeasureT-loop
-μ-loop list out₀ dispositions cents header₀ n₀ i₀ at₀ out header n i j = length list - j
+μ-loop list out₀ count cents header₀ dispositions₀ n₀ at₀ out header dispositions n j = length list - j
 
 sub-header : tie.Need-sub-header Inv-loop μ-loop
 sub-header c = search needs
@@ -60,7 +60,7 @@ turn-so : (c : tie.After-body-length Inv-loop μ-loop) → let l = c .before .be
 turn-so c =
     let l = c .before .before .before .before in
     let s = l .loop .inv .3 in
-    turn (list-of l) (l .loop .i) (l .loop .at) (s .left) (next-stored s (c .before .before .before .loop-test .taken)) (c .before .kind-of .result) (c .body-length .result) (c .before .kind-of .ensures) (c .body-length .ensures)
+    turn (list-of l) (l .loop .n) (l .loop .at) (s .left) (next-stored s (c .before .before .before .loop-test .taken)) (c .before .kind-of .result) (c .body-length .result) (c .before .kind-of .ensures) (c .body-length .ensures)
 
 add-end-2 : tie.Need-add-end-2 Inv-loop μ-loop
 add-end-2 c = omega (arith, turn-so c .ends)
@@ -78,7 +78,7 @@ part-body-end : tie.Need-part-body-end Inv-loop μ-loop
 part-body-end c = omega (arith, turn-so c .ends)
 
 -- no more dispositions than items, and no more items than a flow has room for
-few-so : (a : tie.At-loop Inv-loop μ-loop) → (a .loop .n ≤ a .loop .i) × (a .loop .i ≤ 9999998)
+few-so : (a : tie.At-loop Inv-loop μ-loop) → (a .loop .dispositions ≤ a .loop .n) × (a .loop .n ≤ 9999998)
 few-so a =
     let s = a .loop .inv .3 in
     (s .few, omega (arith, a .loop .inv .1, s .count))
@@ -100,22 +100,22 @@ slice-aggregate-place c = search needs
 
 -- the record that is built is the item's
 abbrev record-of : tie.At-loop Inv-loop μ-loop → List ℕ
-record-of a = encodeItem (a .loop .n + opened (kindAt (list-of a) (a .loop .at))) (a .loop .header .now) (itemAt (list-of a) (a .loop .at))
+record-of a = encodeItem (a .loop .dispositions + opened (kindAt (list-of a) (a .loop .at))) (a .loop .header .now) (itemAt (list-of a) (a .loop .at))
 
 built : (c : tie.After-encode-item Inv-loop μ-loop) → c .encode-item .result ≡ record-of (c .before .before .before .before .before .before .before)
 built c =
     let l = c .before .before .before .before .before .before .before in
-    turn-record (turn-so (c .before .before .before)) (l .loop .n) (c .before .counted .result) (l .loop .header .now) (c .encode-item .result) (c .before .counted .ensures) (c .encode-item .ensures)
+    turn-record (turn-so (c .before .before .before)) (l .loop .dispositions) (c .before .counted .result) (l .loop .header .now) (c .encode-item .result) (c .before .counted .ensures) (c .encode-item .ensures)
 
 sized : (c : tie.After-encode-item Inv-loop μ-loop) → length (c .encode-item .result) ≡ 120
 sized c =
     let l = c .before .before .before .before .before .before .before in
     let s = l .loop .inv .3 in
-    let proper = next-proper (list-of l) (l .loop .i) (l .loop .at) (s .left) (next-stored s (c .before .before .before .before .before .before .loop-test .taken)) in
-    ap length (built c) ∙ encoded-length (l .loop .n + opened (kindAt (list-of l) (l .loop .at))) (l .loop .header .now) (itemAt (list-of l) (l .loop .at)) proper
+    let proper = next-proper (list-of l) (l .loop .n) (l .loop .at) (s .left) (next-stored s (c .before .before .before .before .before .before .loop-test .taken)) in
+    ap length (built c) ∙ encoded-length (l .loop .dispositions + opened (kindAt (list-of l) (l .loop .at))) (l .loop .header .now) (itemAt (list-of l) (l .loop .at)) proper
 
 -- there is room for one more record, and for EF behind the last
-room-so : (a : tie.At-loop Inv-loop μ-loop) → 120 * a .loop .i + 120 ≤ length (a .loop .out)
+room-so : (a : tie.At-loop Inv-loop μ-loop) → 120 * a .loop .n + 120 ≤ length (a .loop .out)
 room-so a = let s = a .loop .inv .3 in omega (arith, s .count, s .room)
 
 place-requires : tie.Need-place-requires Inv-loop μ-loop
@@ -124,8 +124,8 @@ place-requires c κs = (omega arith, omega (arith, sized (c .before .before), ro
 header-behind-requires : tie.Need-header-behind-requires Inv-loop μ-loop
 header-behind-requires c κs = search needs
 
-add-i : tie.Need-add-i Inv-loop μ-loop
-add-i c = omega (arith, few-so (c .before .before .before .before .before .before .before .before .before .before .before .before .before) .1)
+add-n : tie.Need-add-n Inv-loop μ-loop
+add-n c = omega (arith, few-so (c .before .before .before .before .before .before .before .before .before .before .before .before .before) .1)
 
 loop-less : tie.Need-loop-less Inv-loop μ-loop
 loop-less c = omega (arith, turn-so (c .before .before .before .before .before .before .before .before .before) .ends, c .before .before .before .before .before .before .before .before .before .before .before .before .loop-test .taken)
@@ -138,15 +138,15 @@ loop-again c =
     let b = c .before .before .before .before .before .before .before .before .before in
     let t = turn-so b in
     let end : i + 1 + bodyLength (kindAt list i) ≡ i + 1 + b .body-length .result = omega (arith, t .size-so) in
-    let number : l .loop .n + opened (kindAt list i) ≡ c .before .before .before .before .before .before .before .counted .result = sym (c .before .before .before .before .before .before .before .counted .ensures ∙ ap (λ (k : Kind). l .loop .n + opened k) (t .kind-so)) in
+    let number : l .loop .dispositions + opened (kindAt list i) ≡ c .before .before .before .before .before .before .before .counted .result = sym (c .before .before .before .before .before .before .before .counted .ensures ∙ ap (λ (k : Kind). l .loop .dispositions + opened k) (t .kind-so)) in
     let meant : cond (heads (kindAt list i)) (itemAt list i .body) (l .loop .header .now) ≡ c .header-behind .result .now = sym (c .header-behind .ensures ∙ (λ j. cond (heads (t .kind-so j)) (t .body-so j) (l .loop .header .now))) in
-    let index : 120 * l .loop .i + 1 - 1 ≡ 120 * l .loop .i = omega arith in
-    let stored : c .before .before .before .place .last .0 ≡ put (120 * l .loop .i) (record-of l) (l .loop .out) = c .before .before .before .place .ensures ∙ (λ j. put (index j) (built (c .before .before .before .before .before .before) j) (l .loop .out)) in
+    let index : 120 * l .loop .n + 1 - 1 ≡ 120 * l .loop .n = omega arith in
+    let stored : c .before .before .before .place .last .0 ≡ put (120 * l .loop .n) (record-of l) (l .loop .out) = c .before .before .before .place .ensures ∙ (λ j. put (index j) (built (c .before .before .before .before .before .before) j) (l .loop .out)) in
     let size : length (record-of l) ≡ 120 = ap length (sym (built (c .before .before .before .before .before .before))) ∙ sized (c .before .before .before .before .before .before) in (
       omega (arith, t .ends),
       l .loop .inv .1,
-      ap length stored ∙ put-length (120 * l .loop .i) (record-of l) (l .loop .out) (omega (arith, room-so l)) ∙ l .loop .inv .2,
-      subst (λ (A : Type 0). A) (λ j. StoringAt list (put 0 (encode (itemsIn list)) (l .before .before .before .before .args .out .now)) (end j) (sym (add-one (l .loop .i)) j) (number j) (meant j) (sym stored j)) (storing-on (l .loop .inv .3) (c .before .before .before .before .before .before .before .before .before .before .before .before .loop-test .taken)),
+      ap length stored ∙ put-length (120 * l .loop .n) (record-of l) (l .loop .out) (omega (arith, room-so l)) ∙ l .loop .inv .2,
+      subst (λ (A : Type 0). A) (λ j. StoringAt list (put 0 (encode (itemsIn list)) (l .before .before .before .before .args .out .now)) (end j) (sym (add-one (l .loop .n)) j) (number j) (meant j) (sym stored j)) (storing-on (l .loop .inv .3) (c .before .before .before .before .before .before .before .before .before .before .before .before .loop-test .taken)),
     )
 
 add-number : tie.Need-add-number Inv-loop μ-loop
@@ -174,25 +174,25 @@ place-requires-2 : tie.Need-place-requires-2 Inv-loop μ-loop
 place-requires-2 c κs = (omega arith, omega (arith, trailer-sized (c .before .before), room-so (c .before .before .before .before .before)))
 
 -- EF behind the last record
-last-stored : (c : tie.After-place2 Inv-loop μ-loop) → let l = c .before .before .before .before .before .before in c .place2 .last .0 ≡ put (120 * l .loop .i) (c .before .before .before .encode-trailer .result) (l .loop .out)
+last-stored : (c : tie.After-place2 Inv-loop μ-loop) → let l = c .before .before .before .before .before .before in c .place2 .last .0 ≡ put (120 * l .loop .n) (c .before .before .before .encode-trailer .result) (l .loop .out)
 last-stored c =
     let l = c .before .before .before .before .before .before in
-    let index : 120 * l .loop .i + 1 - 1 ≡ 120 * l .loop .i = omega arith in
+    let index : 120 * l .loop .n + 1 - 1 ≡ 120 * l .loop .n = omega arith in
     c .place2 .ensures ∙ ap (λ (m : ℕ). put m (c .before .before .before .encode-trailer .result) (l .loop .out)) index
 
 same-length : tie.Need-same-length Inv-loop μ-loop
 same-length c =
     let l = c .before .before .before .before .before .before .before .before in
-    ap length (last-stored (c .before .before)) ∙ put-length (120 * l .loop .i) (c .before .before .before .before .before .encode-trailer .result) (l .loop .out) (omega (arith, trailer-sized (c .before .before .before .before .before), room-so l)) ∙ l .loop .inv .2
+    ap length (last-stored (c .before .before)) ∙ put-length (120 * l .loop .n) (c .before .before .before .before .before .encode-trailer .result) (l .loop .out) (omega (arith, trailer-sized (c .before .before .before .before .before), room-so l)) ∙ l .loop .inv .2
 
 returns : tie.Need-returns Inv-loop μ-loop
 returns c =
     let l = c .before .before .before .before .before .before .before .before in
     let pre = l .before .before .before .before .pre in
     let ends = storing-ends (l .loop .inv .3) (c .before .before .before .before .before .before .before .loop-test .left) in
-    let records : c .before .before .before .before .before .before .number .result ≡ suc (length (itemsIn (list-of l))) = c .before .before .before .before .before .before .number .ensures ∙ add-one (l .loop .i) ∙ ap suc (ends .0) in
+    let records : c .before .before .before .before .before .before .number .result ≡ suc (length (itemsIn (list-of l))) = c .before .before .before .before .before .before .number .ensures ∙ add-one (l .loop .n) ∙ ap suc (ends .0) in
     let trailer : c .before .before .before .before .before .encode-trailer .result ≡ trailerFor (itemsIn (list-of l)) = c .before .before .before .before .before .encode-trailer .ensures ∙ (λ j. encodeTrailer (ends .1 j) (pre .1 .1 .0 j) (pre .1 .1 .1 j) (records j)) in
-    last-stored (c .before .before) ∙ ap (λ (rec : List ℕ). put (120 * l .loop .i) rec (l .loop .out)) trailer ∙ ends .2
+    last-stored (c .before .before) ∙ ap (λ (rec : List ℕ). put (120 * l .loop .n) rec (l .loop .out)) trailer ∙ ends .2
 
 pub store-items-spec : {M : Type 1} → statement M
 store-items-spec =
@@ -220,7 +220,7 @@ store-items-spec =
     slice-aggregate-place
     place-requires
     header-behind-requires
-    add-i
+    add-n
     loop-less
     loop-again
     add-number

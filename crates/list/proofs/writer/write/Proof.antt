@@ -12,7 +12,7 @@ use Rattle.list.specs.Items.{Proper, items, parse, itemsIn, Listed}
 use Rattle.list.specs.Laws.{Fitting, no-item, too-many, no-room}
 use Rattle.list.specs.Write.{judgeItems}
 use Rattle.list.proofs.Answered.{items-counted, faulty-counted, write-refuses, write-accepts}
-use Rattle.list.proofs.Encoding.{encode-length}
+use Rattle.list.proofs.AllRecords.{encode-length}
 use Rattle.list.proofs.ListItems.{items-exact, faulty-exact}
 use Rattle.list.proofs.Written.{AcceptedItems, accepted-items}
 use Rattle.list.proofs.WriteRefused.{fitting-judged, write-refused}

@@ -26,7 +26,7 @@ use Rattle.list.specs.Encode.{blanks, carriedAt, headerBehind, lastHeade
 use Rattle.list.specs.Items.{Item, Proper}
 use Rattle.list.specs.ReadBack.{itemOf, itemsOf}
 use Rattle.list.specs.Table.{rows, firstKind, kindIn}
-use Rattle.list.proofs.Encoded.{encoded-length, encoded-type, encoded-body}
+use Rattle.list.proofs.OneRecord.{encoded-length, encoded-type, encoded-body}
 use Rattle.list.proofs.Placing.{Fits, Matches, InRow, fill-length, row-stands}
 
 -- a record's kind, by its type

@@ -24,7 +24,7 @@ use Rattle.list.specs.Encode.{Placed, place, supplied, bodyPlaced}
 use Rattle.list.specs.Table.{carried, hasItem}
 use Rattle.list.proofs.Carried.{split-first}
 use Rattle.list.proofs.Placing.{Fits, Covered}
-use Rattle.list.proofs.Spans.{Within, are-within, all-within}
+use Rattle.list.proofs.TableSpans.{Within, are-within, all-within}
 
 -- index i, counted from 0, lies in one of the spans
 abbrev inside : Span → ℕ → Bool

@@ -23,23 +23,22 @@ use Rattle.records.specs.Limits.{countLimit, centsLimit}
 use Rattle.records.specs.declared.kind.Kind.{Kind}
 use Rattle.records.specs.declared.kind.Kind.the-variants.{R14}
 use Rattle.records.proofs.ByKind.{types-differ, type-said}
+use Rattle.records.proofs.EachKind.{opens-14}
 use Rattle.flow.specs.Judge.{go}
 use Rattle.flow.specs.Steps.{start, opened, step, latestOf, latest, judgeRecord, stopped}
 use Rattle.flow.specs.Verdict.{refused}
 use Rattle.flow.specs.declared.walk.Walk.{Walk}
 use Rattle.flow.proofs.Cut.{Whole, flatten-length}
 use Rattle.flow.proofs.Exact.{right-typed}
-use Rattle.flow.proofs.Reading.{Reading, begin, go-on, refuse, finish}
+use Rattle.flow.proofs.Reading.{Reading, one-at-most, begin, go-on, refuse, finish}
 use Rattle.list.specs.Encode.{carriedAt, headerBehind, lastHeader, dispositionsOf, centsOf, encodeItem, encodeFrom, recordsFor, trailerFor, encode}
 use Rattle.list.specs.Items.{Item, item, Proper, items, itemsFrom, itemsIn, Listed}
 use Rattle.list.specs.Table.{carried, bodyLength, kindOf}
 use Rattle.list.specs.Write.{closed, judgeItems}
 use Rattle.list.proofs.Carried.{inOne}
-use Rattle.list.proofs.Encoded.{encoded-length, encoded-type, encoded-at}
-use Rattle.list.proofs.Encoding.{trailer-length, encoded-whole, encoded-count}
-use Rattle.list.proofs.Judging.{opens-14}
+use Rattle.list.proofs.OneRecord.{encoded-length, encoded-type, encoded-at}
+use Rattle.list.proofs.AllRecords.{trailer-length, encoded-whole, encoded-count}
 use Rattle.list.proofs.ListItems.{items-exact}
-use Rattle.list.proofs.Written.{opened-one}
 use Rattle.list.proofs.Parsing.{Next, next-item, no-more}
 
 -- the item whose kind byte stands at index i
@@ -160,7 +159,7 @@ module _ {h : Header} {list : List ℕ} {i n number : ℕ} {header : List ℕ} {
         left = next .others;
         said = next .left;
         count = omega (arith, j .count);
-        few = omega (arith, j .few, opened-one (kindAt list i));
+        few = omega (arith, j .few, one-at-most (kindAt list i));
         reading = subst (λ (l : List ℕ). Reading closed h (recordsFor (itemsIn list)) (stopped (step w k c)) l (suc n) (recordsBehind list n i number header (j .left) next)) code read;
       }
 
@@ -235,7 +234,7 @@ module _ {list all : List ℕ} {i n number : ℕ} {header out : List ℕ} (s : S
         said = next .left;
         proper = is .1;
         count = omega arith;
-        few = omega (arith, s .few, opened-one (kindAt list i));
+        few = omega (arith, s .few, one-at-most (kindAt list i));
         header-last = ap (lastHeader header) (sym (next .whole)) ∙ s .header-last;
         room = subst (λ (m : ℕ). 120 * suc (length (itemsIn list)) ≤ m) (sym (put-length (120 * n) rec out (omega arith))) room;
         rest = ap (λ (m : ℕ). put m (flatten behind) (put (120 * n) rec out)) (sym on) ∙ sym (put-append (120 * n) rec (flatten behind) out fits) ∙ ap (λ (l : List (List ℕ)). put (120 * n) (flatten l) out) (sym joined) ∙ s .rest;

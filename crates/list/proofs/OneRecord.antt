@@ -23,14 +23,11 @@ use Rattle.list.specs.ReadBack.{gather}
 use Rattle.list.specs.Table.{carried, bodyLength}
 use Rattle.list.proofs.Carried.{body-fits, body-outside, gather-placed, inOne, gather-at}
 use Rattle.list.proofs.Placing.{Fits, Outside, fill-length, fill-outside, fill-append}
-use Rattle.list.proofs.Spans.{carried-within, carried-rising, carried-behind}
+use Rattle.list.proofs.TableSpans.{carried-within, carried-rising, carried-behind}
 
 -- a type has two bytes
 pub type-length : (k : Kind) → length (typeOf k) ≡ 2
 type-length = each-kind (λ (k : Kind). length (typeOf k) ≡ 2) (refl, (refl, (refl, (refl, (refl, (refl, (refl, (refl, (refl, (refl, (refl, tt)))))))))))
-
-pub blanks-length : length blanks ≡ 120
-blanks-length = refl
 
 -- what is supplied lies within the record, and behind the type
 module _ (n : ℕ) (abi : List ℕ) (short : length abi ≤ 5) where

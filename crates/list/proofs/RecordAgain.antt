@@ -12,7 +12,7 @@ use Rattle.sequences.specs.Part.{part}
 use Rattle.sequences.proofs.All.{all-append}
 use Rattle.sequences.proofs.Part.{part-length}
 use Rattle.fields.specs.Digits.{number, digits}
-use Rattle.fields.proofs.Decimal.{written-length, read-written}
+use Rattle.fields.proofs.Decimal.{written-length}
 use Rattle.records.specs.Bytes.{badFrom}
 use Rattle.records.specs.Checked.{checked, Alike}
 use Rattle.records.specs.Checks.{checks}
@@ -25,33 +25,25 @@ use Rattle.records.specs.Kinds.{typeOf, heads}
 use Rattle.records.specs.declared.kind.Kind.{Kind}
 use Rattle.records.specs.declared.kind.Kind.the-variants.{Im, R14, R16, R20, R30, R40, R50, R59, R51, R70, Ef}
 use Rattle.records.proofs.Checked.{checks-by-position}
-use Rattle.records.proofs.EachKind.{each-kind}
+use Rattle.records.proofs.EachKind.{each-kind, heads-im}
 use Rattle.flow.specs.Steps.{counted, latestOf, latest}
 use Rattle.flow.specs.declared.walk.Walk.{Walk}
 use Rattle.grammar.specs.Rules.{Says, Printable, Formed, MemberRules}
 use Rattle.grammar.proofs.AtPlace.{asks, RightAt}
-use Rattle.grammar.proofs.Rules.{digits-exact, printable-exact, header-rules, member-rules}
+use Rattle.grammar.proofs.Rules.{printable-exact, header-rules, member-rules, says-digits}
 use Rattle.list.specs.Encode.{Placed, place, blanks, carriedAt, supplied, bodyPlaced, encodeItem}
 use Rattle.list.specs.Items.{Item, item, Proper}
 use Rattle.list.specs.ReadBack.{gather}
 use Rattle.list.specs.Table.{carried, hasItem}
 use Rattle.list.proofs.Carried.{gather-length, gather-matches}
-use Rattle.list.proofs.Encoded.{type-length, encoded-length, encoded-type}
+use Rattle.list.proofs.OneRecord.{type-length, encoded-length, encoded-type}
 use Rattle.list.proofs.Placing.{Matches, Agrees, AllPlaced, matches-agrees, fill-agrees, fill-all, all-part}
-use Rattle.list.proofs.Spanned.{Spanned, spanned-append, spanned-covers, body-spanned, supplied-spanned, spanned-fits, writtenSpans, written-within, checked-written, checked-within, alike-by-bytes}
-use Rattle.list.proofs.Spans.{carried-within}
-
--- the digits of a number that a field says are the field
-pub says-digits : (w v : ℕ) (bs : List ℕ) → length bs ≡ w → Says v bs → bs ≡ digits w v
-says-digits w v bs size said =
-    sym (read-written bs (digits-exact bs .1 (said .0))) ∙ (λ i. digits (size i) (said .1 i))
+use Rattle.list.proofs.Covering.{Spanned, spanned-append, spanned-covers, body-spanned, supplied-spanned, spanned-fits, writtenSpans, written-within, checked-written, checked-within, alike-by-bytes}
+use Rattle.list.proofs.TableSpans.{carried-within}
 
 -- bytes that stand in the record
 stands : (rec : List ℕ) (p w : ℕ) (bs : List ℕ) → length bs ≡ w → part (p - 1) w rec ≡ bs → Matches rec (place p bs)
 stands rec p w bs size e = ap (λ (n : ℕ). part (p - 1) n rec) size ∙ e
-
-heads-im : (k : Kind) → heads k ≡ true → k ≡ Im
-heads-im = each-kind (λ (k : Kind). heads k ≡ true → k ≡ Im) (λ e. refl, (λ e. absurd (true≢false (sym e)), (λ e. absurd (true≢false (sym e)), (λ e. absurd (true≢false (sym e)), (λ e. absurd (true≢false (sym e)), (λ e. absurd (true≢false (sym e)), (λ e. absurd (true≢false (sym e)), (λ e. absurd (true≢false (sym e)), (λ e. absurd (true≢false (sym e)), (λ e. absurd (true≢false (sym e)), (λ e. absurd (true≢false (sym e)), tt)))))))))))
 
 -- what is supplied stands in a record that keeps the rules of its kind
 module _ (n : ℕ) (bank abi rec : List ℕ) (same : bank ≡ abi) (whole : length rec ≡ 120) where

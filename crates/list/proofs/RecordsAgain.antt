@@ -1,0 +1,93 @@
+-- An accepted flow's own list, written again: it is accepted with the same numbers, and its records are like the flow's at every position
+-- that is checked. Assumes nothing.
+use Prim.Native.Nat.{ℕ, zero, suc, _+_, _<_}
+use mathlib.Core.Bool.{Bool, true, false, cond}
+use mathlib.Core.List.{List, [], _∷_, _++_, map}
+use mathlib.Core.Path.{_≡_, refl, sym, _∙_, ap, subst}
+use native.Mathlib.Nat.{le-of-suc-le-suc, not-suc-le-zero}
+use lib.ListN.{length, getD}
+use Rattle.sequences.specs.All.{All}
+use Rattle.records.specs.Checked.{checked, Alike}
+use Rattle.records.specs.Context.{Header}
+use Rattle.records.specs.Field.{field}
+use Rattle.records.specs.Judge.{asked}
+use Rattle.records.specs.Kinds.{typeOf, heads}
+use Rattle.records.specs.declared.kind.Kind.{Kind}
+use Rattle.records.specs.declared.kind.Kind.the-variants.{Im}
+use Rattle.records.proofs.ByKind.{types-differ}
+use Rattle.flow.specs.Steps.{opened, counted, step, latest}
+use Rattle.flow.specs.declared.walk.Walk.{Walk}
+use Rattle.grammar.specs.Grammar.{Typed, kindsOf, recordsIn}
+use Rattle.grammar.proofs.Walked.{stateBehind, Walked, AllFormed}
+use Rattle.list.specs.Encode.{carriedAt, encodeItem, encodeFrom}
+use Rattle.list.specs.Items.{Item, item, Proper}
+use Rattle.list.specs.ReadBack.{gather}
+use Rattle.list.specs.Table.{carried, hasItem}
+use Rattle.list.proofs.RecordAgain.{again-alike, again-right, own-proper, alike-asked, alike-latest}
+
+-- the item of a record of a known kind
+abbrev pub ownItem : Typed → Item
+ownItem r = item (r .kind) (gather (carried (r .kind)) (r .bytes))
+
+-- records encoded again, behind n dispositions and with one header meant
+abbrev pub againFrom : ℕ → List ℕ → List Typed → List Typed
+againFrom n header [] = []
+againFrom n header (r ∷ rs) = record { kind = r .kind; bytes = encodeItem (n + opened (r .kind)) header (ownItem r) } ∷ againFrom (n + opened (r .kind)) header rs
+
+-- records like those of kinds that are known
+abbrev pub Like : List Typed → List (List ℕ) → Type 0
+Like [] [] = Unit
+Like [] (b ∷ bs) = ⊥
+Like (r ∷ rs) [] = ⊥
+Like (r ∷ rs) (b ∷ bs) = Alike (checked (r .kind)) (r .bytes) b × Like rs bs
+
+pub record Again (h : Header) (w : Walk) (code : List ℕ) (i : ℕ) (header : List ℕ) (rs : List Typed) : Type 0 where
+  pub walked : Walked h w code i (againFrom (w .dispositions) header rs)
+  pub state : stateBehind w (againFrom (w .dispositions) header rs) ≡ stateBehind w rs
+  pub like : Like rs (recordsIn (againFrom (w .dispositions) header rs))
+  pub proper : All Proper (map ownItem rs)
+  pub same : recordsIn (againFrom (w .dispositions) header rs) ≡ encodeFrom (w .dispositions) header (map ownItem rs)
+
+module _ (h : Header) (header : List ℕ) (meant : h .abi ≡ carriedAt Im 9 13 header) where
+  pub again-walked :
+      (w : Walk) (code : List ℕ) (i : ℕ) (rs : List Typed) → Walked h w code i rs → All (λ (r : Typed). hasItem (r .kind) ≡ true) rs → All (λ (r : Typed). heads (r .kind) ≡ false) rs
+      → Again h w code i header rs
+  unfolding encodeFrom
+  again-walked w code i [] walked listed later = record { walked = tt; state = refl; like = tt; proper = tt; same = refl }
+  again-walked w code i (r ∷ rs) walked listed later =
+      let k = r .kind in
+      let rec = r .bytes in
+      let abi : heads k ≡ false → h .abi ≡ carriedAt Im 9 13 header = λ e. meant in
+      let enc = encodeItem (counted w k) header (ownItem r) in
+      let alike = again-alike h w code (suc i) k rec header (walked .0) (listed .0) abi in
+      let cents : asked k rec ≡ asked k enc = alike-asked k rec enc alike in
+      let company : latest k code rec ≡ latest k code enc = alike-latest k code rec enc alike in
+      let rest = again-walked (step w k (asked k rec)) (latest k code rec) (suc i) rs (walked .1) (listed .1) (later .1) in
+      let behind = againFrom (counted w k) header rs in
+      record {
+        walked = (again-right h w code (suc i) k rec header (walked .0) (listed .0) abi, subst (λ (A : Type 0). A) (λ j. Walked h (step w k (cents j)) (company j) (suc i) behind) (rest .walked));
+        state = ap (λ (c : ℕ). stateBehind (step w k c) behind) (sym cents) ∙ rest .state;
+        like = (alike, rest .like);
+        proper = (own-proper h w code (suc i) k rec header (walked .0) (listed .0) abi, rest .proper);
+        same = ap (λ (l : List (List ℕ)). enc ∷ l) (rest .same ∙ ap (λ (b : Bool). encodeFrom (counted w k) (cond b (gather (carried k) rec) header) (map ownItem rs)) (sym (later .0)));
+      }
+
+-- of records and of their kinds
+pub all-kinds : (P : Kind → Type 0) (rs : List Typed) → All P (kindsOf rs) → All (λ (r : Typed). P (r .kind)) rs
+all-kinds P [] all = tt
+all-kinds P (r ∷ rs) all = (all .0, all-kinds P rs (all .1))
+
+-- a record by its number
+pub like-at :
+    (rs : List Typed) (bs : List (List ℕ)) → Like rs bs → AllFormed rs → (i : ℕ) (k : Kind) → i < length rs → field 2 3 (getD (recordsIn rs) i []) ≡ typeOf k
+    → Alike (checked k) (getD (recordsIn rs) i []) (getD bs i [])
+like-at [] bs like formed i k h type = absurd (not-suc-le-zero h)
+like-at (r ∷ rs) [] like formed i k h type = absurd like
+like-at (r ∷ rs) (b ∷ bs) like formed zero k h type = subst (λ (l : Kind). Alike (checked l) (r .bytes) b) (types-differ (r .kind) k (sym (formed .0 .type) ∙ type)) (like .0)
+like-at (r ∷ rs) (b ∷ bs) like formed (suc i) k h type = like-at rs bs (like .1) (formed .1) i k (le-of-suc-le-suc h) type
+
+pub like-append : (rs qs : List Typed) (bs cs : List (List ℕ)) → Like rs bs → Like qs cs → Like (rs ++ qs) (bs ++ cs)
+like-append [] qs [] cs p q = q
+like-append [] qs (b ∷ bs) cs p q = absurd p
+like-append (r ∷ rs) qs [] cs p q = absurd p
+like-append (r ∷ rs) qs (b ∷ bs) cs p q = (p .0, like-append rs qs bs cs (p .1) q)
