@@ -89,7 +89,7 @@ pub record WriteAccepts (list : List ℕ) (room d c n : ℕ) : Type 0 where
 abbrev pub WriteAccepted : Type 0
 WriteAccepted = (list : List ℕ) (room d c n : ℕ) → (judgeList list room ≡ accepted d c n) ↔ WriteAccepts list room d c n
 
--- what is left of an output of the call: bytes at its front and the rest as it was, or all of it as it was
+-- what a call leaves in the output: bytes at its front and the rest as it was, or all of it as it was
 pub record Leaves (o : Output) (bytes out : List ℕ) : Type 0 where
   pub length-said : o .written ≡ length bytes
   pub front : take (o .written) (o .bytes) ≡ bytes

@@ -1,10 +1,11 @@
 -- `list::encode_item` meets its contract. Assumes nothing.
 use Prim.Native.Nat.{_≤_}
-use mathlib.Core.Path.{refl}
+use mathlib.Core.Path.{_≡_, refl}
 use native.Mathlib.Omega.{arith}
 use lib.ListN.{length, length-take}
 use borrow.Author.Needs.{needs}
-use Rattle.list.specs.Encode.{encodeItem}
+use Rattle.records.specs.declared.kind.Kind.the-variants.{Im}
+use Rattle.list.specs.Encode.{carriedAt, encodeItem}
 use Rattle.list.proofs.encode.encode_item.Statement.{statement}
 use Rattle.list.proofs.encode.encode_item.Tie as tie
 
@@ -22,7 +23,9 @@ fill-item-requires c κs =
 
 returns : tie.Need-returns
 unfolding encodeItem
-returns c = rw (c .before .before .field .ensures) at (c .before .fill-item .ensures)
+returns c =
+    let abi : c .before .before .field .result .now ≡ carriedAt Im 9 13 (c .before .before .before .before .before .before .args .header .now) = c .before .before .field .ensures in
+    rw abi at (c .before .fill-item .ensures)
 
 pub encode-item-spec : {M : Type 1} → statement M
 encode-item-spec =

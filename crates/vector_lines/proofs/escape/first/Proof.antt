@@ -1,4 +1,5 @@
 -- `vector_lines::escape::first` meets its contract: each test decides the definition's. Assumes nothing.
+use mathlib.Core.Path.{refl}
 use borrow.Author.Needs.{needs}
 use borrow.Author.Tests.{le-leb, lt-leb, eq-eqb, ne-eqb}
 use Rattle.vector_lines.specs.Escapes.{escapedByte}
@@ -40,7 +41,7 @@ returns-2 : tie.Need-returns-2
 unfolding escapedByte
 returns-2 c =
     let tests = c .before .before .before .before in
-    rw (le-leb 3 _ (tests .before .before .if1 .left), eq-eqb _ 92 (tests .if2 .taken), c .before .before .hex-digit .ensures .0, c .hex-digit2 .ensures .0)
+    rw (le-leb 3 _ (tests .before .before .if1 .left), eq-eqb _ 92 (tests .if2 .taken), c .before .before .hex-digit .ensures .0, c .hex-digit2 .ensures .0) refl
 
 returns-3 : tie.Need-returns-3
 unfolding escapedByte

@@ -1,4 +1,5 @@
 -- `vector_lines::escape::width` meets its contract: each test decides the definition's. Assumes nothing.
+use mathlib.Core.Path.{refl}
 use native.Mathlib.Omega.{arith}
 use borrow.Author.Needs.{needs}
 use borrow.Author.Tests.{le-leb, lt-leb, eq-eqb, ne-eqb}
@@ -15,7 +16,7 @@ shared-slice-read-if2 c = search needs
 
 returns-2 : tie.Need-returns-2
 unfolding escapeWidth
-returns-2 c = (rw (le-leb 3 _ (c .before .before .if1 .left), eq-eqb _ 92 (c .if2 .taken)), omega arith)
+returns-2 c = (rw (le-leb 3 _ (c .before .before .if1 .left), eq-eqb _ 92 (c .if2 .taken)) refl, omega arith)
 
 returns-3 : tie.Need-returns-3
 unfolding escapeWidth
