@@ -109,7 +109,7 @@ module _ (header : List ℕ) (d c n : ℕ) where
 pub encoded-whole : (n : ℕ) (header : List ℕ) (is : List Item) → All Proper is → Whole (encodeFrom n header is)
 unfolding encodeFrom
 encoded-whole n header [] proper = tt
-encoded-whole n header (it ∷ is) proper = (encoded-length (n + opened (it .kind)) header it (proper .0), encoded-whole (n + opened (it .kind)) (headerBehind header it) is (proper .1))
+encoded-whole n header (it ∷ is) proper = (encoded-length _ header it (proper .0), encoded-whole (n + opened (it .kind)) (headerBehind header it) is (proper .1))
 
 pub encoded-count : (n : ℕ) (header : List ℕ) (is : List Item) → length (encodeFrom n header is) ≡ length is
 unfolding encodeFrom
@@ -126,7 +126,7 @@ pub items-encoded : (n : ℕ) (header : List ℕ) (is : List Item) → All Prope
 unfolding encodeFrom flatten
 items-encoded n header [] proper = refl
 items-encoded n header (it ∷ is) proper =
-    rw (one-item (n + opened (it .kind)) header it (proper .0)) (ap (λ (l : List Item). it ∷ l) (items-encoded (n + opened (it .kind)) (headerBehind header it) is (proper .1)))
+    rw (one-item _ header it (proper .0)) (ap (λ (l : List Item). it ∷ l) (items-encoded (n + opened (it .kind)) (headerBehind header it) is (proper .1)))
 
 -- what a list encodes: its records, and its own list
 module _ (is : List Item) (proper : All Proper is) where

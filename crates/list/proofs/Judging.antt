@@ -3,7 +3,7 @@ use Prim.Native.Nat.{ℕ, suc, _+_}
 use mathlib.Core.Bool.{Bool, true, false, cond, _||_, true≢false}
 use mathlib.Core.List.{List, [], _∷_, _++_, map, flatten}
 use mathlib.Core.Logic.{_⊎_, inl, inr}
-use mathlib.Core.Path.{_≡_, refl, sym, _∙_, ap, subst}
+use mathlib.Core.Path.{_≡_, refl, sym, _∙_, ap, ap₂, subst}
 use native.Mathlib.Omega.{arith}
 use lib.ListN.{length, take, length-map}
 use Rattle.sequences.specs.All.{All}
@@ -87,8 +87,7 @@ kinds-had : (n : ℕ) (header : List ℕ) (is : List Item) → All Proper is →
 unfolding encodeFrom
 kinds-had n header [] proper = refl
 kinds-had n header (it ∷ is) proper =
-    let number = n + opened (it .kind) in
-    λ i. sym (encoded-type number header it (proper .0)) i ∷ kinds-had number (headerBehind header it) is (proper .1) i
+    ap₂ _∷_ (sym (encoded-type _ header it (proper .0))) (kinds-had (n + opened (it .kind)) (headerBehind header it) is (proper .1))
 
 pub right-kinds : (is : List Item) → All Proper is → (r : RightItems is) → kindsIn is ≡ kindsOf (r .typed)
 right-kinds is proper r = same-kinds (front is) (r .typed) (r .walked) (kindsIn is) (subst (HaveKinds (kindsIn is)) (sym (r .same)) (kinds-had 0 [] is proper))
@@ -105,17 +104,18 @@ encoded-amount n header it proper = by (opens (it .kind)) refl
         ap number (encoded-at n header it proper 34 46 inside ∙ stands)
     by false e = refl
 
+encoded-opens : (n : ℕ) (header : List ℕ) (it : Item) → Proper it → hasType R14 (encodeItem n header it) ≡ opens (it .kind)
+encoded-opens n header it proper =
+    sym (opens-type (it .kind) (encodeItem n header it) (type-tested (it .kind) (encodeItem n header it) (encoded-type n header it proper)))
+
 sums-encoded :
     (n : ℕ) (header : List ℕ) (is : List Item) → All Proper is
     → (Sums·dispositionsOf (encodeFrom n header is) ≡ dispositionsOf is) × (Sums·centsOf (encodeFrom n header is) ≡ centsOf is)
 unfolding encodeFrom Sums·dispositionsOf Sums·centsOf dispositionsOf centsOf
 sums-encoded n header [] proper = (refl, refl)
 sums-encoded n header (it ∷ is) proper =
-    let number = n + opened (it .kind) in
-    let rec = encodeItem number header it in
-    let is-14 : hasType R14 rec ≡ opens (it .kind) = sym (opens-type (it .kind) rec (type-tested (it .kind) rec (encoded-type number header it (proper .0)))) in
-    let rest = sums-encoded number (headerBehind header it) is (proper .1) in
-    (rw (is-14, rest .0), rw (is-14, encoded-amount number header it (proper .0), rest .1))
+    let rest = sums-encoded (n + opened (it .kind)) (headerBehind header it) is (proper .1) in
+    (rw (encoded-opens _ header it (proper .0), rest .0), rw (encoded-opens _ header it (proper .0), encoded-amount _ header it (proper .0), rest .1))
 
 pub right-sums : (is : List Item) → All Proper is → (r : RightItems is) → (stateBehind start (r .typed) .dispositions ≡ dispositionsOf is) × (stateBehind start (r .typed) .cents ≡ centsOf is)
 right-sums is proper r =
