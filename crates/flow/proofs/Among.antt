@@ -8,14 +8,9 @@ use native.Mathlib.Omega.{arith}
 use Rattle.records.specs.Kinds.{hasType}
 use Rattle.records.specs.declared.kind.Kind.{Kind}
 use Rattle.records.proofs.ByKind.{one-type}
-use Rattle.flow.specs.Order.{among}
+use Rattle.flow.specs.Order.{In, among}
 use Rattle.flow.specs.declared.order.Found.{Found}
 use Rattle.flow.specs.declared.order.Found.the-variants.{Of, Missing}
-
--- a kind of the list
-abbrev pub In : Kind → List Kind → Type 0
-In k [] = ⊥
-In k (l ∷ ls) = (k ≡ l) ⊎ In k ls
 
 missing-not-of : {k : Kind} → Missing ≡ Of k → ⊥
 missing-not-of e = let z : _≡_ {A = ℕ} 0 1 = cc in omega arith

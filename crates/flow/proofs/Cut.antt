@@ -1,7 +1,7 @@
 -- The records of a flow: cut apart, by their index, and joined again. Assumes nothing.
 use Prim.Native.Nat.{ℕ, zero, suc, _+_, _-_, _*_, _/_, _≤_, _<_}
-use mathlib.Core.List.{List, [], _∷_, _++_, flatten}
-use mathlib.Core.Path.{_≡_, refl, _∙_, ap}
+use mathlib.Core.List.{List, [], _∷_, _++_, append-assoc, append-nil, flatten}
+use mathlib.Core.Path.{_≡_, refl, sym, _∙_, ap}
 use native.Mathlib.Nat.{le-of-suc-le-suc, not-suc-le-zero}
 use native.Mathlib.Omega.{arith}
 use lib.ListN.{length, take, drop, getD, length-append, length-drop, take-append-drop}
@@ -65,13 +65,17 @@ unfolding flatten
 flatten-length [] whole = refl
 flatten-length (rec ∷ recs) whole = length-append rec (flatten recs) ∙ omega (arith, flatten-length recs (whole .1))
 
-cut-flatten : (recs : List (List ℕ)) → Whole recs → cut (length recs) (flatten recs) ≡ recs
+-- also from the front of what they make with other bytes behind them
+pub cut-front : (recs : List (List ℕ)) (rest : List ℕ) → Whole recs → cut (length recs) (flatten recs ++ rest) ≡ recs
 unfolding flatten cut
-cut-flatten [] whole = refl
-cut-flatten (rec ∷ recs) whole =
-    let front = take-at rec (flatten recs) 120 (whole .0) in
-    let back = drop-at rec (flatten recs) 120 (whole .0) in
-    rw (front, back) (ap (λ (l : List (List ℕ)). rec ∷ l) (cut-flatten recs (whole .1)))
+cut-front [] rest whole = refl
+cut-front (rec ∷ recs) rest whole =
+    let front = take-at rec (flatten recs ++ rest) 120 (whole .0) in
+    let back = drop-at rec (flatten recs ++ rest) 120 (whole .0) in
+    rw (append-assoc rec (flatten recs) rest, front, back) (ap (λ (l : List (List ℕ)). rec ∷ l) (cut-front recs rest (whole .1)))
+
+cut-flatten : (recs : List (List ℕ)) → Whole recs → cut (length recs) (flatten recs) ≡ recs
+cut-flatten recs whole = ap (cut (length recs)) (sym (append-nil (flatten recs))) ∙ cut-front recs [] whole
 
 pub records-joined : (f : List ℕ) (n : ℕ) → length f ≡ n * 120 → flatten (recordsOf f) ≡ f
 records-joined f n e = flatten-cut (length f / 120) f (omega arith)

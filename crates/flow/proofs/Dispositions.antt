@@ -32,14 +32,13 @@ use Rattle.flow.specs.Find.{refused as Located·refused}
 use Rattle.flow.specs.Judge.{after, ended, go, judge}
 use Rattle.flow.specs.Records.{isLength, recordAt, recordsOf}
 use Rattle.flow.specs.Laws.{LocationDetermined, FindRefused}
-use Rattle.flow.specs.Order.{permitted, isDue}
+use Rattle.flow.specs.Order.{In, permitted, isDue}
 use Rattle.flow.specs.Steps.{start, countsAt, step, latest, judgeRecord}
 use Rattle.flow.specs.Sums.{dispositionsOf}
 use Rattle.flow.specs.Verdict.{Verdict, accepted, refused}
 use Rattle.flow.specs.declared.location.Location.the-variants.{At, Refused}
 use Rattle.flow.specs.declared.walk.Walk.{Walk}
 use Rattle.flow.proofs.Accepted.{accepted-not-refused, ended-so, accepted-exact}
-use Rattle.flow.proofs.Among.{In}
 use Rattle.flow.proofs.Cut.{cut-count, cut-at}
 use Rattle.flow.proofs.Exact.{last-kind, right-typed}
 use Rattle.flow.proofs.Lengths.{length-said}

@@ -19,14 +19,14 @@ use Rattle.records.specs.declared.kind.Kind.the-variants.{Im, R14, R16, R20, R3
 use Rattle.records.proofs.ByKind.{right-asked}
 use Rattle.records.proofs.FirstFault.{right-not-refused}
 use Rattle.records.proofs.Stopping.{limits-unseen, trailer-exact}
-use Rattle.flow.specs.Order.{permitted, isDue, place, placeAfter, among}
+use Rattle.flow.specs.Order.{In, permitted, isDue, place, placeAfter, among}
 use Rattle.flow.specs.Steps.{opened, counted, step, countsAt, typed, judgeRecord, stopped}
 use Rattle.flow.specs.declared.order.Due.{Due}
 use Rattle.flow.specs.declared.order.Due.the-variants.{OnlyIm, OnlyR14, R16OrR20, OnlyR20, OnlyR30, OnlyR40, R50OrR59, R59OrR51, OnlyR51, OnlyR70, R14OrEf, Nothing}
 use Rattle.flow.specs.declared.order.Found.{Found}
 use Rattle.flow.specs.declared.order.Found.the-variants.{Of, Missing}
 use Rattle.flow.specs.declared.walk.Walk.{Walk}
-use Rattle.flow.proofs.Among.{In, among-said}
+use Rattle.flow.proofs.Among.{among-said}
 
 -- counts that stop alike are judged alike
 pub counts-alike : (header : Header) (company : List ℕ) (k : Kind) (a b : Counts) (rec : List ℕ) → stoppedCounts a ≡ stoppedCounts b → judge k (context header company a) rec ≡ judge k (context header company b) rec

@@ -8,3 +8,4 @@ pub mod Examples
 pub mod Lengths
 pub mod Places
 pub mod Reading
+pub mod Sought

@@ -14,12 +14,12 @@ use Rattle.records.specs.Kinds.{hasType}
 use Rattle.records.specs.Limits.{countLimit, centsLimit, stoppedCounts}
 use Rattle.records.specs.declared.judged.Counts.{Counts}
 use Rattle.records.specs.declared.kind.Kind.{Kind}
-use Rattle.flow.specs.Order.{permitted, among}
+use Rattle.flow.specs.Order.{In, permitted, among}
 use Rattle.flow.specs.Steps.{counted, typed, judgeRecord, countsAt}
 use Rattle.flow.specs.declared.order.Found.{Found}
 use Rattle.flow.specs.declared.order.Found.the-variants.{Of, Missing}
 use Rattle.flow.specs.declared.walk.Walk.{Walk}
-use Rattle.flow.proofs.Among.{In, HasNone, among-tested, none-missing}
+use Rattle.flow.proofs.Among.{HasNone, among-tested, none-missing}
 use Rattle.flow.proofs.Exact.{counts-alike}
 
 module _ (header : Header) (w : Walk) (company : List ℕ) (n : ℕ) (rec : List ℕ) where

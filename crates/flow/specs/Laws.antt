@@ -5,14 +5,17 @@ use mathlib.Core.List.{List}
 use mathlib.Core.Logic.{_↔_, _⊎_}
 use mathlib.Core.Path.{_≡_}
 use lib.ListN.{length}
-use Rattle.flow.specs.Find.{located, find}
+use Rattle.flow.specs.Find.{standing, located, find}
 use Rattle.flow.specs.Find.{refused as Located·refused}
 use Rattle.flow.specs.Judge.{judge}
 use Rattle.flow.specs.Records.{RightLength, recordsOf}
+use Rattle.flow.specs.Seek.{sought, target, seek}
+use Rattle.flow.specs.Seek.{refused as Target·refused}
 use Rattle.flow.specs.Sums.{dispositionsOf, centsOf}
 use Rattle.flow.specs.Verdict.{accepted, refused, verdict}
 use Rattle.flow.specs.declared.answer.Answer.{Answer}
 use Rattle.flow.specs.declared.location.Location.{Location}
+use Rattle.flow.specs.declared.location.Sought.{Sought}
 
 -- number 1 is given exactly where the flow is not one or more whole records, or has more than 9,999,999 of them, and with record 0 and
 -- position 0
@@ -38,8 +41,18 @@ AnswerDetermined = (r s : Answer) → verdict r ≡ verdict s → r ≡ s
 abbrev pub LocationDetermined : Type 0
 LocationDetermined = (r s : Location) → located r ≡ located s → r ≡ s
 
+abbrev pub SoughtDetermined : Type 0
+SoughtDetermined = (r s : Sought) → sought r ≡ sought s → r ≡ s
+
 -- a question about disposition k is refused exactly where the flow is, by the same, or by 15 where no disposition has that number
 abbrev pub FindRefused : Type 0
 FindRefused =
     (f : List ℕ) (k n r p : ℕ)
     → (find f k ≡ Located·refused n r p) ↔ ((judge f ≡ refused n r p) ⊎ ((d c m : ℕ) × (judge f ≡ accepted d c m) × ¬ ((1 ≤ k) × (k ≤ d)) × (n ≡ 15) × (r ≡ 0) × (p ≡ 0)))
+
+-- what is sought is found in an accepted flow, and refused exactly where the question is
+abbrev pub SeekExact : Type 0
+SeekExact =
+    (f : List ℕ) (k : ℕ)
+    → ((d c n first m a : ℕ) → (seek f k ≡ target d c n first m a) ↔ ((judge f ≡ accepted d c n) × (find f k ≡ standing first m a)))
+    × ((n r p : ℕ) → (seek f k ≡ Target·refused n r p) ↔ (find f k ≡ Located·refused n r p))

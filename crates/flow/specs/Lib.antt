@@ -4,6 +4,7 @@ pub mod Judge
 pub mod Laws
 pub mod Order
 pub mod Records
+pub mod Seek
 pub mod Steps
 pub mod Sums
 pub mod Verdict

@@ -3,6 +3,8 @@
 use Prim.Native.Nat.{ℕ, suc}
 use mathlib.Core.Bool.{Bool, true, false, cond, _||_}
 use mathlib.Core.List.{List, [], _∷_}
+use mathlib.Core.Logic.{_⊎_}
+use mathlib.Core.Path.{_≡_}
 use lib.Dec.{ltb}
 use Rattle.records.specs.Kinds.{hasType, closes}
 use Rattle.records.specs.declared.kind.Kind.{Kind}
@@ -27,6 +29,11 @@ permitted OnlyR51 = R51 ∷ []
 permitted OnlyR70 = R70 ∷ []
 permitted R14OrEf = R14 ∷ Ef ∷ []
 permitted Nothing = []
+
+-- a kind is one of the list
+abbrev pub In : Kind → List Kind → Type 0
+In k [] = ⊥
+In k (l ∷ ls) = (k ≡ l) ⊎ In k ls
 
 -- a record is still due where one may come
 abbrev pub isDue : List Kind → Bool

@@ -1,4 +1,4 @@
--- The exact counts of a flow, over its records and without a word of the walk (document 01, "Our request list": the amount is what
+-- The exact counts of a flow, over its records and without a word of the walk (document 01, "Questions and changes": the amount is what
 -- 34-46 say, and the total is the sum of these). Assumes nothing.
 use Prim.Native.Nat.{ℕ, _+_}
 use mathlib.Core.Bool.{cond}

@@ -9,6 +9,10 @@ ghost use Rattle.fields.specs.Digits.{number as Digits·number};
 ghost use Rattle.records.specs.Field.{field as Field·field};
 ghost use Rattle.flow.specs.Find.{located, dispositionsIn, startsAt, standsAt, partOf, Stands, openingFrom};
 ghost use Rattle.flow.specs.Find.{find as Find·find};
+ghost use Rattle.flow.specs.Judge.{judge};
+ghost use Rattle.flow.specs.Seek.{sought};
+ghost use Rattle.flow.specs.Seek.{seek as Seek·seek};
+ghost use Rattle.flow.specs.Verdict.{verdict};
 use crate::answer::Answer;
 use crate::reader::count;
 use crate::reader::read;
@@ -34,12 +38,82 @@ pub enum Location {
 // Document 01, "Numbers a clerk may see".
 const NO_DISPOSITION: u64 = 15;
 
+// Where disposition k stands in a flow that is accepted, with the flow's three numbers; or refused.
+pub enum Sought {
+    At {
+        dispositions: u64,
+        cents: u64,
+        records: u64,
+        first: u64,
+        size: u64,
+        amount: u64,
+    },
+    Refused {
+        number: u64,
+        record: u64,
+        position: u64,
+    },
+}
+
 // Where disposition k of the flow stands, counted from 1. What the reader refuses is refused with its
 // three numbers, and then a k of 0 or above the count by 15.
 pub fn find(flow: &[u8], k: u64) -> Location
     ensures { λ r. ⌜ located r ≡ Find·find (now (flow .entry)) k ⌝ }
 {
-    match read(flow) {
+    find_behind(flow, k, read(flow))
+}
+
+// What `read` and `find` answer, from one reading: an amendment needs both.
+pub fn seek(flow: &[u8], k: u64) -> Sought
+    ensures { λ r. ⌜ sought r ≡ Seek·seek (now (flow .entry)) k ⌝ }
+{
+    let answer = read(flow);
+    match find_behind(flow, k, answer) {
+        Location::Refused {
+            number,
+            record,
+            position,
+        } => Sought::Refused {
+            number,
+            record,
+            position,
+        },
+        Location::At {
+            first,
+            records: size,
+            cents: amount,
+        } => match answer {
+            Answer::Refused {
+                number,
+                record,
+                position,
+            } => Sought::Refused {
+                number,
+                record,
+                position,
+            },
+            Answer::Accepted {
+                dispositions,
+                cents,
+                records,
+            } => Sought::At {
+                dispositions,
+                cents,
+                records,
+                first,
+                size,
+                amount,
+            },
+        },
+    }
+}
+
+// Where disposition k stands in a flow that the reader has answered so.
+fn find_behind(flow: &[u8], k: u64, answer: Answer) -> Location
+    requires { ⌜ verdict answer ≡ judge (now flow) ⌝ }
+    ensures { λ r. ⌜ located r ≡ Find·find (now (flow .entry)) k ⌝ }
+{
+    match answer {
         Answer::Refused {
             number,
             record,

@@ -2,7 +2,7 @@
 use Prim.Native.Nat.{ℕ, zero, suc}
 use mathlib.Core.List.{List}
 use mathlib.Core.Logic.{_⊎_, inl, inr}
-use mathlib.Core.Path.{_≡_, refl, _∙_, ap}
+use mathlib.Core.Path.{_≡_, refl, sym, _∙_, ap, subst}
 use native.Mathlib.Omega.{arith}
 use lib.ListN.{length}
 use Rattle.sequences.specs.All.{All}
@@ -15,13 +15,15 @@ use Rattle.records.specs.Judge.{asked, judge}
 use Rattle.records.specs.Kinds.{typeOf}
 use Rattle.records.specs.declared.kind.Kind.{Kind}
 use Rattle.records.proofs.ByKind.{type-said, type-tested, right-asked}
+use Rattle.records.proofs.FirstFault.{right-not-refused}
 use Rattle.records.proofs.Found.{right-exact, broken-exact}
-use Rattle.flow.specs.Order.{permitted}
+use Rattle.flow.specs.Order.{In, permitted}
 use Rattle.flow.specs.Steps.{countsAt, judgeRecord}
 use Rattle.flow.specs.declared.walk.Walk.{Walk}
-use Rattle.flow.proofs.Among.{In, Has, HasNone, has-or-none}
-use Rattle.flow.proofs.Places.{bad-byte as judged-bad-byte, judged-of, judged-none}
+use Rattle.flow.proofs.Among.{Has, HasNone, has-or-none}
+use Rattle.flow.proofs.Places.{other-length, bad-byte as judged-bad-byte, judged-of, judged-none}
 use Rattle.grammar.specs.Fault.{Fault, bad-byte, wrong-type, broken}
+use Rattle.grammar.specs.Laws.{PlaceFaultExact}
 use Rattle.grammar.specs.Rules.{Printable, Formed}
 use Rattle.grammar.proofs.Rules.{printable-exact, bad-byte-exact}
 
@@ -81,3 +83,14 @@ module _ (h : Header) (w : Walk) (company : List ℕ) (n : ℕ) (rec : List ℕ)
       bytes (suc p) e =
           let split = bad-byte-exact rec (suc p) .0 (e, omega arith) in
           inr (2, suc (length (split .0)), bad-byte (split .0) (split .1) (split .2) (split .3) (split .4) (split .5))
+
+pub place-fault-exact : PlaceFaultExact
+place-fault-exact h w company n rec = (λ whole m p. (told whole m p (judgement h w company n rec whole), fault-judged h w company n rec whole m p), λ other. other-length h w company n rec other)
+  where
+    told : length rec ≡ 120 → (m p : ℕ) → Judgement h w company n rec → judgeRecord h w company n rec ≡ refused m p → FaultAt h w company n rec m p
+    told whole m p (inl r) e = absurd (right-not-refused (sym e ∙ right-judged h w company n rec whole (r .0) (r .1)))
+    told whole m p (inr r) e =
+        let same : refused (r .0) (r .1) ≡ refused m p = sym (fault-judged h w company n rec whole (r .0) (r .1) (r .2)) ∙ e in
+        let number : r .0 ≡ m = cc in
+        let position : r .1 ≡ p = cc in
+        subst (λ (A : Type 0). A) (λ i. FaultAt h w company n rec (number i) (position i)) (r .2)

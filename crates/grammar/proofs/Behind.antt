@@ -16,13 +16,12 @@ use Rattle.records.specs.Kinds.{typeOf, opens}
 use Rattle.records.specs.declared.kind.Kind.{Kind}
 use Rattle.records.proofs.ByKind.{types-differ}
 use Rattle.records.proofs.FirstFault.{right-not-refused}
-use Rattle.flow.specs.Order.{permitted, place}
+use Rattle.flow.specs.Order.{In, permitted, place}
 use Rattle.flow.specs.Steps.{start}
 use Rattle.flow.specs.Sums.{dispositionsOf, centsOf}
 use Rattle.flow.specs.declared.order.Due.the-variants.{OnlyIm}
 use Rattle.flow.specs.declared.order.Place.{Place}
 use Rattle.flow.proofs.Cut.{Whole}
-use Rattle.flow.proofs.Among.{In}
 use Rattle.grammar.specs.Fault.{HaveKinds, MayFollow, contextBehind, RightBehind, EachRight, Fault, FaultBehind, bad-byte, wrong-type, broken}
 use Rattle.grammar.specs.Grammar.{Typed, kindsOf, recordsIn}
 use Rattle.grammar.specs.Shape.{InOrder}

@@ -1,23 +1,22 @@
 -- A flow is accepted exactly where it is one of the grammar, with its exact sums. Assumes nothing.
-use Prim.Native.Nat.{ℕ, suc, _+_, _*_, _/_, _^_, _≤_, _<_}
+use Prim.Native.Nat.{ℕ, suc, _+_, _*_, _/_, _≤_, _<_}
 use mathlib.Core.List.{List, [], _∷_, _++_, append-nil, map, map-append, flatten, nil≢cons, head-eq-of-cons-eq, tail-eq-of-cons-eq}
 use mathlib.Core.Logic.{_↔_, _⊎_, inl, inr}
 use mathlib.Core.Path.{_≡_, refl, sym, _∙_, ap, subst}
 use native.Mathlib.Omega.{arith}
 use lib.ListN.{length, take, length-append, length-map}
 use lib.Seq.{take-at}
+use Rattle.sequences.specs.Part.{part}
 use Rattle.sequences.proofs.All.{all-at}
 use Rattle.sequences.proofs.Flatten.{flatten-count}
 use Rattle.sequences.proofs.Map.{map-split}
-use Rattle.fields.specs.Digits.{number}
-use Rattle.fields.proofs.Decimal.{number-below}
+use Rattle.sequences.proofs.Part.{part-length}
 use Rattle.records.specs.Checks.{checks}
 use Rattle.records.specs.Context.{Header, headerOf}
 use Rattle.records.specs.Field.{field}
 use Rattle.records.specs.Finding.{Hold}
 use Rattle.records.specs.declared.kind.Kind.{Kind}
 use Rattle.records.specs.declared.kind.Kind.the-variants.{Im, Ef}
-use Rattle.records.proofs.Rows.{field-length}
 use Rattle.flow.specs.Judge.{ended, judge}
 use Rattle.flow.specs.Records.{RightLength, recordsOf}
 use Rattle.flow.specs.Order.{place}
@@ -42,7 +41,7 @@ use Rattle.grammar.proofs.Codes.{Agreeing, all-equal-exact}
 use Rattle.grammar.proofs.Dispositions.{InShape, numbered-shape, dispositions-state, dispositions-exact}
 use Rattle.grammar.proofs.FirstFault.{judgeFrom, judged, whole-records, ends-so, stops-so, complete-order, order-complete, first-fault-exact}
 use Rattle.grammar.proofs.Order.{Allowed, allowed-before, allowed-behind, order-runs}
-use Rattle.grammar.proofs.Rules.{digits-exact, header-rules, trailer-rules}
+use Rattle.grammar.proofs.Rules.{header-rules, trailer-rules, said-below}
 use Rattle.grammar.proofs.Walked.{stateBehind, codeBehind, Walked, walked-append, walked-formed, formed-whole, state-append, state-place, Outcome, all-right, stops, outcome}
 
 -- records in the order of a flow are a header, dispositions and a trailer
@@ -216,14 +215,16 @@ grammar-of f d c n e =
     at-outcome f d c n (length-said (length f) (read .0)) refl (whole-records f) (outcome (headerOf (take 120 f)) start [] 0 (recordsOf f) (whole-records f)) (read .1)
 
 -- from the grammar to the answer
--- the trailer counts at most 9,999,999 records
-few-records : (p : Parts) → Right p → recordCount p < 10000000
-few-records p r =
-    let said = r .trailer-rules .records-said in
-    let below = number-below (field 83 89 (p .trailer)) (digits-exact (field 83 89 (p .trailer)) .1 (said .0)) in
-    let seven : length (field 83 89 (p .trailer)) ≡ 7 = field-length 83 89 (p .trailer) (omega arith) (omega arith) (omega (arith, r .trailer-formed .whole)) in
-    let small : number (field 83 89 (p .trailer)) < 10 ^ 7 = rw seven at below in
-    omega (arith, said .1)
+-- the trailer's digits bound what it counts
+pub counts-below : (p : Parts) → Right p → (dispositionCount p < 10000000) × (totalCents p < 1000000000000000) × (recordCount p < 10000000)
+counts-below p r =
+    let t = p .trailer in
+    let rules = r .trailer-rules in
+    let size : (i w : ℕ) → i + w ≤ 120 → length (part i w t) ≡ w = λ i w fits. part-length i w t (omega (arith, r .trailer-formed .whole)) in (
+      said-below 7 (dispositionCount p) (field 46 52 t) (size 45 7 (omega arith)) (rules .dispositions-said),
+      said-below 15 (totalCents p) (field 53 67 t) (size 52 15 (omega arith)) (rules .cents-said),
+      said-below 7 (recordCount p) (field 83 89 t) (size 82 7 (omega arith)) (rules .records-said),
+    )
 
 module _ (f : List ℕ) (d c n : ℕ) (g : Grammar f d c n) where
   pub grammar-shape : InShape (g .parts .dispositions)
@@ -253,7 +254,7 @@ module _ (f : List ℕ) (d c n : ℕ) (g : Grammar f d c n) where
       let walked : FromStart f rs = grammar-start in
       let counts = all-counted p (g .right .some) grammar-shape in
       let size : length f ≡ 120 * recordCount p = ap (λ (l : List ℕ). length l) (sym grammar-bytes) ∙ flatten-length (recordsIn rs) grammar-whole ∙ ap (λ (m : ℕ). 120 * m) (length-map rs (λ (x : Typed). x .bytes) ∙ counts .2) in
-      let few = few-records p (g .right) in
+      let few = counts-below p (g .right) .2 in
       let sized : RightLength (length f) = (omega arith, omega arith, omega arith) in
       let last-due = order-complete f rs walked (parts-order p (g .right .some) grammar-shape) in
       judged f sized ∙ ap (judgeFrom f) grammar-records ∙ ends-so ended f rs walked ∙ rw last-due (λ i. accepted ((counts .0 ∙ g .dispositions) i) ((counts .1 ∙ g .cents) i) ((counts .2 ∙ g .records) i))

@@ -13,11 +13,10 @@ use Rattle.records.specs.Kinds.{heads, closes}
 use Rattle.records.specs.declared.kind.Kind.{Kind}
 use Rattle.records.specs.declared.kind.Kind.the-variants.{Im, R14, R16, R20, R30, R40, R50, R59, R51, R70, Ef}
 use Rattle.records.proofs.EachKind.{each-kind}
-use Rattle.flow.specs.Order.{permitted, place, placeAfter}
+use Rattle.flow.specs.Order.{In, permitted, place, placeAfter}
 use Rattle.flow.specs.declared.order.Due.{Due}
 use Rattle.flow.specs.declared.order.Due.the-variants.{OnlyIm, OnlyR14, R16OrR20, OnlyR20, OnlyR30, OnlyR40, R50OrR59, R59OrR51, OnlyR51, OnlyR70, R14OrEf, Nothing}
 use Rattle.flow.specs.declared.order.Place.{Place}
-use Rattle.flow.proofs.Among.{In}
 use Rattle.grammar.specs.Shape.{Coordinates, without, with-16, Reasons, one-50, some-59, Disposition, disposition, Dispositions, last, more, InOrder, in-order}
 
 -- the place behind records of the kinds, and that each of them was permitted at its place

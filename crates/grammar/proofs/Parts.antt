@@ -60,13 +60,13 @@ module _ (abi : List ℕ) where
             none = details-shut n xs details (members .1);
           }
 
-  all-open : (n : ℕ) (ds : List (List Typed)) → Numbered abi n ds → All (Opens (hasType R14)) (map recordsIn ds)
+  pub all-open : (n : ℕ) (ds : List (List Typed)) → Numbered abi n ds → All (Opens (hasType R14)) (map recordsIn ds)
   all-open n [] each = tt
   all-open n (d ∷ ds) each = (opens-so n d (each .0), all-open (suc n) ds (each .1))
 
 -- the records between header and trailer
 module _ (f : List ℕ) (d c n : ℕ) (g : Grammar f d c n) where
-  between : recordsOf f ≡ (g .parts .header ∷ flatten (map recordsIn (g .parts .dispositions))) ++ (g .parts .trailer ∷ [])
+  pub between : recordsOf f ≡ (g .parts .header ∷ flatten (map recordsIn (g .parts .dispositions))) ++ (g .parts .trailer ∷ [])
   between =
       let ms = flatten (g .parts .dispositions) in
       let bytes : Typed → List ℕ = λ r. r .bytes in
@@ -88,7 +88,7 @@ module _ (f : List ℕ) (d c n : ℕ) (e : judge f ≡ accepted d c n) where
   g : Grammar f d c n
   g = grammar-exact f d c n .0 e
 
-  stands-so : (k : ℕ) → k < d
+  pub stands-so : (k : ℕ) → k < d
       → find f (suc k) ≡ standing (suc (suc (length (flatten (take k (dispositionsIn f)))))) (length (getD (dispositionsIn f) k [])) (number (field 34 46 (getD (getD (dispositionsIn f) k []) 0 [])))
   stands-so k h =
       let one : suc k - 1 ≡ k = omega arith in
@@ -211,7 +211,7 @@ part-empty f k = (λ none. go none (find f k) refl, λ o. ap (λ (l : Located). 
         absurd (some-bytes f (s .dispositions) (s .cents) (s .records) (s .read) (k - 1) (omega arith) (ap (partOf f) same ∙ none))
 
 -- the number and the amount of a disposition stand in the record that opens it
-numbered-at : (abi : List ℕ) (n : ℕ) (ds : List (List Typed)) (k : ℕ) → k < length ds → Numbered abi n ds → RightDisposition abi (n + k) (getD ds k [])
+pub numbered-at : (abi : List ℕ) (n : ℕ) (ds : List (List Typed)) (k : ℕ) → k < length ds → Numbered abi n ds → RightDisposition abi (n + k) (getD ds k [])
 numbered-at abi n [] k h each = absurd (not-suc-le-zero h)
 numbered-at abi n (d ∷ ds) zero h each = let same : n ≡ n + 0 = omega arith in subst (λ (m : ℕ). RightDisposition abi m d) same (each .0)
 numbered-at abi n (d ∷ ds) (suc k) h each =

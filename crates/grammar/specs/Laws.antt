@@ -7,15 +7,21 @@ use mathlib.Core.Path.{_≡_}
 use lib.ListN.{length}
 use Rattle.sequences.specs.Part.{part}
 use Rattle.sequences.specs.Sum.{sum, upTo}
+use Rattle.records.specs.Context.{Header, context}
 use Rattle.records.specs.Field.{field}
+use Rattle.records.specs.Finding.{refused as Finding·refused}
 use Rattle.records.specs.Kinds.{typeOf}
+use Rattle.records.specs.declared.kind.Kind.{Kind}
 use Rattle.records.specs.declared.kind.Kind.the-variants.{R14}
 use Rattle.flow.specs.Find.{Located, standing, refused, dispositionsIn, find, partOf}
 use Rattle.flow.specs.Judge.{judge}
+use Rattle.flow.specs.Order.{In, permitted}
 use Rattle.flow.specs.Records.{recordAt}
+use Rattle.flow.specs.Steps.{countsAt, judgeRecord}
 use Rattle.flow.specs.Verdict.{accepted}
 use Rattle.flow.specs.Verdict.{refused as Verdict·refused}
-use Rattle.grammar.specs.Fault.{FirstFault}
+use Rattle.flow.specs.declared.walk.Walk.{Walk}
+use Rattle.grammar.specs.Fault.{Fault, FirstFault}
 use Rattle.grammar.specs.Grammar.{recordsIn, Grammar}
 use Rattle.grammar.specs.Rules.{Says}
 
@@ -26,6 +32,14 @@ GrammarExact = (f : List ℕ) (d c n : ℕ) → (judge f ≡ accepted d c n) ↔
 -- a flow is refused exactly by its first fault
 abbrev pub FirstFaultExact : Type 0
 FirstFaultExact = (f : List ℕ) (n r p : ℕ) → (judge f ≡ Verdict·refused n r p) ↔ FirstFault f n r p
+
+-- a record of 120 bytes is refused at its place in the walk exactly by its fault there: a bad byte, a type that is not permitted there, or
+-- the first check of its kind that fails; one of another length by 1
+abbrev pub PlaceFaultExact : Type 0
+PlaceFaultExact =
+    (header : Header) (w : Walk) (company : List ℕ) (i : ℕ) (rec : List ℕ)
+    → (length rec ≡ 120 → (n p : ℕ) → (judgeRecord header w company i rec ≡ Finding·refused n p) ↔ Fault (λ (k : Kind). In k (permitted (w .place .due))) (λ (k : Kind). context header company (countsAt w i k)) rec n p)
+    × (¬ (length rec ≡ 120) → judgeRecord header w company i rec ≡ Finding·refused 1 0)
 
 -- so every list of bytes is the one or has the other, and never both
 abbrev pub RightOrFaulty : Type 0

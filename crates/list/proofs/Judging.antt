@@ -17,11 +17,10 @@ use Rattle.records.specs.declared.kind.Kind.the-variants.{R14, Ef}
 use Rattle.records.proofs.ByKind.{type-tested, opens-type}
 use Rattle.records.proofs.EachKind.{opens-14, closes-ef}
 use Rattle.flow.specs.Judge.{go}
-use Rattle.flow.specs.Order.{mayClose}
+use Rattle.flow.specs.Order.{In, mayClose}
 use Rattle.flow.specs.Steps.{start, opened}
 use Rattle.flow.specs.Sums.{dispositionsOf as Sums·dispositionsOf, centsOf as Sums·centsOf}
 use Rattle.flow.specs.Verdict.{refused}
-use Rattle.flow.proofs.Among.{In}
 use Rattle.flow.proofs.Cut.{Whole}
 use Rattle.grammar.specs.Fault.{HaveKinds}
 use Rattle.grammar.specs.Grammar.{Typed, kindsOf, recordsIn}

@@ -10,8 +10,8 @@ use lib.ListN.{length, take, drop, getD, take-append-drop}
 use borrow.Author.Tests.{leb-true, leb-false}
 use Rattle.sequences.specs.All.{All}
 use Rattle.sequences.specs.Part.{part, put}
-use Rattle.sequences.proofs.All.{all-append, all-before, all-behind}
-use Rattle.sequences.proofs.Part.{put-length, part-put, getD-put, getD-put-before, getD-put-behind, part-getD, part-put-before, part-put-behind}
+use Rattle.sequences.proofs.All.{all-before, all-behind}
+use Rattle.sequences.proofs.Part.{put-length, part-put, getD-put, getD-put-before, getD-put-behind, part-getD, part-put-before, part-put-behind, put-again, put-apart, all-put}
 use Rattle.list.specs.Encode.{Placed, place, fill}
 
 -- placed within a record of 120 bytes
@@ -112,12 +112,38 @@ module _ (P : ℕ → Type 0) where
   unfolding fill
   fill-all [] xs placed all = all
   fill-all (place p bs ∷ ps) xs placed all =
-      fill-all ps (put (p - 1) bs xs) (placed .1) (all-append P (take (p - 1) xs) _ (all-take (p - 1) xs all) (all-append P bs _ (placed .0) (all-drop (p - 1 + length bs) xs all)))
+      fill-all ps (put (p - 1) bs xs) (placed .1) (all-put P (p - 1) bs xs (placed .0) all)
 
 pub fill-append : (ps qs : List Placed) (xs : List ℕ) → fill (ps ++ qs) xs ≡ fill qs (fill ps xs)
 unfolding fill
 fill-append [] qs xs = refl
 fill-append (place p bs ∷ ps) qs xs = fill-append ps qs (put (p - 1) bs xs)
+
+-- bytes written over a record that is filled, where nothing is placed, might as well have been there before
+put-fill : (a : ℕ) (ys : List ℕ) (ps : List Placed) (xs : List ℕ) → All Fits ps → length xs ≡ 120 → a + length ys ≤ 120 → All (Outside a (length ys)) ps → put a ys (fill ps xs) ≡ fill ps (put a ys xs)
+unfolding fill
+put-fill a ys [] xs fits whole within outside = refl
+put-fill a ys (place p bs ∷ ps) xs fits whole within outside =
+    let inside : p - 1 + length bs ≤ length xs = omega (arith, fits .0) in
+    put-fill a ys ps (put (p - 1) bs xs) (fits .1) (put-length (p - 1) bs xs inside ∙ whole) within (outside .1) ∙ ap (fill ps) (apart inside (outside .0))
+  where
+    apart : p - 1 + length bs ≤ length xs → Outside a (length ys) (place p bs) → put a ys (put (p - 1) bs xs) ≡ put (p - 1) bs (put a ys xs)
+    apart inside (inl h) = put-apart a (p - 1) ys bs xs h inside
+    apart inside (inr h) = sym (put-apart (p - 1) a bs ys xs h (omega arith))
+
+-- so bytes that were placed, and that nothing placed later touches, are placed anew by writing over them
+pub fill-again :
+    (ps : List Placed) (p : ℕ) (bs cs : List ℕ) (qs : List Placed) (xs : List ℕ) → All Fits ps → All Fits qs → p - 1 + length bs ≤ 120 → length xs ≡ 120 → length cs ≡ length bs
+    → All (Outside (p - 1) (length cs)) qs → put (p - 1) cs (fill (ps ++ (place p bs ∷ qs)) xs) ≡ fill (ps ++ (place p cs ∷ qs)) xs
+unfolding fill
+fill-again ps p bs cs qs xs front back fits whole same outside =
+    let before = fill ps xs in
+    let size : length before ≡ 120 = fill-length ps xs front whole in
+    let inside : p - 1 + length bs ≤ length before = omega arith in
+    ap (put (p - 1) cs) (fill-append ps (place p bs ∷ qs) xs)
+    ∙ put-fill (p - 1) cs qs (put (p - 1) bs before) back (put-length (p - 1) bs before inside ∙ size) (omega arith) outside
+    ∙ ap (fill qs) (put-again (p - 1) cs bs before same inside)
+    ∙ sym (fill-append ps (place p cs ∷ qs) xs)
 
 -- where it starts, and where it ends
 abbrev pub start : Placed → ℕ

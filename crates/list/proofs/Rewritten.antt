@@ -267,13 +267,13 @@ module _ (f : List ℕ) (d c n : ℕ) (g : Grammar f d c n) where
       fitting-judged (listOf f) room own (record { said = own-read ∙ ap items own-list-items; few = omega arith; roomy = omega arith }) ∙ own-judged
 
   -- and encodes records like the flow's
-  own-sums : (dispositionsOf own ≡ d) × (centsOf own ≡ c)
+  pub own-sums : (dispositionsOf own ≡ d) × (centsOf own ≡ c)
   own-sums =
       let sums = right-sums own own-proper-all right-items in
       let state : stateBehind start again ≡ behind = members-again .state in
       (sym (sums .0) ∙ ap (λ (w : Walk). w .dispositions) state ∙ dispositions-so, sym (sums .1) ∙ ap (λ (w : Walk). w .cents) state ∙ cents-so)
 
-  trailer-so : trailerFor own ≡ encodeTrailer header d c n
+  pub trailer-so : trailerFor own ≡ encodeTrailer header d c n
   unfolding lastHeader
   trailer-so =
       let kinds : kindsIn (map ownItem members) ≡ kindsOf members = map-map (λ (it : Item). it .kind) ownItem members in

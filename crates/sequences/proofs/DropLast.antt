@@ -1,10 +1,10 @@
 -- A list but for its last element. Assumes nothing.
-use Prim.Native.Nat.{ℕ, suc, _-_, _<_}
+use Prim.Native.Nat.{ℕ, suc, _-_, _≤_, _<_}
 use mathlib.Core.List.{List, [], _∷_, _++_, dropLast}
-use mathlib.Core.Path.{_≡_, refl, ap}
+use mathlib.Core.Path.{_≡_, refl, sym, _∙_, ap}
 use native.Mathlib.Omega.{arith}
 use lib.ListN.{length, take, getD}
-use lib.Seq.{length-take-le, getD-take}
+use lib.Seq.{length-take-le, take-length, take-suc, getD-take}
 
 module _ {A : Type 0} where
   dropLast-take : (xs : List A) → dropLast xs ≡ take (length xs - 1) xs
@@ -26,3 +26,9 @@ module _ {A : Type 0} where
   dropLast-append [] x = refl
   dropLast-append (y ∷ []) x = refl
   dropLast-append (y ∷ z ∷ xs) x = ap (λ (l : List A). y ∷ l) (dropLast-append (z ∷ xs) x)
+
+  -- and the last behind the others
+  pub dropLast-last : (xs : List A) (d : A) → 1 ≤ length xs → dropLast xs ++ (getD xs (length xs - 1) d ∷ []) ≡ xs
+  dropLast-last xs d some =
+      let all : suc (length xs - 1) ≡ length xs = omega arith in
+      rw dropLast-take (sym (take-suc xs (length xs - 1) d (omega arith)) ∙ rw all (take-length xs))

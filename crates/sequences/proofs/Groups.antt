@@ -81,7 +81,7 @@ module _ {A : Type 0} (p : A → Bool) where
   groups-none [] ys none = refl
   groups-none (x ∷ xs) ys none = rw (none .0) (groups-none xs ys (none .1))
 
-  -- groups are found again in the list that they make
+  -- a list that an element which passes opens, and no other of it does
   pub record Opens (xs : List A) : Type 0 where
     pub first : A
     pub others : List A
@@ -89,7 +89,27 @@ module _ {A : Type 0} (p : A → Bool) where
     pub passes : p first ≡ true
     pub none : All (λ (x : A). p x ≡ false) others
 
-  lead-joined : (xss : List (List A)) → All Opens xss → lead p (flatten xss) ≡ []
+  -- each group of a list is one
+  lead-fails : (xs : List A) → All (λ (x : A). p x ≡ false) (lead p xs)
+  unfolding lead
+  lead-fails [] = tt
+  lead-fails (x ∷ xs) = by (p x) refl (lead-fails xs)
+    where
+      by : (b : Bool) → p x ≡ b → All (λ (y : A). p y ≡ false) (lead p xs) → All (λ (y : A). p y ≡ false) (cond b [] (x ∷ lead p xs))
+      by true e rest = tt
+      by false e rest = (e, rest)
+
+  pub groups-open : (xs : List A) → All Opens (groups p xs)
+  unfolding groups
+  groups-open [] = tt
+  groups-open (x ∷ xs) = by (p x) refl (groups-open xs)
+    where
+      by : (b : Bool) → p x ≡ b → All Opens (groups p xs) → All Opens (cond b ((x ∷ lead p xs) ∷ groups p xs) (groups p xs))
+      by true e rest = (record { first = x; others = lead p xs; whole = refl; passes = e; none = lead-fails xs }, rest)
+      by false e rest = rest
+
+  -- groups are found again in the list that they make
+  pub lead-joined : (xss : List (List A)) → All Opens xss → lead p (flatten xss) ≡ []
   unfolding flatten lead
   lead-joined [] opens = refl
   lead-joined (xs ∷ xss) opens =

@@ -1,4 +1,5 @@
 pub mod All
+pub mod Append
 pub mod Below
 pub mod Drop
 pub mod DropLast
@@ -6,5 +7,7 @@ pub mod Every
 pub mod Flatten
 pub mod Groups
 pub mod Map
+pub mod Pairs
 pub mod Part
+pub mod Sum
 pub mod Tags

@@ -1,13 +1,18 @@
 -- Laws of `part` and `put`: a part's length, a part written back, and what stays outside it. Assumes nothing.
-use mathlib.Core.Path.{_≡_, sym, _∙_, ap}
+use mathlib.Core.Path.{_≡_, refl, sym, _∙_, ap, ap₂}
 use mathlib.Core.List.{List, [], _∷_, _++_, append-nil, append-assoc}
+use mathlib.Core.Bool.{Bool, true, false}
 use Prim.Native.Nat.{ℕ, zero, suc, _+_, _-_, _≤_, _<_}
 use native.Mathlib.Nat.{le-refl, add-zero}
 use native.Mathlib.Omega.{arith}
+use lib.Dec.{leb}
 use lib.ListN.{length, take, drop, getD, length-append, length-take, length-drop, drop-of-length-le, take-append-drop}
-use lib.Seq.{length-take-le, take-length, take-nil, drop-drop, take-at, drop-at, getD-take, getD-drop, take-append-seam, take-append-le, take-take, take-add}
+use lib.Seq.{length-take-le, take-length, take-nil, drop-drop, take-at, drop-at, getD-take, getD-drop, take-append-seam, take-append-le, drop-append-le, take-append-add, drop-append-add, take-take, take-add}
+use borrow.Author.Tests.{leb-true, leb-false}
 use borrow.Rule.Slice.PartMut.{putMid}
+use Rattle.sequences.specs.All.{All}
 use Rattle.sequences.specs.Part.{part, put}
+use Rattle.sequences.proofs.All.{all-append, all-before, all-behind}
 
 -- a part within the list has its length
 pub part-length : (a n : ℕ) (xs : List ℕ) → a + n ≤ length xs → length (part a n xs) ≡ n
@@ -82,6 +87,14 @@ module _ (a : ℕ) (ys xs : List ℕ) (fits : a + length ys ≤ length xs) where
   pub getD-put-behind : (i : ℕ) → a + length ys ≤ i → getD (put a ys xs) i 0 ≡ getD xs i 0
   getD-put-behind i h = sym (head (put a ys xs) i) ∙ ap (λ (l : List ℕ). getD l 0 0) (drop-put i h) ∙ head xs i
 
+  pub getD-put-elsewhere : (i : ℕ) → ¬ ((a ≤ i) × (i < a + length ys)) → getD (put a ys xs) i 0 ≡ getD xs i 0
+  getD-put-elsewhere i outside = by (leb a i) (leb (a + length ys) i) refl refl
+    where
+      by : (b d : Bool) → leb a i ≡ b → leb (a + length ys) i ≡ d → getD (put a ys xs) i 0 ≡ getD xs i 0
+      by false d s t = getD-put-before i (leb-false a i s)
+      by true true s t = getD-put-behind i (leb-true (a + length ys) i t)
+      by true false s t = absurd (outside (leb-true a i s, leb-false (a + length ys) i t))
+
   -- so does each part that lies outside it
   pub part-put-before : (b n : ℕ) → b + n ≤ a → part b n (put a ys xs) ≡ part b n xs
   part-put-before b n h =
@@ -89,6 +102,13 @@ module _ (a : ℕ) (ys xs : List ℕ) (fits : a + length ys ≤ length xs) where
 
   pub part-put-behind : (b n : ℕ) → a + length ys ≤ b → part b n (put a ys xs) ≡ part b n xs
   part-put-behind b n h = ap (take n) (drop-put b h)
+
+-- what holds of every element of both holds of every element of the list written over
+pub all-put : (P : ℕ → Type 0) (a : ℕ) (ys xs : List ℕ) → All P ys → All P xs → All P (put a ys xs)
+all-put P a ys xs placed all =
+    let end = a + length ys in
+    all-append P (take a xs) (ys ++ drop end xs) (all-before P (take a xs) (drop a xs) (rw take-append-drop all))
+    (all-append P ys (drop end xs) placed (all-behind P (take end xs) (drop end xs) (rw take-append-drop all)))
 
 -- nothing written over
 pub put-nothing : (a : ℕ) (xs : List ℕ) → put a [] xs ≡ xs
@@ -124,3 +144,62 @@ copied-over a e xs ys back begins ends size came =
     let lent : length (part a (e - a) xs) ≤ length ys = omega (arith, part-length a (e - a) xs (omega arith)) in
     let whole : back ≡ ys = came ∙ rw (take-length, drop-of-length-le (part a (e - a) xs) lent, append-nil) in
     ap (putMid a (e - a) xs) whole ∙ lent-is-put a e xs ys size
+
+-- written over in the front, or in the back, of two lists joined
+module _ (a : ℕ) (bs xs ys : List ℕ) where
+  pub put-front : a + length bs ≤ length xs → put a bs (xs ++ ys) ≡ put a bs xs ++ ys
+  put-front fits =
+      let front = take-append-le a xs ys (omega arith) in
+      let back = drop-append-le (a + length bs) xs ys fits in
+      (λ i. front i ++ (bs ++ back i)) ∙ ap (λ (l : List ℕ). take a xs ++ l) (sym (append-assoc bs (drop (a + length bs) xs) ys)) ∙ sym (append-assoc (take a xs) (bs ++ drop (a + length bs) xs) ys)
+
+  pub put-back : put (length xs + a) bs (xs ++ ys) ≡ xs ++ put a bs ys
+  put-back =
+      let front = take-append-add xs ys a in
+      let place : length xs + a + length bs ≡ length xs + (a + length bs) = omega arith in
+      let back : drop (length xs + a + length bs) (xs ++ ys) ≡ drop (a + length bs) ys = rw place (drop-append-add xs ys (a + length bs)) in
+      (λ i. front i ++ (bs ++ back i)) ∙ append-assoc xs (take a ys) (bs ++ drop (a + length bs) ys)
+
+-- written twice at one place, the second stays
+pub put-again : (a : ℕ) (bs cs xs : List ℕ) → length bs ≡ length cs → a + length cs ≤ length xs → put a bs (put a cs xs) ≡ put a bs xs
+put-again a bs cs xs same fits =
+    let front = take-put a cs xs fits a (le-refl a) in
+    let back = drop-put a cs xs fits (a + length bs) (omega arith) in
+    λ i. front i ++ (bs ++ back i)
+
+-- written at two places, either first
+pub put-apart : (a b : ℕ) (ys zs xs : List ℕ) → a + length ys ≤ b → b + length zs ≤ length xs → put a ys (put b zs xs) ≡ put b zs (put a ys xs)
+put-apart a b ys zs xs before fits =
+    let front = take b xs in
+    let back = drop b xs in
+    let size : length front ≡ b = length-take-le b xs (omega arith) in
+    let at : length front + 0 ≡ b = omega arith in
+    let whole : front ++ back ≡ xs = take-append-drop b xs in
+    let within : a + length ys ≤ length front = omega arith in
+    let kept : length (put a ys front) + 0 ≡ b = omega (arith, put-length a ys front within) in
+    let one : put b zs xs ≡ front ++ put 0 zs back = ap₂ (λ (m : ℕ) (l : List ℕ). put m zs l) (sym at) (sym whole) ∙ put-back 0 zs front back in
+    let two : put a ys xs ≡ put a ys front ++ back = ap (put a ys) (sym whole) ∙ put-front a ys front back within in
+    ap (put a ys) one ∙ put-front a ys front (put 0 zs back) within
+    ∙ sym (ap₂ (λ (m : ℕ) (l : List ℕ). put m zs l) (sym kept) two ∙ put-back 0 zs (put a ys front) back)
+
+-- behind two lists joined stands the third
+pub drop-two : (n m : ℕ) (xs ys zs : List ℕ) → length xs ≡ n → length ys ≡ m → drop (n + m) (xs ++ (ys ++ zs)) ≡ zs
+drop-two n m xs ys zs first second = sym (drop-drop m n (xs ++ (ys ++ zs))) ∙ ap (drop m) (drop-at xs (ys ++ zs) n first) ∙ drop-at ys zs m second
+
+-- the one in the middle is replaced by one as long
+pub put-at : (n : ℕ) (xs ys zs bs : List ℕ) → length xs ≡ n → length ys ≡ length bs → put n bs (xs ++ (ys ++ zs)) ≡ xs ++ (bs ++ zs)
+put-at n xs ys zs bs first second = λ i. take-at xs (ys ++ zs) n first i ++ (bs ++ drop-two n (length bs) xs ys zs first second i)
+
+-- or has a part written over
+pub put-between : (n b : ℕ) (xs ys zs bs : List ℕ) → length xs ≡ n → b + length bs ≤ length ys → put (n + b) bs (xs ++ (ys ++ zs)) ≡ xs ++ (put b bs ys ++ zs)
+put-between n b xs ys zs bs starts fits =
+    ap (λ (m : ℕ). put (m + b) bs (xs ++ (ys ++ zs))) (sym starts) ∙ put-back b bs xs (ys ++ zs) ∙ ap (λ (l : List ℕ). xs ++ l) (put-front b bs ys zs fits)
+
+-- a part of a part is written over
+pub put-within : (a n b : ℕ) (ys xs : List ℕ) → b + length ys ≤ n → a + n ≤ length xs → put (a + b) ys xs ≡ put a (put b ys (part a n xs)) xs
+put-within a n b ys xs inner outer =
+    let size = part-length a n xs outer in
+    let own : length (put b ys (part a n xs)) ≡ n = put-length b ys (part a n xs) (omega arith) ∙ size in
+    let split : xs ≡ take a xs ++ (part a n xs ++ drop (a + n) xs) = sym (rw (← drop-drop n a xs, take-append-drop, take-append-drop)) in
+    ap (put (a + b) ys) split ∙ put-between a b (take a xs) (part a n xs) (drop (a + n) xs) ys (length-take-le a xs (omega arith)) (omega arith)
+    ∙ ap (λ (m : ℕ). take a xs ++ (put b ys (part a n xs) ++ drop (a + m) xs)) (sym own)

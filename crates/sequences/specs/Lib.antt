@@ -1,6 +1,7 @@
 pub mod All
 pub mod Every
 pub mod Groups
+pub mod Pairs
 pub mod Part
 pub mod Sum
 pub mod Text

@@ -1,74 +1,16 @@
 -- `flow::find` meets its contract. Assumes nothing.
-use Prim.Native.Nat.{ℕ}
-use mathlib.Core.Bool.{_&&_}
-use mathlib.Core.List.{List}
-use mathlib.Core.Path.{_≡_, refl, sym, _∙_, ap}
-use lib.Dec.{leb}
 use borrow.Author.Needs.{needs}
-use borrow.Author.Tests.{not-true, not-false}
-use Rattle.flow.specs.Find.{find}
-use Rattle.flow.specs.Judge.{judge}
-use Rattle.flow.specs.Verdict.{accepted, refused, verdict}
-use Rattle.flow.proofs.Dispositions.{stands}
 use Rattle.flow.proofs.location.find.Statement.{statement}
 use Rattle.flow.proofs.location.find.Tie as tie
 
 read-requires : tie.Need-read-requires
 read-requires c κs = search needs
 
-enum-known-number : tie.Need-enum-known-number
-enum-known-number c = search needs
-
-enum-known-dispositions : tie.Need-enum-known-dispositions
-enum-known-dispositions c = search needs
-
-is-number-requires : tie.Need-is-number-requires
-is-number-requires c κs = search needs
-
--- the flow is accepted with some count, and the test is whether k is a number up to it
-module _ (c : tie.After-is-number) where
-  abbrev flow : List ℕ
-  flow = c .before .before .before .before .before .before .args .flow .now
-
-  abbrev k : ℕ
-  k = c .before .before .before .before .before .before .args .k
-
-  abbrev count : ℕ
-  count = c .before .before .dispositions .given .0 .0
-
-  read : judge flow ≡ accepted count (c .before .before .dispositions .given .0 .1 .0) (c .before .before .dispositions .given .0 .1 .1 .0)
-  read = sym (c .before .before .before .before .read .ensures) ∙ ap verdict (c .before .before .dispositions .given .1)
-
-  tested : (leb 1 k && leb k count) ≡ c .is-number .result
-  tested = sym (c .is-number .ensures)
+find-behind-requires : tie.Need-find-behind-requires
+find-behind-requires c κs = c .read .ensures
 
 returns : tie.Need-returns
-unfolding find
-returns c = rw (read (c .before), tested (c .before) ∙ not-true _ (c .if1 .taken)) refl
-
-locate-requires : tie.Need-locate-requires
-locate-requires c κs = stands _ _ (read (c .before)) (tested (c .before) ∙ not-false _ (c .if1 .left))
-
-returns-2 : tie.Need-returns-2
-unfolding find
-returns-2 c =
-    let told = c .before .number .given .0 in
-    let wrong : judge (c .before .before .before .before .before .args .flow .now) ≡ refused (told .0) (told .1 .0) (told .1 .1 .0) = sym (c .before .before .before .read .ensures) ∙ ap verdict (c .before .number .given .1) in
-    rw wrong
-
-returns-3 : tie.Need-returns-3
-unfolding find
-returns-3 c = rw (read (c .before .before), tested (c .before .before) ∙ not-false _ (c .before .if1 .left)) (c .locate .ensures)
+returns c = c .find-behind .ensures
 
 pub find-spec : {M : Type 1} → statement M
-find-spec =
-    tie.close
-    (tie.spec
-    read-requires
-    enum-known-number
-    enum-known-dispositions
-    is-number-requires
-    returns
-    locate-requires
-    returns-2
-    returns-3)
+find-spec = tie.close (tie.spec read-requires find-behind-requires returns)
