@@ -1,0 +1,280 @@
+-- What an amendment leaves: a flow that is accepted, blanks behind it, and each byte that it does not name as it was. Assumes nothing.
+use Prim.Native.Nat.{ℕ, suc, _+_, _-_, _*_, _/_, _≤_, _<_}
+use mathlib.Core.Bool.{Bool, true, false}
+use mathlib.Core.List.{List, [], _∷_, _++_, append-nil, append-assoc, map, map-append, flatten}
+use mathlib.Core.Path.{_≡_, refl, sym, _∙_, ap, ap₂, subst}
+use native.Mathlib.Omega.{arith}
+use lib.ListN.{length, take, drop, getD, replicate, length-append, length-map, List·getD-append}
+use lib.Seq.{take-at, take-length, getD-append-seam, getD-append-add}
+use Rattle.sequences.specs.All.{All}
+use Rattle.sequences.specs.Pairs.{Pairs}
+use Rattle.sequences.specs.Part.{put}
+use Rattle.sequences.proofs.All.{all-append, all-before, all-behind}
+use Rattle.sequences.proofs.Flatten.{flatten-append}
+use Rattle.sequences.proofs.Pairs.{pairs-length, pairs-append, pairs-at, pairs-map}
+use Rattle.sequences.proofs.Part.{put-length, getD-put-elsewhere}
+use Rattle.fields.specs.Digits.{digits}
+use Rattle.fields.proofs.Decimal.{written-length}
+use Rattle.records.specs.Field.{Span, _to_, byteAt}
+use Rattle.flow.specs.Find.{standing, dispositionsIn, find}
+use Rattle.flow.specs.Judge.{judge}
+use Rattle.flow.specs.Records.{recordAt, recordsOf}
+use Rattle.flow.specs.Seek.{target, seek}
+use Rattle.flow.specs.Verdict.{accepted, refused}
+use Rattle.flow.specs.declared.answer.Answer.the-variants.{Accepted, Refused}
+use Rattle.flow.proofs.Accepted.{accepted-not-refused, accepted-exact, answer-determined}
+use Rattle.flow.proofs.Cut.{Whole, cut-count, cut-at, flatten-length, joined-records}
+use Rattle.flow.proofs.Dispositions.{found-within, standing-same}
+use Rattle.flow.proofs.Sought.{sought-read, read-found}
+use Rattle.grammar.specs.Grammar.{Typed, recordsIn, Grammar}
+use Rattle.grammar.proofs.Grammar.{grammar-exact}
+use Rattle.grammar.proofs.Parts.{between}
+use Rattle.amend.specs.Amended.{Amended, unchanged, written}
+use Rattle.amend.specs.Change.{changed, change}
+use Rattle.amend.specs.Laws.{flowLeft, Leaves, ChangeLeaves, WithdrawLeaves, Lies, ChangeTouches, Outside, SameBut, Moved, WithdrawTouches, AmendedDetermined}
+use Rattle.amend.specs.Withdraw.{renumbered, numberedFrom, without, recounted, recordsLeft, withdrawn, withdraw}
+use Rattle.amend.proofs.Among.{Among, among-so}
+use Rattle.amend.proofs.Answered.{Changing, changing, Withdrawing, withdrawing, refuses, changes, withdraws, changed-grammar, withdrawn-grammar}
+use Rattle.amend.proofs.Around.{before, own, behind, trailer, records-split, pieces}
+use Rattle.amend.proofs.Kept.{over-length, recounted-length}
+use Rattle.amend.proofs.Standing.{Standing, sought-stands}
+
+-- the numbers of one answer
+accepted-same : {d c n d′ c′ n′ : ℕ} → accepted d c n ≡ accepted d′ c′ n′ → (d ≡ d′) × (c ≡ c′) × (n ≡ n′)
+accepted-same e = (cc, cc, cc)
+
+-- the flow that a change leaves, and a withdrawal
+module _ (f : List ℕ) (k d c n first m a : ℕ) (found : seek f k ≡ target d c n first m a) where
+  abbrev here : Among f k d c n first m a
+  here = among-so f k found
+
+  size-before : n * 120 ≡ length f
+  size-before = accepted-exact f d c n (sought-read f k found .0) .2
+
+  module _ (new : ℕ) (small : new ≤ 9999999999999) (fits : c - a + new ≤ 999999999999999) where
+    abbrev pub changedFlow : List ℕ
+    changedFlow = changed first new n (c - a + new) f
+
+    pub changed-read : judge changedFlow ≡ accepted d (c - a + new) n
+    changed-read = grammar-exact changedFlow d (c - a + new) n .1 (changed-grammar f k d c n first m a new here (omega arith) fits)
+
+    pub changed-size : length changedFlow ≡ length f
+    changed-size = sym (accepted-exact changedFlow d (c - a + new) n changed-read .2) ∙ size-before
+
+    pub changed-whole : take (length f) changedFlow ≡ changedFlow
+    changed-whole = ap (λ (l : ℕ). take l changedFlow) (sym changed-size) ∙ take-length changedFlow
+
+  module _ (some : 2 ≤ d) where
+    abbrev pub withdrawnFlow : List ℕ
+    withdrawnFlow = flatten (recordsLeft f k (n - 1) (d - 1) (c - a) (n - m))
+
+    pub withdrawn-read : judge withdrawnFlow ≡ accepted (d - 1) (c - a) (n - m)
+    withdrawn-read = grammar-exact withdrawnFlow (d - 1) (c - a) (n - m) .1 (withdrawn-grammar f k d c n first m a here some)
+
+    pub withdrawn-size : 120 * (n - m) ≤ length f
+    withdrawn-size = omega (arith, size-before)
+
+    pub withdrawn-length : length withdrawnFlow ≡ 120 * (n - m)
+    withdrawn-length = omega (arith, accepted-exact withdrawnFlow (d - 1) (c - a) (n - m) withdrawn-read .2)
+
+    pub withdrawn-front : take (120 * (n - m)) (withdrawn f k (n - 1) (d - 1) (c - a) (n - m)) ≡ withdrawnFlow
+    withdrawn-front = take-at withdrawnFlow (replicate (length f - 120 * (n - m)) 32) (120 * (n - m)) withdrawn-length
+
+pub change-leaves : ChangeLeaves
+change-leaves f k new d c n same = go (change f k new) (changing f k new) same
+  where
+    go : (x : Amended) → Changing f k new x → x .answer ≡ accepted d c n → Leaves f x d c n
+    go x (refuses fault) same = absurd (accepted-not-refused same)
+    go x (changes {d = d₀} {c = c₀} {n = n₀} {first = first} {m = m} {a = a} found small fits) same =
+        let left = changedFlow f k d₀ c₀ n₀ first m a found new small fits in
+        let whole = changed-whole f k d₀ c₀ n₀ first m a found new small fits in
+        let none : length f - length f ≡ 0 = omega arith in
+        record {
+          read = ap judge whole ∙ changed-read f k d₀ c₀ n₀ first m a found new small fits ∙ same;
+          within = omega arith;
+          memory = sym (append-nil left) ∙ (λ i. sym whole i ++ replicate (sym none i) 32);
+        }
+
+pub withdraw-leaves : WithdrawLeaves
+withdraw-leaves f k d c n same = go (withdraw f k) (withdrawing f k) same
+  where
+    go : (x : Amended) → Withdrawing f k x → x .answer ≡ accepted d c n → Leaves f x d c n
+    go x (refuses fault) same = absurd (accepted-not-refused same)
+    go x (withdraws {d = d₀} {c = c₀} {n = n₀} {first = first} {m = m} {a = a} found some) same =
+        let own = withdrawn-front f k d₀ c₀ n₀ first m a found some in
+        record {
+          read = ap judge own ∙ withdrawn-read f k d₀ c₀ n₀ first m a found some ∙ same;
+          within = withdrawn-size f k d₀ c₀ n₀ first m a found some;
+          memory = ap (λ (l : List ℕ). l ++ replicate (length f - 120 * (n₀ - m)) 32) (sym own);
+        }
+
+-- digits written over a record of a flow, and any index that does not lie there
+written-elsewhere :
+    (r p w v i : ℕ) (f : List ℕ) → 1 ≤ p → 120 * (r - 1) + (p - 1) + w ≤ length f → ¬ Lies i r p (p - 1 + w)
+    → getD (written r p (digits w v) f) i 0 ≡ getD f i 0
+written-elsewhere r p w v i f one fits outside =
+    let size = written-length w v in
+    getD-put-elsewhere (120 * (r - 1) + (p - 1)) (digits w v) f (omega arith) i (λ h. outside (record { starts = h .0; ends = omega (arith, h .1) }))
+
+written-size : (r p w v : ℕ) (f : List ℕ) → 120 * (r - 1) + (p - 1) + w ≤ length f → length (written r p (digits w v) f) ≡ length f
+written-size r p w v f fits = put-length (120 * (r - 1) + (p - 1)) (digits w v) f (omega (arith, written-length w v))
+
+pub change-touches : ChangeTouches
+change-touches f k new d c n first m a read found = go (change f k new) (changing f k new)
+  where
+    go : (x : Amended) → Changing f k new x → (length (x .bytes) ≡ length f) × ((i : ℕ) → ¬ Lies i first 34 46 → ¬ Lies i n 53 67 → getD (x .bytes) i 0 ≡ getD f i 0)
+    go x (refuses fault) = (refl, λ i u v. refl)
+    go x (changes {d = d₀} {c = c₀} {n = n₀} {first = first₀} {m = m₀} {a = a₀} sought small fits) =
+        let both = sought-read f k sought in
+        let count = accepted-same (sym (both .0) ∙ read) in
+        let place = standing-same (sym (both .1) ∙ found) in
+        let within = found-within f k (both .1) in
+        let size = accepted-exact f d₀ c₀ n₀ (both .0) .2 in
+        let total = c₀ - a₀ + new in
+        let one = written first₀ 34 (digits 13 new) f in
+        let kept : length one ≡ length f = written-size first₀ 34 13 new f (omega arith) in (
+          written-size n₀ 53 15 total one (omega arith) ∙ kept,
+          λ i u v.
+              written-elsewhere n₀ 53 15 total i one (omega arith) (omega arith) (λ l. v (subst (λ (r : ℕ). Lies i r 53 67) (count .2) l))
+              ∙ written-elsewhere first₀ 34 13 new i f (omega arith) (omega arith) (λ l. u (subst (λ (r : ℕ). Lies i r 34 46) (place .0) l)),
+        )
+
+-- a record with digits written over, and any byte that does not lie there
+over-elsewhere : (a w v : ℕ) (rec : List ℕ) → length rec ≡ 120 → a + w ≤ 120 → (p : ℕ) → 1 ≤ p → ¬ ((suc a ≤ p) × (p ≤ a + w)) → byteAt p (put a (digits w v) rec) ≡ byteAt p rec
+over-elsewhere a w v rec whole fits p one outside =
+    let size = written-length w v in
+    getD-put-elsewhere a (digits w v) rec (omega arith) (p - 1) (λ h. let low = h .0 in let high = h .1 in outside (omega arith, omega arith))
+
+renumbered-same : (j : ℕ) (rec : List ℕ) → length rec ≡ 120 → SameBut ((4 to 10) ∷ []) (renumbered j rec) rec
+renumbered-same j rec whole =
+    record {
+      sizes = over-length 3 7 j rec whole (omega arith) ∙ sym whole;
+      bytes = λ p one o. over-elsewhere 3 7 j rec whole (omega arith) p one (o .0);
+    }
+
+recounted-same : (d c n : ℕ) (rec : List ℕ) → length rec ≡ 120 → SameBut ((46 to 52) ∷ (53 to 67) ∷ (83 to 89) ∷ []) (recounted d c n rec) rec
+recounted-same d c n rec whole =
+    let one = put 45 (digits 7 d) rec in
+    let two = put 52 (digits 15 c) one in
+    let size-one : length one ≡ 120 = over-length 45 7 d rec whole (omega arith) in
+    let size-two : length two ≡ 120 = over-length 52 15 c one size-one (omega arith) in
+    record {
+      sizes = recounted-length d c n rec whole ∙ sym whole;
+      bytes = λ p some o.
+          over-elsewhere 82 7 n two size-two (omega arith) p some (o .1 .1 .0)
+          ∙ over-elsewhere 52 15 c one size-one (omega arith) p some (o .1 .0)
+          ∙ over-elsewhere 45 7 d rec whole (omega arith) p some (o .0);
+    }
+
+-- the records of later dispositions, each beside the one that it came from
+later-same : (j : ℕ) (ds : List (List (List ℕ))) → Whole (flatten ds) → Pairs (SameBut ((4 to 10) ∷ [])) (flatten (numberedFrom j ds)) (flatten ds)
+unfolding flatten numberedFrom
+later-same j [] whole = tt
+later-same j (d ∷ ds) whole =
+    let P : List ℕ → Type 0 = λ rec. length rec ≡ 120 in
+    let R = SameBut ((4 to 10) ∷ []) in
+    pairs-append R (map (renumbered j) d) d (flatten (numberedFrom (suc j) ds)) (flatten ds)
+    (pairs-map R (renumbered j) P (renumbered-same j) d (all-before P d (flatten ds) whole))
+    (later-same (suc j) ds (all-behind P d (flatten ds) whole))
+
+same-whole : (ss : List Span) (xs ys : List (List ℕ)) → Pairs (SameBut ss) xs ys → Whole ys → Whole xs
+same-whole ss [] [] pairs whole = tt
+same-whole ss [] (y ∷ ys) pairs whole = absurd pairs
+same-whole ss (x ∷ xs) [] pairs whole = absurd pairs
+same-whole ss (x ∷ xs) (y ∷ ys) pairs whole = (pairs .0 .sizes ∙ whole .0, same-whole ss xs ys (pairs .1) (whole .1))
+
+-- the records of a flow, and of the flow left without disposition k
+module _ {f : List ℕ} {k d c n first m a : ℕ} (s : Standing f k d c n first m a) where
+  abbrev renewed : List (List ℕ)
+  renewed = flatten (numberedFrom k (drop k (dispositionsIn f)))
+
+  abbrev recount : List ℕ
+  recount = recounted (d - 1) (c - a) (n - m) (trailer s)
+
+  abbrev was : List (List ℕ)
+  was = before s ++ (own s ++ (behind s ++ (trailer s ∷ [])))
+
+  abbrev now : List (List ℕ)
+  now = before s ++ (renewed ++ (recount ∷ []))
+
+  pairs : Pairs (SameBut ((4 to 10) ∷ [])) renewed (behind s)
+  pairs = later-same k (drop k (dispositionsIn f)) (pieces s .2)
+
+  now-whole : Whole now
+  now-whole =
+      let Sized : List ℕ → Type 0 = λ rec. length rec ≡ 120 in
+      all-append Sized (before s) (renewed ++ (recount ∷ [])) (pieces s .0)
+      (all-append Sized renewed (recount ∷ []) (same-whole ((4 to 10) ∷ []) renewed (behind s) pairs (pieces s .2)) (recounted-length (d - 1) (c - a) (n - m) (trailer s) (pieces s .3), tt))
+
+  now-so : recordsLeft f k (n - 1) (d - 1) (c - a) (n - m) ≡ now
+  now-so =
+      let taken = take (k - 1) (dispositionsIn f) in
+      ap (λ (l : List (List ℕ)). (recordAt 0 f ∷ l) ++ (recount ∷ [])) (flatten-append taken (numberedFrom k (drop k (dispositionsIn f))))
+      ∙ ap (λ (l : List (List ℕ)). recordAt 0 f ∷ l) (append-assoc (flatten taken) renewed (recount ∷ []))
+
+  -- how many records stand in each part
+  counts : (length (before s) ≡ first - 1) × (length (own s) ≡ m) × (length renewed ≡ length (behind s)) × (n ≡ first - 1 + (m + (length (behind s) + 1))) × (1 ≤ first)
+  counts =
+      let starts = s .starts in
+      let mine = s .own in
+      let size = s .size in
+      let total : length (recordsOf f) ≡ length was = ap (λ (l : List (List ℕ)). length l) (records-split s) in
+      let one = length-append (before s) (own s ++ (behind s ++ (trailer s ∷ []))) in
+      let two = length-append (own s) (behind s ++ (trailer s ∷ [])) in
+      let three = length-append (behind s) (trailer s ∷ []) in
+      (omega arith, sym mine, pairs-length (SameBut ((4 to 10) ∷ [])) renewed (behind s) pairs, omega (arith, cut-count (length f / 120) f), omega arith)
+
+  -- the record at an index of each
+  was-at : (i : ℕ) → i < n → recordAt i f ≡ getD was i []
+  was-at i h =
+      let size = s .size in
+      sym (cut-at (length f / 120) i f (omega arith)) ∙ ap (λ (l : List (List ℕ)). getD l i []) (records-split s)
+
+  now-at : (i : ℕ) → i < n - m → recordAt i (flatten (recordsLeft f k (n - 1) (d - 1) (c - a) (n - m))) ≡ getD now i []
+  now-at i h =
+      let told = counts in
+      let one = length-append (before s) (renewed ++ (recount ∷ [])) in
+      let two = length-append renewed (recount ∷ []) in
+      let size = flatten-length now now-whole in
+      ap (λ (l : List (List ℕ)). recordAt i (flatten l)) now-so ∙ sym (cut-at (length (flatten now) / 120) i (flatten now) (omega arith)) ∙ ap (λ (l : List (List ℕ)). getD l i []) (joined-records now now-whole)
+
+  moved : Moved f (flatten (recordsLeft f k (n - 1) (d - 1) (c - a) (n - m))) n first m
+  moved =
+      let told = counts in
+      let R = SameBut ((4 to 10) ∷ []) in
+      let back = renewed ++ (recount ∷ []) in
+      let rest = behind s ++ (trailer s ∷ []) in
+      record {
+        before = λ r some less.
+            now-at (r - 1) (omega arith) ∙ List·getD-append (before s) back [] (r - 1) (omega arith)
+            ∙ sym (was-at (r - 1) (omega arith) ∙ List·getD-append (before s) (own s ++ rest) [] (r - 1) (omega arith));
+        behind = λ r from less.
+            let j = r - first in
+            let here : r - 1 ≡ length (before s) + j = omega arith in
+            let there : r + m - 1 ≡ length (before s) + (length (own s) + j) = omega arith in
+            let new = now-at (r - 1) (omega arith) ∙ ap (λ (i : ℕ). getD now i []) here ∙ getD-append-add (before s) back j [] ∙ List·getD-append renewed (recount ∷ []) [] j (omega arith) in
+            let old = was-at (r + m - 1) (omega arith) ∙ ap (λ (i : ℕ). getD was i []) there ∙ getD-append-add (before s) (own s ++ rest) (length (own s) + j) [] ∙ getD-append-add (own s) rest j [] ∙ List·getD-append (behind s) (trailer s ∷ []) [] j (omega arith) in
+            subst (λ (A : Type 0). A) (λ i. R (sym new i) (sym old i)) (pairs-at R renewed (behind s) [] [] j pairs (omega arith));
+        trailer =
+            let here : n - m - 1 ≡ length (before s) + length renewed = omega arith in
+            let new = now-at (n - m - 1) (omega arith) ∙ ap (λ (i : ℕ). getD now i []) here ∙ getD-append-add (before s) back (length renewed) [] ∙ getD-append-seam renewed recount [] [] in
+            subst (λ (rec : List ℕ). SameBut ((46 to 52) ∷ (53 to 67) ∷ (83 to 89) ∷ []) rec (trailer s)) (sym new) (recounted-same (d - 1) (c - a) (n - m) (trailer s) (pieces s .3));
+      }
+
+pub withdraw-touches : WithdrawTouches
+withdraw-touches f k d c n first m a d′ c′ n′ read found same = go (withdraw f k) (withdrawing f k) same
+  where
+    go : (x : Amended) → Withdrawing f k x → x .answer ≡ accepted d′ c′ n′ → Moved f (flowLeft x) n first m × (n′ ≡ n - m)
+    go x (refuses fault) same = absurd (accepted-not-refused same)
+    go x (withdraws {d = d₀} {c = c₀} {n = n₀} {first = first₀} {m = m₀} {a = a₀} sought some) same =
+        let both = sought-read f k sought in
+        let count = accepted-same (sym (both .0) ∙ read) in
+        let place = standing-same (sym (both .1) ∙ found) in
+        let told = accepted-same same in
+        let own = sym (withdrawn-front f k d₀ c₀ n₀ first₀ m₀ a₀ sought some) in (
+          subst (λ (A : Type 0). A) (λ i. Moved f (own i) (count .2 i) (place .0 i) (place .1 i)) (moved (sought-stands f k sought)),
+          sym (told .2) ∙ (λ i. count .2 i - place .1 i),
+        )
+
+pub amended-determined : AmendedDetermined
+amended-determined r s size bytes e = answer-determined r s (ap (λ (a : Amended). a .answer) e)

@@ -1,0 +1,283 @@
+-- The parts of a flow that an amendment leaves: other dispositions, and a trailer with their counts. Assumes nothing.
+use Prim.Native.Nat.{ℕ, suc, _+_, _-_, _≤_, _<_}
+use mathlib.Core.List.{List, [], _∷_, _++_, map, map-map, map-append, flatten, List·Memᴰ, Memᴰ·append-left, Memᴰ·append-right, List·Memᴰ·tail, List·Memᴰ·append-cases}
+use mathlib.Core.Logic.{_⊎_, inl, inr}
+use mathlib.Core.Path.{_≡_, refl, sym, _∙_, ap, ap₂, subst}
+use native.Mathlib.Omega.{arith}
+use lib.ListN.{length, length-append, length-map}
+use Rattle.sequences.specs.All.{All}
+use Rattle.sequences.specs.Part.{part}
+use Rattle.sequences.specs.Sum.{sum}
+use Rattle.sequences.proofs.Flatten.{map-flatten, flatten-append}
+use Rattle.sequences.proofs.Sum.{sum-append}
+use Rattle.fields.specs.Digits.{number}
+use Rattle.records.specs.Context.{headerOf}
+use Rattle.records.specs.Field.{field}
+use Rattle.records.specs.declared.kind.Kind.{Kind}
+use Rattle.records.specs.declared.kind.Kind.the-variants.{R14, Ef}
+use Rattle.grammar.specs.Grammar.{Typed, Parts, kindsOf, recordsIn, opening, amountOf, codeOf, bytesOf, dispositionCount, totalCents, recordCount, RightDisposition, Numbered, AllEqual, Right, Grammar}
+use Rattle.grammar.specs.Rules.{Says, Formed, MemberRules}
+use Rattle.grammar.specs.Shape.{Disposition}
+use Rattle.grammar.proofs.Bytes.{typedOf, parts-joined}
+use Rattle.grammar.proofs.Dispositions.{Opened, opened-by, opened-so, Member}
+use Rattle.grammar.proofs.Grammar.{counts-below}
+use Rattle.amend.specs.Withdraw.{renumbered, numberedFrom, recounted}
+use Rattle.amend.proofs.Kept.{over-kept, renumbered-formed, renumbered-rules, repriced, repriced-formed, repriced-says, repriced-code, repriced-rules, recounted-formed, recounted-rules}
+
+-- the amounts, and the records, of dispositions
+abbrev pub amounts : List (List Typed) → ℕ
+amounts ds = sum (map amountOf ds)
+
+abbrev pub sizes : List (List Typed) → ℕ
+sizes ds = sum (map (λ (d : List Typed). length d) ds)
+
+-- the flow with other dispositions: the header as it was, and the trailer with their counts
+abbrev pub leftWith : Parts → List (List Typed) → Parts
+leftWith p ds = record { header = p .header; dispositions = ds; trailer = recounted (length ds) (amounts ds) (2 + sizes ds) (p .trailer) }
+
+-- it keeps the rules where the dispositions do
+pub left-right :
+    (p : Parts) (ds : List (List Typed)) → Right p → 1 ≤ length ds → Numbered (headerOf (p .header) .abi) 1 ds → AllEqual (map codeOf ds)
+    → length ds < 10000000 → amounts ds < 1000000000000000 → 2 + sizes ds < 10000000 → Right (leftWith p ds)
+left-right p ds r some each codes few small short =
+    record {
+      header-formed = r .header-formed;
+      header-rules = r .header-rules;
+      some = some;
+      each = each;
+      codes = codes;
+      trailer-formed = recounted-formed (length ds) (amounts ds) (2 + sizes ds) (p .trailer) (r .trailer-formed) few small short;
+      trailer-rules = recounted-rules (length ds) (amounts ds) (2 + sizes ds) (p .trailer) (r .trailer-formed) few small short (headerOf (p .header)) (r .trailer-rules);
+    }
+
+-- its bytes are its records, joined
+pub left-bytes : (p : Parts) → bytesOf p ≡ flatten ((p .header ∷ flatten (map recordsIn (p .dispositions))) ++ (p .trailer ∷ []))
+left-bytes p =
+    let bytes : Typed → List ℕ = λ r. r .bytes in
+    let ms = flatten (p .dispositions) in
+    sym (parts-joined p)
+    ∙ ap (λ (l : List (List ℕ)). flatten (p .header ∷ l)) (map-append bytes ms (record { kind = Ef; bytes = p .trailer } ∷ []) ∙ ap (λ (l : List (List ℕ)). l ++ (p .trailer ∷ [])) (map-flatten bytes (p .dispositions)))
+
+-- dispositions numbered one behind the other, in two parts
+module _ (abi : List ℕ) where
+  pub numbered-before : (n : ℕ) (xs ys : List (List Typed)) → Numbered abi n (xs ++ ys) → Numbered abi n xs
+  numbered-before n [] ys each = tt
+  numbered-before n (x ∷ xs) ys each = (each .0, numbered-before (suc n) xs ys (each .1))
+
+  pub numbered-behind : (n : ℕ) (xs ys : List (List Typed)) → Numbered abi n (xs ++ ys) → Numbered abi (n + length xs) ys
+  numbered-behind n [] ys each = let same : n ≡ n + 0 = omega arith in subst (λ (m : ℕ). Numbered abi m ys) same each
+  numbered-behind n (x ∷ xs) ys each = let same : suc n + length xs ≡ n + suc (length xs) = omega arith in subst (λ (m : ℕ). Numbered abi m ys) same (numbered-behind (suc n) xs ys (each .1))
+
+  pub numbered-append : (n : ℕ) (xs ys : List (List Typed)) → Numbered abi n xs → Numbered abi (n + length xs) ys → Numbered abi n (xs ++ ys)
+  numbered-append n [] ys front back = let same : n + 0 ≡ n = omega arith in subst (λ (m : ℕ). Numbered abi m ys) same back
+  numbered-append n (x ∷ xs) ys front back =
+      let same : n + suc (length xs) ≡ suc n + length xs = omega arith in
+      (front .0, numbered-append (suc n) xs ys (front .1) (subst (λ (m : ℕ). Numbered abi m ys) same back))
+
+-- a disposition with another number, and dispositions numbered from j on
+abbrev pub retyped : ℕ → Typed → Typed
+retyped j r = record { kind = r .kind; bytes = renumbered j (r .bytes) }
+
+abbrev pub typedFrom : ℕ → List (List Typed) → List (List Typed)
+typedFrom j [] = []
+typedFrom j (d ∷ ds) = map (retyped j) d ∷ typedFrom (suc j) ds
+
+pub typed-records : (j : ℕ) (ds : List (List Typed)) → map recordsIn (typedFrom j ds) ≡ numberedFrom j (map recordsIn ds)
+unfolding numberedFrom
+typed-records j [] = refl
+typed-records j (d ∷ ds) =
+    let one : recordsIn (map (retyped j) d) ≡ map (renumbered j) (recordsIn d) = map-map (λ (r : Typed). r .bytes) (retyped j) d ∙ sym (map-map (renumbered j) (λ (r : Typed). r .bytes) d) in
+    ap₂ (λ (l : List (List ℕ)) (ls : List (List (List ℕ))). l ∷ ls) one (typed-records (suc j) ds)
+
+pub typed-length : (j : ℕ) (ds : List (List Typed)) → length (typedFrom j ds) ≡ length ds
+typed-length j [] = refl
+typed-length j (d ∷ ds) = ap suc (typed-length (suc j) ds)
+
+pub typed-sizes : (j : ℕ) (ds : List (List Typed)) → sizes (typedFrom j ds) ≡ sizes ds
+typed-sizes j [] = refl
+typed-sizes j (d ∷ ds) = ap₂ (λ (a b : ℕ). a + b) (length-map d (retyped j)) (typed-sizes (suc j) ds)
+
+module _ (abi : List ℕ) (i j : ℕ) (small : j < 10000000) where
+  members-retyped : (rs : List Typed) → All (Member abi i) rs → All (Member abi j) (map (retyped j) rs)
+  members-retyped [] members = tt
+  members-retyped (r ∷ rs) members =
+      let m = members .0 in
+      ((renumbered-formed (r .kind) abi i j (r .bytes) (m .0) small, renumbered-rules (r .kind) abi i j (r .bytes) (m .0) small (m .1)), members-retyped rs (members .1))
+
+  disposition-retyped : (d : List Typed) → RightDisposition abi i d → RightDisposition abi j (map (retyped j) d)
+  disposition-retyped d r =
+      record {
+        order = subst Disposition (sym (map-map (λ (x : Typed). x .kind) (retyped j) d)) (r .order);
+        records = members-retyped d (r .records);
+      }
+
+  -- what stands behind its number in the record that opens it
+  opening-kept : (d : List Typed) → RightDisposition abi i d → (a n : ℕ) → 10 ≤ a → part a n (opening (map (retyped j) d)) ≡ part a n (opening d)
+  opening-kept [] r a n h = refl
+  opening-kept (x ∷ xs) r a n h = over-kept 3 7 j (x .bytes) (r .records .0 .0 .whole) (omega arith) a n (inr h)
+
+module _ (abi : List ℕ) where
+  pub typed-numbered : (j : ℕ) (ds : List (List Typed)) → j + length ds ≤ 10000000 → Numbered abi (suc j) ds → Numbered abi j (typedFrom j ds)
+  typed-numbered j [] few each = tt
+  typed-numbered j (d ∷ ds) few each =
+      (disposition-retyped abi (suc j) j (omega arith) d (each .0), typed-numbered (suc j) ds (omega arith) (each .1))
+
+  pub typed-kept : {A : Type 0} (what : List ℕ → A) (a n j : ℕ) (ds : List (List Typed)) → 10 ≤ a → j + length ds ≤ 10000000 → Numbered abi (suc j) ds
+      → map (λ (d : List Typed). what (part a n (opening d))) (typedFrom j ds) ≡ map (λ (d : List Typed). what (part a n (opening d))) ds
+  typed-kept what a n j [] h few each = refl
+  typed-kept {A} what a n j (d ∷ ds) h few each =
+      let one : what (part a n (opening (map (retyped j) d))) ≡ what (part a n (opening d)) = ap what (opening-kept abi (suc j) j (omega arith) d (each .0) a n h) in
+      ap₂ (λ (x : A) (xs : List A). x ∷ xs) one (typed-kept what a n (suc j) ds h (omega arith) (each .1))
+
+-- codes that are all equal still are without some
+fewer-equal : (xs ys : List (List ℕ)) (c : List ℕ) → AllEqual (xs ++ (c ∷ ys)) → AllEqual (xs ++ ys)
+fewer-equal xs ys c equal a b m k p q = equal a b (more a (List·Memᴰ·append-cases xs m)) (more b (List·Memᴰ·append-cases xs k)) p q
+  where
+    more : (a : List ℕ) → List·Memᴰ a xs ⊎ List·Memᴰ a ys → List·Memᴰ a (xs ++ (c ∷ ys))
+    more a (inl m) = Memᴰ·append-left (c ∷ ys) m
+    more a (inr m) = Memᴰ·append-right xs (List·Memᴰ·tail m)
+
+-- a disposition with another amount in the record that opens it
+abbrev pub retold : ℕ → List Typed → List Typed
+retold new [] = []
+retold new (r ∷ rs) = record { kind = r .kind; bytes = repriced new (r .bytes) } ∷ rs
+
+pub record Retold (abi : List ℕ) (i new : ℕ) (d : List Typed) : Type 0 where
+  pub right : RightDisposition abi i (retold new d)
+  pub amount : amountOf (retold new d) ≡ new
+  pub code : codeOf (retold new d) ≡ codeOf d
+  pub size : length (retold new d) ≡ length d
+
+pub retold-so : (abi : List ℕ) (i new : ℕ) (d : List Typed) → new < 10000000000000 → RightDisposition abi i d → Retold abi i new d
+retold-so abi i new d small r = go d (opened-so d (r .order)) (r .order) (r .records)
+  where
+    go : (d : List Typed) → Opened d → Disposition (kindsOf d) → All (Member abi i) d → Retold abi i new d
+    go d (opened-by r rs e details) order members =
+        let m = members .0 in
+        let rec = r .bytes in
+        let formed = subst (λ (k : Kind). Formed k rec) e (m .0) in
+        let rules = subst (λ (k : Kind). MemberRules k abi i rec) e (m .1) in
+        let member : Formed R14 (repriced new rec) × MemberRules R14 abi i (repriced new rec) = (repriced-formed abi i new rec formed small, repriced-rules abi i new rec formed small rules) in
+        record {
+          right =
+              record {
+                order = order;
+                records = (subst (λ (k : Kind). Formed k (repriced new rec) × MemberRules k abi i (repriced new rec)) (sym e) member, members .1);
+              };
+          amount = repriced-says abi i new rec formed small .1;
+          code = repriced-code abi i new rec formed small;
+          size = refl;
+        }
+
+-- a flow of the grammar with a disposition among the others
+module _ (f : List ℕ) (d c n : ℕ) (g : Grammar f d c n) (pre : List (List Typed)) (x : List Typed) (post : List (List Typed)) (split : g .parts .dispositions ≡ pre ++ (x ∷ post)) where
+  abbrev p : Parts
+  p = g .parts
+
+  abbrev abi : List ℕ
+  abi = headerOf (p .header) .abi
+
+  abbrev number-of : ℕ
+  number-of = 1 + length pre
+
+  each : Numbered abi 1 (pre ++ (x ∷ post))
+  each = subst (Numbered abi 1) split (g .right .each)
+
+  pub here : RightDisposition abi number-of x
+  here = numbered-behind abi 1 pre (x ∷ post) each .0
+
+  before : Numbered abi 1 pre
+  before = numbered-before abi 1 pre (x ∷ post) each
+
+  pub behind : Numbered abi (suc number-of) post
+  behind = numbered-behind abi 1 pre (x ∷ post) each .1
+
+  -- its counts
+  pub count-split : d ≡ length pre + suc (length post)
+  count-split = sym (g .dispositions) ∙ ap (λ (ds : List (List Typed)). length ds) split ∙ length-append pre (x ∷ post)
+
+  pub cents-split : c ≡ amounts pre + (amountOf x + amounts post)
+  cents-split = sym (g .cents) ∙ ap amounts split ∙ ap sum (map-append amountOf pre (x ∷ post)) ∙ sum-append (map amountOf pre) (map amountOf (x ∷ post))
+
+  pub records-split : n ≡ 2 + (sizes pre + (length x + sizes post))
+  records-split =
+      let size : List Typed → ℕ = λ d. length d in
+      sym (g .records) ∙ ap (λ (ds : List (List Typed)). 2 + sizes ds) split ∙ ap (λ (l : List ℕ). 2 + sum l) (map-append size pre (x ∷ post)) ∙ ap (λ (m : ℕ). 2 + m) (sum-append (map size pre) (map size (x ∷ post)))
+
+  pub below : (d < 10000000) × (c < 1000000000000000) × (n < 10000000)
+  below =
+      let b = counts-below p (g .right) in
+      (omega (arith, g .dispositions), omega (arith, g .cents), omega (arith, g .records))
+
+  codes : AllEqual (map codeOf pre ++ (codeOf x ∷ map codeOf post))
+  codes = subst AllEqual (ap (map codeOf) split ∙ map-append codeOf pre (x ∷ post)) (g .right .codes)
+
+  -- without it
+  abbrev pub rest : List (List Typed)
+  rest = pre ++ typedFrom number-of post
+
+  rest-few : number-of + length post ≤ 10000000
+  rest-few = omega (arith, count-split, below)
+
+  pub rest-count : length rest ≡ d - 1
+  rest-count = length-append pre (typedFrom number-of post) ∙ omega (arith, typed-length number-of post, count-split)
+
+  pub rest-cents : amounts rest ≡ c - amountOf x
+  rest-cents =
+      ap sum (map-append amountOf pre (typedFrom number-of post)) ∙ sum-append (map amountOf pre) (map amountOf (typedFrom number-of post))
+      ∙ omega (arith, ap sum (typed-kept abi number 33 13 number-of post (omega arith) rest-few behind), cents-split)
+
+  pub rest-records : 2 + sizes rest ≡ n - length x
+  rest-records =
+      let size : List Typed → ℕ = λ d. length d in
+      ap (λ (l : List ℕ). 2 + sum l) (map-append size pre (typedFrom number-of post)) ∙ ap (λ (m : ℕ). 2 + m) (sum-append (map size pre) (map size (typedFrom number-of post)))
+      ∙ omega (arith, typed-sizes number-of post, records-split)
+
+  pub rest-right : 2 ≤ d → Right (leftWith p rest)
+  rest-right some =
+      let b = below in
+      let same : map codeOf rest ≡ map codeOf pre ++ map codeOf post = map-append codeOf pre (typedFrom number-of post) ∙ ap (λ (l : List (List ℕ)). map codeOf pre ++ l) (typed-kept abi (λ (bs : List ℕ). bs) 91 5 number-of post (omega arith) rest-few behind) in
+      left-right p rest (g .right)
+      (omega (arith, rest-count))
+      (numbered-append abi 1 pre (typedFrom number-of post) before (typed-numbered abi number-of post rest-few behind))
+      (subst AllEqual (sym same) (fewer-equal (map codeOf pre) (map codeOf post) (codeOf x) codes))
+      (omega (arith, rest-count))
+      (omega (arith, rest-cents))
+      (omega (arith, rest-records))
+
+  -- with another amount in the record that opens it
+  module _ (new : ℕ) (small : new < 10000000000000) where
+    abbrev pub changed : List (List Typed)
+    changed = pre ++ (retold new x ∷ post)
+
+    retold-here : Retold abi number-of new x
+    retold-here = retold-so abi number-of new x small here
+
+    pub changed-count : length changed ≡ d
+    changed-count = length-append pre (retold new x ∷ post) ∙ omega (arith, count-split)
+
+    pub changed-cents : amounts changed ≡ c - amountOf x + new
+    changed-cents =
+        ap sum (map-append amountOf pre (retold new x ∷ post)) ∙ sum-append (map amountOf pre) (map amountOf (retold new x ∷ post))
+        ∙ omega (arith, retold-here .amount, cents-split)
+
+    pub changed-records : 2 + sizes changed ≡ n
+    changed-records =
+        let size : List Typed → ℕ = λ d. length d in
+        ap (λ (l : List ℕ). 2 + sum l) (map-append size pre (retold new x ∷ post)) ∙ ap (λ (m : ℕ). 2 + m) (sum-append (map size pre) (map size (retold new x ∷ post)))
+        ∙ omega (arith, retold-here .size, records-split)
+
+    pub changed-numbered : Numbered abi 1 changed
+    changed-numbered = numbered-append abi 1 pre (retold new x ∷ post) before (retold-here .right, behind)
+
+    pub changed-right : c - amountOf x + new < 1000000000000000 → Right (leftWith p changed)
+    changed-right fits =
+        let b = below in
+        let same : map codeOf changed ≡ map codeOf pre ++ (codeOf x ∷ map codeOf post) = map-append codeOf pre (retold new x ∷ post) ∙ ap (λ (l : List ℕ). map codeOf pre ++ (l ∷ map codeOf post)) (retold-here .code) in
+        left-right p changed (g .right)
+        (omega (arith, changed-count, count-split))
+        changed-numbered
+        (subst AllEqual (sym same) codes)
+        (omega (arith, changed-count))
+        (omega (arith, changed-cents))
+        (omega (arith, changed-records))

@@ -1,0 +1,10 @@
+pub mod Among
+pub mod Answered
+pub mod Around
+pub mod Kept
+pub mod Leaving
+pub mod Left
+pub mod Renumbering
+pub mod Standing
+pub mod Unchanged
+pub mod Withdrawn

@@ -1,0 +1,172 @@
+-- The bytes that a withdrawal leaves: what its steps write is the flow without the disposition. Assumes nothing.
+use Prim.Native.Nat.{ℕ, suc, _+_, _-_, _*_}
+use mathlib.Core.Bool.{false, cond}
+use mathlib.Core.List.{List, [], _∷_, _++_, append-assoc, append-nil, map, flatten}
+use mathlib.Core.Path.{_≡_, refl, sym, _∙_, ap, subst}
+use native.Mathlib.Nat.{add-zero}
+use native.Mathlib.Numerals.{add-one}
+use native.Mathlib.Omega.{arith}
+use lib.ListN.{length, take, drop, replicate, length-append, length-drop, take-append-drop}
+use lib.Seq.{take-at, drop-at}
+use Rattle.sequences.specs.All.{All}
+use Rattle.sequences.specs.Part.{put}
+use Rattle.sequences.proofs.All.{all-behind}
+use Rattle.sequences.proofs.Flatten.{flatten-append}
+use Rattle.sequences.proofs.Groups.{Opens, groups-open}
+use Rattle.sequences.proofs.Part.{put-at, put-between, drop-two}
+use Rattle.fields.specs.Digits.{digits}
+use Rattle.fields.proofs.Decimal.{written-length}
+use Rattle.records.specs.Kinds.{hasType}
+use Rattle.records.specs.declared.kind.Kind.the-variants.{R14}
+use Rattle.flow.specs.Find.{dispositionsIn}
+use Rattle.flow.specs.Records.{cut, recordAt}
+use Rattle.flow.proofs.Cut.{cut-front, flatten-length, records-joined}
+use Rattle.flow.proofs.Dispositions.{untilTrailer}
+use Rattle.amend.specs.Amended.{written}
+use Rattle.amend.specs.Withdraw.{renumbered, numberedFrom, renumberedFrom, without, recounted, recordsLeft, withdrawn}
+use Rattle.amend.proofs.Around.{before, own, behind, trailer, records-split, pieces}
+use Rattle.amend.proofs.Kept.{over-length, recounted-length}
+use Rattle.amend.proofs.Renumbering.{renumbered-bytes}
+use Rattle.amend.proofs.Standing.{Standing}
+
+-- records that open no disposition get the number of the one before them
+others-numbered : (j : ℕ) (recs rest : List (List ℕ)) → All (λ (rec : List ℕ). hasType R14 rec ≡ false) recs → renumberedFrom j (recs ++ rest) ≡ map (renumbered j) recs ++ renumberedFrom j rest
+unfolding renumberedFrom
+others-numbered j [] rest none = refl
+others-numbered j (rec ∷ recs) rest none =
+    rw (none .0, add-zero j) (ap (λ (l : List (List ℕ)). renumbered j rec ∷ l) (others-numbered j recs rest (none .1)))
+
+-- record by record or disposition by disposition, the numbers are the same
+dispositions-numbered : (j : ℕ) (ds : List (List (List ℕ))) → All (Opens (hasType R14)) ds → renumberedFrom j (flatten ds) ≡ flatten (numberedFrom (suc j) ds)
+unfolding renumberedFrom numberedFrom flatten
+dispositions-numbered j [] opens = refl
+dispositions-numbered j (d ∷ ds) opens =
+    let o = opens .0 in
+    let i = suc j in
+    let one : j + cond (hasType R14 (o .first)) 1 0 ≡ i = rw (o .passes) (add-one j) in
+    ap (λ (l : List (List ℕ)). renumberedFrom j (l ++ flatten ds)) (o .whole)
+    ∙ ap (λ (n : ℕ). renumbered n (o .first) ∷ renumberedFrom n (o .others ++ flatten ds)) one
+    ∙ ap (λ (l : List (List ℕ)). renumbered i (o .first) ∷ l) (others-numbered i (o .others) (flatten ds) (o .none))
+    ∙ ap (λ (l : List (List ℕ)). map (renumbered i) l ++ renumberedFrom i (flatten ds)) (sym (o .whole))
+    ∙ ap (λ (l : List (List ℕ)). map (renumbered i) d ++ l) (dispositions-numbered i ds (opens .1))
+
+-- a trailer gets its counts one after the other, and no byte before it or behind it differs
+module _ (d c n : ℕ) (rec : List ℕ) (whole : length rec ≡ 120) where
+  trailer-counted :
+      (xs zs : List ℕ) → length xs ≡ 120 * (n - 1)
+      → written n 83 (digits 7 n) (written n 53 (digits 15 c) (written n 46 (digits 7 d) (xs ++ (rec ++ zs)))) ≡ xs ++ (recounted d c n rec ++ zs)
+  trailer-counted xs zs place =
+      let at = 120 * (n - 1) in
+      let one = put 45 (digits 7 d) rec in
+      let two = put 52 (digits 15 c) one in
+      let one-length : length one ≡ 120 = over-length 45 7 d rec whole (omega arith) in
+      let two-length : length two ≡ 120 = over-length 52 15 c one one-length (omega arith) in
+      ap (λ (l : List ℕ). written n 83 (digits 7 n) (written n 53 (digits 15 c) l)) (put-between at 45 xs rec zs (digits 7 d) place (omega (arith, written-length 7 d)))
+      ∙ ap (written n 83 (digits 7 n)) (put-between at 52 xs one zs (digits 15 c) place (omega (arith, written-length 15 c)))
+      ∙ put-between at 82 xs two zs (digits 7 n) place (omega (arith, written-length 7 n))
+
+-- the bytes of the records around the disposition
+module _ {f : List ℕ} {k d c n first m a : ℕ} (s : Standing f k d c n first m a) where
+  abbrev at : ℕ
+  at = first - 1
+
+  abbrev left : ℕ
+  left = n - m
+
+  bytes-split : f ≡ flatten (before s) ++ (flatten (own s) ++ (flatten (behind s) ++ (trailer s)))
+  unfolding flatten
+  bytes-split =
+      let last : flatten ((behind s) ++ ((trailer s) ∷ [])) ≡ flatten (behind s) ++ (trailer s) = flatten-append (behind s) ((trailer s) ∷ []) ∙ ap (λ (l : List ℕ). flatten (behind s) ++ l) (append-nil (trailer s)) in
+      sym (records-joined f n (s .size ∙ omega arith)) ∙ ap flatten (records-split s) ∙ flatten-append (before s) ((own s) ++ ((behind s) ++ ((trailer s) ∷ [])))
+      ∙ ap (λ (l : List ℕ). flatten (before s) ++ l) (flatten-append (own s) ((behind s) ++ ((trailer s) ∷ [])) ∙ ap (λ (l : List ℕ). flatten (own s) ++ l) last)
+
+  before-length : length (flatten (before s)) ≡ 120 * at
+  before-length = flatten-length (before s) (pieces s .0) ∙ omega (arith, s .starts)
+
+  own-length : length (flatten (own s)) ≡ 120 * m
+  own-length = flatten-length (own s) (pieces s .1) ∙ omega (arith, s .own)
+
+  behind-length : length (flatten (behind s)) ≡ 120 * length (behind s)
+  behind-length = flatten-length (behind s) (pieces s .2)
+
+  behind-count : left - 1 - at ≡ length (behind s)
+  behind-count =
+      let lengths = simp length-append at (ap length bytes-split) in
+      omega (arith, before-length, own-length, pieces s .3, behind-length, s .size, s .starts, s .ends)
+
+  -- first the bytes behind the disposition move up; what they leave at the end is written over in the end
+  abbrev over : List ℕ
+  over = drop (120 * at + length (flatten (behind s) ++ (trailer s))) f
+
+  moved : put (120 * at) (drop (120 * (at + m)) f) f ≡ flatten (before s) ++ (flatten (behind s) ++ ((trailer s) ++ over))
+  moved =
+      let place : 120 * (at + m) ≡ 120 * at + 120 * m = omega arith in
+      let front : take (120 * at) f ≡ flatten (before s) = ap (take (120 * at)) bytes-split ∙ take-at (flatten (before s)) (flatten (own s) ++ (flatten (behind s) ++ (trailer s))) (120 * at) before-length in
+      let back : drop (120 * (at + m)) f ≡ flatten (behind s) ++ (trailer s) = (λ i. drop (place i) (bytes-split i)) ∙ drop-two (120 * at) (120 * m) (flatten (before s)) (flatten (own s)) (flatten (behind s) ++ (trailer s)) before-length own-length in
+      (λ i. front i ++ (back i ++ drop (120 * at + length (back i)) f)) ∙ ap (λ (l : List ℕ). flatten (before s) ++ l) (append-assoc (flatten (behind s)) (trailer s) over)
+
+  -- then the later dispositions get their numbers
+  abbrev renewed : List ℕ
+  renewed = flatten (renumberedFrom (k - 1) (behind s))
+
+  renewed-length : length (flatten (behind s)) ≡ length renewed
+  renewed-length = behind-length ∙ sym (renumbered-bytes (k - 1) (behind s) (pieces s .2))
+
+  numbered : let up = flatten (before s) ++ (flatten (behind s) ++ ((trailer s) ++ over)) in
+      put (120 * at) (flatten (renumberedFrom (k - 1) (cut (left - 1 - at) (drop (120 * at) up)))) up ≡ flatten (before s) ++ (renewed ++ ((trailer s) ++ over))
+  numbered =
+      let rest = flatten (behind s) ++ ((trailer s) ++ over) in
+      let recs : cut (left - 1 - at) (drop (120 * at) (flatten (before s) ++ rest)) ≡ (behind s) = (λ i. cut (behind-count i) (drop-at (flatten (before s)) rest (120 * at) before-length i)) ∙ cut-front (behind s) ((trailer s) ++ over) (pieces s .2) in
+      ap (λ (l : List (List ℕ)). put (120 * at) (flatten (renumberedFrom (k - 1) l)) (flatten (before s) ++ rest)) recs ∙ put-at (120 * at) (flatten (before s)) (flatten (behind s)) ((trailer s) ++ over) renewed before-length renewed-length
+
+  -- then the trailer its counts, and the rest becomes blanks
+  module _ (d′ c′ : ℕ) where
+    abbrev counts : List ℕ
+    counts = recounted d′ c′ left (trailer s)
+
+    front-length : length (flatten (before s) ++ renewed) ≡ 120 * (left - 1)
+    front-length = length-append (flatten (before s)) renewed ∙ omega (arith, before-length, sym renewed-length, behind-length, behind-count, s .starts, s .ends)
+
+    counted :
+        written left 83 (digits 7 left) (written left 53 (digits 15 c′) (written left 46 (digits 7 d′) (flatten (before s) ++ (renewed ++ ((trailer s) ++ over)))))
+        ≡ (flatten (before s) ++ renewed) ++ (counts ++ over)
+    counted =
+        ap (λ (l : List ℕ). written left 83 (digits 7 left) (written left 53 (digits 15 c′) (written left 46 (digits 7 d′) l))) (sym (append-assoc (flatten (before s)) renewed ((trailer s) ++ over)))
+        ∙ trailer-counted d′ c′ left (trailer s) (pieces s .3) (flatten (before s) ++ renewed) over front-length
+
+    -- which is the flow that is meant
+    joined : flatten (recordsLeft f k (n - 1) d′ c′ left) ≡ (flatten (before s) ++ renewed) ++ counts
+    unfolding flatten
+    joined =
+        let ds = dispositionsIn f in
+        let some = s .some in
+        let one : suc (k - 1) ≡ k = omega arith in
+        let opens : All (Opens (hasType R14)) (drop k ds) = all-behind (Opens (hasType R14)) (take k ds) (drop k ds) (subst (All (Opens (hasType R14))) (sym (take-append-drop k ds)) (groups-open (hasType R14) (untilTrailer f))) in
+        let later : flatten (numberedFrom k (drop k ds)) ≡ renumberedFrom (k - 1) (behind s) = sym (dispositions-numbered (k - 1) (drop k ds) opens ∙ ap (λ (i : ℕ). flatten (numberedFrom i (drop k ds))) one) in
+        let middle : flatten (without k ds) ≡ flatten (take (k - 1) ds) ++ renumberedFrom (k - 1) (behind s) = flatten-append (take (k - 1) ds) (numberedFrom k (drop k ds)) ∙ ap (λ (l : List (List ℕ)). flatten (take (k - 1) ds) ++ l) later in
+        ap (λ (l : List (List ℕ)). flatten ((recordAt 0 f ∷ l) ++ (counts ∷ []))) middle ∙ flatten-append ((before s) ++ renumberedFrom (k - 1) (behind s)) (counts ∷ [])
+        ∙ (λ i. flatten-append (before s) (renumberedFrom (k - 1) (behind s)) i ++ append-nil counts i)
+
+    blanked : let all = (flatten (before s) ++ renewed) ++ (counts ++ over) in
+        take (120 * left) all ++ replicate (length all - 120 * left) 32 ≡ withdrawn f k (n - 1) d′ c′ left
+    blanked =
+        let front = flatten (before s) ++ renewed in
+        let end = recounted-length d′ c′ left (trailer s) (pieces s .3) in
+        let ends = s .ends in
+        let starts = s .starts in
+        let through : length (front ++ counts) ≡ 120 * left = length-append front counts ∙ omega (arith, front-length) in
+        let kept : take (120 * left) (front ++ (counts ++ over)) ≡ front ++ counts = ap (take (120 * left)) (sym (append-assoc front counts over)) ∙ take-at (front ++ counts) over (120 * left) through in
+        let tail : length over ≡ length f - 120 * left = length-drop (120 * at + length (flatten (behind s) ++ (trailer s))) f ∙ omega (arith, length-append (flatten (behind s)) (trailer s), pieces s .3, behind-length, behind-count) in
+        let size : length (front ++ (counts ++ over)) ≡ length f = length-append front (counts ++ over) ∙ omega (arith, length-append counts over, front-length, s .size) in
+        (λ i. kept i ++ replicate (size i - 120 * left) 32) ∙ ap (λ (l : List ℕ). l ++ replicate (length f - 120 * left) 32) (sym joined)
+
+    pub withdrawn-so :
+        (f₁ f₂ f₃ f₄ : List ℕ) → f₁ ≡ put (120 * at) (drop (120 * (at + m)) f) f
+        → f₂ ≡ put (120 * at) (flatten (renumberedFrom (k - 1) (cut (left - 1 - at) (drop (120 * at) f₁)))) f₁
+        → f₃ ≡ written left 83 (digits 7 left) (written left 53 (digits 15 c′) (written left 46 (digits 7 d′) f₂))
+        → f₄ ≡ take (120 * left) f₃ ++ replicate (length f₃ - 120 * left) 32 → f₄ ≡ withdrawn f k (n - 1) d′ c′ left
+    withdrawn-so f₁ f₂ f₃ f₄ first-step second-step third-step last-step =
+        let one = first-step ∙ moved in
+        let two = second-step ∙ ap (λ (l : List ℕ). put (120 * at) (flatten (renumberedFrom (k - 1) (cut (left - 1 - at) (drop (120 * at) l)))) l) one ∙ numbered in
+        let three = third-step ∙ ap (λ (l : List ℕ). written left 83 (digits 7 left) (written left 53 (digits 15 c′) (written left 46 (digits 7 d′) l))) two ∙ counted in
+        last-step ∙ ap (λ (l : List ℕ). take (120 * left) l ++ replicate (length l - 120 * left) 32) three ∙ blanked

@@ -1,0 +1,111 @@
+-- `amend::renumber` meets its contract. Assumes nothing.
+use Prim.Native.Nat.{_+_, _-_, _*_}
+use mathlib.Core.Bool.{Bool, true, false, cond}
+use mathlib.Core.Logic.{⊎-elim}
+use mathlib.Core.Path.{_≡_, sym, _∙_, ap, subst}
+use native.Mathlib.Nat.{add-zero}
+use native.Mathlib.Numerals.{add-one}
+use native.Mathlib.Omega.{arith}
+use Rattle.sequences.specs.Part.{put}
+use Rattle.fields.specs.Digits.{digits}
+use Rattle.records.specs.Kinds.{hasType}
+use Rattle.records.specs.declared.kind.Kind.the-variants.{R14}
+use Rattle.flow.specs.Records.{recordAt}
+use Rattle.flow.proofs.Cut.{record-part}
+use Rattle.amend.proofs.Renumbering.{Renumbering, numberAt, renumbering, renumbered-next, renumbered-all}
+use Rattle.amend.proofs.withdrawal.renumber.Statement.{statement}
+use Rattle.amend.proofs.withdrawal.renumber.Tie as tie
+
+abbrev Inv-loop : tie.InvT-loop
+Inv-loop flow₀ from to before number₀ i₀ flow number i = Renumbering flow₀ from to before flow number i
+
+abbrev μ-loop : tie.MeasureT-loop
+μ-loop flow₀ from to before number₀ i₀ flow number i = to - i
+
+-- in a turn, the number is that of its record
+number-so :
+    (c : tie.Joined1 Inv-loop μ-loop) → let at = c .before .before .before .before .before .loop in
+    c .if1 .number ≡ numberAt (at .flow) (at .i) (at .number)
+number-so c =
+    let at = c .before .before .before .before .before .loop in
+    let typed : c .before .has-type .result ≡ hasType R14 (recordAt (at .i) (at .flow)) = c .before .has-type .ensures ∙ ap (hasType R14) (record-part (at .i) (at .flow)) in
+    let counted : (b : Bool) → c .before .has-type .result ≡ b → at .number + cond b 1 0 ≡ numberAt (at .flow) (at .i) (at .number) = λ b e. ap (λ (t : Bool). at .number + cond t 1 0) (sym e ∙ typed) in
+    ⊎-elim (λ w. w .1 ∙ counted true (w .0 .taken)) (λ w. w .1 ∙ sym (add-zero (at .number)) ∙ counted false (w .0 .left)) (c .if1 .came)
+
+loop-holds : tie.Need-loop-holds Inv-loop μ-loop
+loop-holds c = renumbering _ _ _ _ (c .before .pre .0)
+
+mul-has-type : tie.Need-mul-has-type Inv-loop μ-loop
+mul-has-type c = omega arith
+
+mul-has-type-2 : tie.Need-mul-has-type-2 Inv-loop μ-loop
+mul-has-type-2 c = omega arith
+
+add-has-type : tie.Need-add-has-type Inv-loop μ-loop
+add-has-type c = omega arith
+
+sub-has-type : tie.Need-sub-has-type Inv-loop μ-loop
+sub-has-type c = omega arith
+
+part-has-type-start : tie.Need-part-has-type-start Inv-loop μ-loop
+part-has-type-start c = omega arith
+
+part-has-type-end : tie.Need-part-has-type-end Inv-loop μ-loop
+part-has-type-end c = omega arith
+
+has-type-requires : tie.Need-has-type-requires Inv-loop μ-loop
+has-type-requires c κs = omega arith
+
+add-number : tie.Need-add-number Inv-loop μ-loop
+add-number c = omega arith
+
+add-i : tie.Need-add-i Inv-loop μ-loop
+add-i c = omega arith
+
+place-number-requires : tie.Need-place-number-requires Inv-loop μ-loop
+place-number-requires c κs = omega arith
+
+loop-less : tie.Need-loop-less Inv-loop μ-loop
+loop-less c = omega arith
+
+loop-again : tie.Need-loop-again Inv-loop μ-loop
+loop-again c =
+    let call = c .before .before .place-number in
+    let turn = c .before .before .before .before in
+    let loop = turn .before .before .before .before .before in
+    let at = loop .loop in
+    let start = loop .before .before in
+    let args = start .args in
+    let number = number-so turn in
+    let place : 120 * (at .i + 1 - 1) + 3 ≡ 120 * at .i + 3 = omega arith in
+    let flow : call .last .0 ≡ put (120 * at .i + 3) (digits 7 (numberAt (at .flow) (at .i) (at .number))) (at .flow) = call .ensures ∙ (λ k. put (place k) (digits 7 (number k)) (at .flow)) in
+    let next = renumbered-next (at .inv) (turn .before .before .before .before .loop-test .taken) (start .pre .1 .0) in
+    subst (λ (A : Type 0). A) (λ k. Renumbering (args .flow .now) (args .from) (args .to) (args .before) (sym flow k) (sym number k) (sym (add-one (at .i)) k)) next
+
+same-length : tie.Need-same-length Inv-loop μ-loop
+same-length c = c .before .loop .inv .same
+
+returns : tie.Need-returns Inv-loop μ-loop
+returns c = renumbered-all (c .before .loop .inv) (c .loop-test .left)
+
+pub renumber-spec : {M : Type 1} → statement M
+renumber-spec =
+    tie.close
+    (tie.spec
+    Inv-loop
+    μ-loop
+    loop-holds
+    mul-has-type
+    mul-has-type-2
+    add-has-type
+    sub-has-type
+    part-has-type-start
+    part-has-type-end
+    has-type-requires
+    add-number
+    add-i
+    place-number-requires
+    loop-less
+    loop-again
+    same-length
+    returns)

@@ -1,0 +1,25 @@
+-- What an amendment answers and leaves (document 01, "Questions and changes"). Assumes nothing.
+use Prim.Native.Nat.{ℕ, _+_, _-_, _*_}
+use mathlib.Core.List.{List}
+use lib.ListN.{length}
+use Rattle.sequences.specs.Part.{put}
+use Rattle.flow.specs.Verdict.{Verdict, refused, verdict}
+use Rattle.flow.specs.declared.answer.Answer.{Answer}
+
+-- the answer, the length of the flow left, and the caller's bytes afterwards
+pub record Amended : Type 0 where
+  pub answer : Verdict
+  pub size : ℕ
+  pub bytes : List ℕ
+
+-- the paper's values for `flow::Answer`, with the length of the flow left and the bytes as they were left
+abbrev pub amended : Answer → ℕ → List ℕ → Amended
+amended r size bytes = record { answer = verdict r; size = size; bytes = bytes }
+
+-- "after a refusal all lent memory is as before", and the next call is lent as many bytes
+abbrev pub unchanged : ℕ → ℕ → ℕ → List ℕ → Amended
+unchanged n r p f = record { answer = refused n r p; size = length f; bytes = f }
+
+-- the flow with bytes written over record r from position p on, both counted from 1
+abbrev pub written : ℕ → ℕ → List ℕ → List ℕ → List ℕ
+written r p bs f = put (120 * (r - 1) + (p - 1)) bs f

@@ -1,0 +1,104 @@
+-- What is proved of the amendments. `proofs/` has its proof under the law's name in small letters. Assumes nothing.
+use Prim.Native.Nat.{ℕ, suc, _+_, _-_, _*_, _≤_, _<_}
+use mathlib.Core.List.{List, [], _∷_, _++_}
+use mathlib.Core.Logic.{_↔_, _⊎_}
+use mathlib.Core.Path.{_≡_}
+use lib.ListN.{length, take, getD, replicate}
+use Rattle.records.specs.Field.{Span, _to_, byteAt}
+use Rattle.flow.specs.Find.{standing, find}
+use Rattle.flow.specs.Judge.{judge}
+use Rattle.flow.specs.Records.{recordAt}
+use Rattle.flow.specs.Verdict.{accepted, refused}
+use Rattle.amend.specs.Amended.{Amended, amended}
+use Rattle.amend.specs.Change.{change}
+use Rattle.amend.specs.Withdraw.{withdraw}
+use Rattle.flow.specs.declared.answer.Answer.{Answer}
+
+-- disposition k is one of the d of the flow
+abbrev pub Numbers : ℕ → ℕ → Type 0
+Numbers k d = (1 ≤ k) × (k ≤ d)
+
+-- document 01's refusals of a change, each where those before it do not apply
+pub data ChangeFault (f : List ℕ) (k new : ℕ) : ℕ → ℕ → ℕ → Type 0 where
+  not-read : (e r p : ℕ) → judge f ≡ refused e r p → ChangeFault f k new e r p
+  no-disposition : (d c n : ℕ) → judge f ≡ accepted d c n → ¬ Numbers k d → ChangeFault f k new 15 0 0
+  amount-too-large : (d c n : ℕ) → judge f ≡ accepted d c n → Numbers k d → 9999999999999 < new → ChangeFault f k new 16 0 0
+  -- the new total is the old one less the old amount, and the new amount
+  total-too-large :
+      (d c n first m a : ℕ) → judge f ≡ accepted d c n → find f k ≡ standing first m a → new ≤ 9999999999999 → 999999999999999 < c - a + new
+      → ChangeFault f k new 17 0 0
+
+abbrev pub ChangeRefused : Type 0
+ChangeRefused = (f : List ℕ) (k new e r p : ℕ) → (change f k new .answer ≡ refused e r p) ↔ ChangeFault f k new e r p
+
+-- and of a withdrawal
+pub data WithdrawFault (f : List ℕ) (k : ℕ) : ℕ → ℕ → ℕ → Type 0 where
+  not-read : (e r p : ℕ) → judge f ≡ refused e r p → WithdrawFault f k e r p
+  no-disposition : (d c n : ℕ) → judge f ≡ accepted d c n → ¬ Numbers k d → WithdrawFault f k 15 0 0
+  only-one : (c n : ℕ) → judge f ≡ accepted 1 c n → k ≡ 1 → WithdrawFault f k 18 0 0
+
+abbrev pub WithdrawRefused : Type 0
+WithdrawRefused = (f : List ℕ) (k e r p : ℕ) → (withdraw f k .answer ≡ refused e r p) ↔ WithdrawFault f k e r p
+
+-- a refused call leaves every byte as it was, and the next is lent as many
+abbrev pub Untouched : List ℕ → Amended → Type 0
+Untouched f a = (a .bytes ≡ f) × (a .size ≡ length f)
+
+abbrev pub RefusedUntouched : Type 0
+RefusedUntouched =
+    (f : List ℕ) (k e r p : ℕ)
+    → ((new : ℕ) → change f k new .answer ≡ refused e r p → Untouched f (change f k new))
+    × (withdraw f k .answer ≡ refused e r p → Untouched f (withdraw f k))
+
+-- the flow that an amendment leaves: as many of the bytes as its length says
+abbrev pub flowLeft : Amended → List ℕ
+flowLeft a = take (a .size) (a .bytes)
+
+-- an accepted amendment answers with the three numbers of the flow left, which the reader accepts; behind it the memory is blank
+pub record Leaves (f : List ℕ) (a : Amended) (d c n : ℕ) : Type 0 where
+  pub read : judge (flowLeft a) ≡ accepted d c n
+  pub within : a .size ≤ length f
+  pub memory : a .bytes ≡ flowLeft a ++ replicate (length f - a .size) 32
+
+abbrev pub ChangeLeaves : Type 0
+ChangeLeaves = (f : List ℕ) (k new d c n : ℕ) → change f k new .answer ≡ accepted d c n → Leaves f (change f k new) d c n
+
+abbrev pub WithdrawLeaves : Type 0
+WithdrawLeaves = (f : List ℕ) (k d c n : ℕ) → withdraw f k .answer ≡ accepted d c n → Leaves f (withdraw f k) d c n
+
+-- index i of a flow lies in positions p to q of record r
+pub record Lies (i r p q : ℕ) : Type 0 where
+  pub starts : 120 * (r - 1) + (p - 1) ≤ i
+  pub ends : i < 120 * (r - 1) + q
+
+-- "only 34-46 of that record 14 and 53-67 of EF may differ"
+abbrev pub ChangeTouches : Type 0
+ChangeTouches =
+    (f : List ℕ) (k new d c n first m a : ℕ) → judge f ≡ accepted d c n → find f k ≡ standing first m a → let left = change f k new .bytes in
+    (length left ≡ length f) × ((i : ℕ) → ¬ Lies i first 34 46 → ¬ Lies i n 53 67 → getD left i 0 ≡ getD f i 0)
+
+-- two records have the same bytes but at the spans
+abbrev pub Outside : List Span → ℕ → Type 0
+Outside [] p = Unit
+Outside ((a to e) ∷ ss) p = (¬ ((a ≤ p) × (p ≤ e))) × Outside ss p
+
+pub record SameBut (ss : List Span) (rec other : List ℕ) : Type 0 where
+  pub sizes : length rec ≡ length other
+  pub bytes : (p : ℕ) → 1 ≤ p → Outside ss p → byteAt p rec ≡ byteAt p other
+
+-- "its records go, later ones move up in order; among those kept only 4-10 of the later dispositions and 46-52, 53-67, 83-89 of EF may
+-- differ": each record of the flow left beside the one that it came from, in a flow of n records from which m go, the record `first` the
+-- first of them
+pub record Moved (f left : List ℕ) (n first m : ℕ) : Type 0 where
+  pub before : (r : ℕ) → 1 ≤ r → r < first → recordAt (r - 1) left ≡ recordAt (r - 1) f
+  pub behind : (r : ℕ) → first ≤ r → r < n - m → SameBut ((4 to 10) ∷ []) (recordAt (r - 1) left) (recordAt (r + m - 1) f)
+  pub trailer : SameBut ((46 to 52) ∷ (53 to 67) ∷ (83 to 89) ∷ []) (recordAt (n - m - 1) left) (recordAt (n - 1) f)
+
+abbrev pub WithdrawTouches : Type 0
+WithdrawTouches =
+    (f : List ℕ) (k d c n first m a d′ c′ n′ : ℕ) → judge f ≡ accepted d c n → find f k ≡ standing first m a → withdraw f k .answer ≡ accepted d′ c′ n′
+    → Moved f (flowLeft (withdraw f k)) n first m × (n′ ≡ n - m)
+
+-- what an answer stands for on paper determines it
+abbrev pub AmendedDetermined : Type 0
+AmendedDetermined = (r s : Answer) (size : ℕ) (bytes : List ℕ) → amended r size bytes ≡ amended s size bytes → r ≡ s

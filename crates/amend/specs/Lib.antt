@@ -1,0 +1,4 @@
+pub mod Amended
+pub mod Change
+pub mod Laws
+pub mod Withdraw

@@ -1,0 +1,27 @@
+// Numbers in the fields of a flow.
+ghost use Prim.Native.Nat.{_-_, _*_, _≤_};
+ghost use mathlib.Core.Path.{_≡_};
+ghost use lib.ListN.{length};
+ghost use Rattle.fields.specs.Digits.{digits};
+ghost use Rattle.amend.specs.Amended.{written};
+
+// Writes the digits of a number in record r of the flow, from position first to last: the part of the
+// flow is lent to the one digit writer.
+pub(crate) fn place_number(flow: &mut [u8], r: u64, first: usize, last: usize, value: u64)
+    requires { ⌜ 1 ≤ r ⌝ }
+    requires { ⌜ 120 * r ≤ length (now flow) ⌝ }
+    requires { ⌜ 1 ≤ first ⌝ }
+    requires { ⌜ first - 1 ≤ last ⌝ }
+    requires { ⌜ last ≤ 120 ⌝ }
+    ensures { λ _. ⌜ now (flow .exit) ≡ written r first (digits (last - (first - 1)) value) (now (flow .entry)) ⌝ }
+{
+    let at = 120 * (index(r) - 1);
+    fields::write_digits(&mut flow[at + (first - 1)..at + last], value);
+}
+
+// The same number, to count bytes and records of a slice with.
+pub(crate) fn index(n: u64) -> usize
+    ensures { λ r. ⌜ r ≡ n ⌝ }
+{
+    n as usize
+}

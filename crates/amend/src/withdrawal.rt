@@ -1,0 +1,143 @@
+// A disposition taken out.
+ghost use Prim.Native.Nat.{_+_, _-_, _*_, _≤_, _<_};
+ghost use mathlib.Core.List.{_++_, flatten};
+ghost use mathlib.Core.Path.{_≡_};
+ghost use lib.ListN.{length, take, drop, replicate};
+ghost use Rattle.sequences.specs.Part.{put};
+ghost use Rattle.fields.specs.Digits.{digits};
+ghost use Rattle.flow.specs.Records.{cut};
+ghost use Rattle.flow.specs.Verdict.{verdict};
+ghost use Rattle.flow.specs.Verdict.{refused as Verdict·refused};
+ghost use Rattle.amend.specs.Amended.{amended, written};
+ghost use Rattle.amend.specs.Withdraw.{renumberedFrom};
+ghost use Rattle.amend.specs.Withdraw.{withdraw as Withdraw·withdraw};
+use crate::digits::index;
+use crate::digits::place_number;
+use flow::Answer;
+use flow::Sought;
+use records::Kind;
+
+// What a withdrawal answers: the three numbers of the flow left and its length; or the refusal, and
+// the length that it was lent.
+pub struct Withdrawn {
+    pub answer: Answer,
+    pub length: u64,
+}
+
+// Document 01, "Numbers a clerk may see".
+const ONLY_DISPOSITION: u64 = 18;
+
+// Takes disposition k out of the flow: its records go, later ones move up in order and are numbered
+// anew, the trailer gets the new counts, and the freed bytes at the end become blanks. Refused, in this
+// order: what the reader refuses; 15, no such disposition; 18, the only one. Where it is refused it
+// writes nothing.
+pub fn withdraw(flow: &mut [u8], k: u64) -> Withdrawn
+    ensures { λ r. ⌜ amended (r .answer) (r .length) (now (flow .exit)) ≡ Withdraw·withdraw (now (flow .entry)) k ⌝ }
+{
+    match flow::seek(flow, k) {
+        Sought::Refused {
+            number,
+            record,
+            position,
+        } => refused(number, record, position, flow.len()),
+        Sought::At {
+            dispositions,
+            cents,
+            records,
+            first,
+            size,
+            amount,
+        } => {
+            if dispositions <= 1 {
+                return refused(ONLY_DISPOSITION, 0, 0, flow.len());
+            }
+            let left = records - size;
+            let at = index(first) - 1;
+            move_up(flow, 120 * at, 120 * (at + index(size)));
+            renumber(flow, at, index(left) - 1, k - 1);
+            recount(flow, left, dispositions - 1, cents - amount);
+            blank(flow, 120 * index(left));
+            Withdrawn {
+                answer: Answer::Accepted {
+                    dispositions: dispositions - 1,
+                    cents: cents - amount,
+                    records: left,
+                },
+                length: 120 * left,
+            }
+        }
+    }
+}
+
+fn refused(number: u64, record: u64, position: u64, length: usize) -> Withdrawn
+    ensures { λ r. ⌜ (verdict (r .answer) ≡ Verdict·refused number «record» position) × (r .length ≡ length) ⌝ }
+{
+    Withdrawn {
+        answer: Answer::Refused {
+            number,
+            record,
+            position,
+        },
+        length: length as u64,
+    }
+}
+
+// Moves the bytes from index `from` on up to index `to`, the first of them first, so that none is
+// written over before it is read. What they leave at the end stays as it is.
+fn move_up(flow: &mut [u8], to: usize, from: usize)
+    requires { ⌜ to ≤ from ⌝ }
+    requires { ⌜ from ≤ length (now flow) ⌝ }
+    ensures { λ _. ⌜ now (flow .exit) ≡ put to (drop from (now (flow .entry))) (now (flow .entry)) ⌝ }
+{
+    let mut i = 0;
+    while i < flow.len() - from {
+        flow[to + i] = flow[from + i];
+        i += 1;
+    }
+}
+
+// Numbers the records from index `from` up to index `to` anew, the first disposition among them with
+// the number behind `before`: a record 14 opens the next one.
+fn renumber(flow: &mut [u8], from: usize, to: usize, before: u64)
+    requires { ⌜ from ≤ to ⌝ }
+    requires { ⌜ 120 * to ≤ length (now flow) ⌝ }
+    requires { ⌜ before < 10000000 ⌝ }
+    requires { ⌜ to < 10000000 ⌝ }
+    ensures { λ _. ⌜ now (flow .exit) ≡ put (120 * from)
+        (flatten (renumberedFrom before (cut (to - from) (drop (120 * from) (now (flow .entry))))))
+        (now (flow .entry)) ⌝ }
+{
+    let mut number = before;
+    let mut i = from;
+    while i < to {
+        if records::has_type(&flow[120 * i..120 * i + 120], Kind::R14) {
+            number += 1;
+        }
+        i += 1;
+        place_number(flow, i as u64, 4, 10, number);
+    }
+}
+
+// Gives the trailer, record n, its counts.
+fn recount(flow: &mut [u8], n: u64, dispositions: u64, cents: u64)
+    requires { ⌜ 1 ≤ n ⌝ }
+    requires { ⌜ 120 * n ≤ length (now flow) ⌝ }
+    ensures { λ _. ⌜ now (flow .exit) ≡ written n 83 (digits 7 n)
+        (written n 53 (digits 15 cents) (written n 46 (digits 7 dispositions) (now (flow .entry)))) ⌝ }
+{
+    place_number(flow, n, 46, 52, dispositions);
+    place_number(flow, n, 53, 67, cents);
+    place_number(flow, n, 83, 89, n);
+}
+
+// Makes the bytes from an index on blanks.
+fn blank(flow: &mut [u8], from: usize)
+    requires { ⌜ from ≤ length (now flow) ⌝ }
+    ensures { λ _. ⌜ now (flow .exit) ≡ take from (now (flow .entry)) ++ replicate (length (now (flow .entry)) - from) 32 ⌝ }
+{
+    let mut i = from;
+    while i < flow.len() {
+        flow[i] = b' ';
+        i += 1;
+    }
+}

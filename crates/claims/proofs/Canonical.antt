@@ -1,0 +1,273 @@
+-- A flow is canonical exactly where each of its records is what its item encodes; so amendments keep it canonical. Assumes nothing.
+use Prim.Native.Nat.{ℕ, zero, suc, _+_, _-_, _≤_, _<_}
+use mathlib.Core.Bool.{Bool, true, false, cond, not}
+use mathlib.Core.List.{List, [], _∷_, _++_, map, map-map, map-append, flatten, head-eq-of-cons-eq, tail-eq-of-cons-eq}
+use mathlib.Core.Logic.{_↔_}
+use mathlib.Core.Path.{_≡_, refl, sym, _∙_, ap, ap₂, subst}
+use native.Mathlib.Omega.{arith}
+use lib.ListN.{length, length-append, length-map}
+use Rattle.sequences.specs.All.{All}
+use Rattle.sequences.proofs.Append.{append-same}
+use Rattle.records.specs.Context.{headerOf}
+use Rattle.records.specs.Kinds.{heads, closes}
+use Rattle.records.specs.declared.kind.Kind.{Kind}
+use Rattle.records.specs.declared.kind.Kind.the-variants.{Im, R14, R16, R20, R30, R40, R50, R59, R51, R70, Ef}
+use Rattle.flow.specs.Records.{recordsOf}
+use Rattle.flow.specs.Steps.{opened}
+use Rattle.flow.proofs.Cut.{flatten-length}
+use Rattle.grammar.specs.Grammar.{Typed, kindsOf, recordsIn, Numbered, RightDisposition, Grammar}
+use Rattle.grammar.proofs.Dispositions.{Detail, detail-opens, Opened, opened-by, opened-so, Member, InShape, numbered-shape}
+use Rattle.grammar.proofs.Grammar.{grammar-shape}
+use Rattle.grammar.proofs.Parts.{between}
+use Rattle.list.specs.Encode.{encodeItem, encodeFrom, encodeTrailer, headerBehind, recordsFor, trailerFor, encode}
+use Rattle.list.specs.Items.{Item, Proper}
+use Rattle.list.specs.ReadBack.{gather, itemsOf, Canonical}
+use Rattle.list.specs.Table.{carried, hasItem}
+use Rattle.list.proofs.AllRecords.{encoded-count, encode-records}
+use Rattle.list.proofs.Gathering.{body-gathered}
+use Rattle.list.proofs.RecordsAgain.{ownItem}
+use Rattle.list.proofs.Rewritten.{own-list-items, own-proper-all, trailer-so, items-so}
+use Rattle.amend.specs.Change.{changed}
+use Rattle.amend.specs.Withdraw.{renumbered, recounted, recordsLeft}
+use Rattle.amend.proofs.Among.{Among, restOf, changedOf}
+use Rattle.amend.proofs.Answered.{withdrawn-grammar, changed-grammar}
+use Rattle.amend.proofs.Kept.{repriced as Kept·repriced}
+use Rattle.amend.proofs.Left.{amounts, sizes, left-bytes, retyped, typedFrom, retold, here, behind}
+use Rattle.claims.specs.Ledger.{firstRepriced}
+use Rattle.claims.proofs.Encoded.{trailer-recounted, detail-renumbered, opening-renumbered, opening-repriced}
+use Rattle.claims.proofs.Listed.{itemsBy, headItem, listed-so, items-retyped, items-retold}
+
+detail-heads : (k : Kind) → Detail k → heads k ≡ false
+detail-heads Im d = absurd d
+detail-heads R14 d = absurd d
+detail-heads R16 d = refl
+detail-heads R20 d = refl
+detail-heads R30 d = refl
+detail-heads R40 d = refl
+detail-heads R50 d = refl
+detail-heads R59 d = refl
+detail-heads R51 d = refl
+detail-heads R70 d = refl
+detail-heads Ef d = absurd d
+
+detail-listed : (k : Kind) → Detail k → hasItem k ≡ true
+detail-listed Im d = absurd d
+detail-listed R14 d = absurd d
+detail-listed R16 d = refl
+detail-listed R20 d = refl
+detail-listed R30 d = refl
+detail-listed R40 d = refl
+detail-listed R50 d = refl
+detail-listed R59 d = refl
+detail-listed R51 d = refl
+detail-listed R70 d = refl
+detail-listed Ef d = absurd d
+
+-- dispositions behind i others, each record of which is what its item encodes
+module _ (header : List ℕ) where
+  abbrev pub Encoded : ℕ → List (List Typed) → Type 0
+  Encoded i [] = Unit
+  Encoded i (d ∷ ds) = (recordsIn d ≡ map (encodeItem (suc i) header) (map ownItem d)) × Encoded (suc i) ds
+
+  encoded-before : (i : ℕ) (xs ys : List (List Typed)) → Encoded i (xs ++ ys) → Encoded i xs
+  encoded-before i [] ys e = tt
+  encoded-before i (x ∷ xs) ys e = (e .0, encoded-before (suc i) xs ys (e .1))
+
+  encoded-behind : (i : ℕ) (xs ys : List (List Typed)) → Encoded i (xs ++ ys) → Encoded (i + length xs) ys
+  encoded-behind i [] ys e = let same : i ≡ i + 0 = omega arith in subst (λ (m : ℕ). Encoded m ys) same e
+  encoded-behind i (x ∷ xs) ys e = let same : suc i + length xs ≡ i + suc (length xs) = omega arith in subst (λ (m : ℕ). Encoded m ys) same (encoded-behind (suc i) xs ys (e .1))
+
+  encoded-append : (i : ℕ) (xs ys : List (List Typed)) → Encoded i xs → Encoded (i + length xs) ys → Encoded i (xs ++ ys)
+  encoded-append i [] ys front back = let same : i + 0 ≡ i = omega arith in subst (λ (m : ℕ). Encoded m ys) same back
+  encoded-append i (x ∷ xs) ys front back =
+      let same : i + suc (length xs) ≡ suc i + length xs = omega arith in
+      (front .0, encoded-append (suc i) xs ys (front .1) (subst (λ (m : ℕ). Encoded m ys) same back))
+
+  -- the items of one disposition all get its number
+  details-encoded : (i : ℕ) (rs : List Typed) (is : List Item) → All Detail (kindsOf rs) → encodeFrom i header (map ownItem rs ++ is) ≡ map (encodeItem i header) (map ownItem rs) ++ encodeFrom i header is
+  unfolding encodeFrom
+  details-encoded i [] is details = refl
+  details-encoded i (r ∷ rs) is details =
+      let shut : opened (r .kind) ≡ 0 = ap (λ (b : Bool). cond b 1 0) (detail-opens (r .kind) (details .0)) in
+      let number : i + opened (r .kind) ≡ i = omega arith in
+      let meant : headerBehind header (ownItem r) ≡ header = ap (λ (b : Bool). cond b (ownItem r .body) header) (detail-heads (r .kind) (details .0)) in
+      (λ j. encodeItem (number j) header (ownItem r) ∷ encodeFrom (number j) (meant j) (map ownItem rs ++ is))
+      ∙ ap (λ (l : List (List ℕ)). encodeItem i header (ownItem r) ∷ l) (details-encoded i rs is (details .1))
+
+  disposition-encoded : (i : ℕ) (d : List Typed) (is : List Item) → Opened d → encodeFrom i header (map ownItem d ++ is) ≡ map (encodeItem (suc i) header) (map ownItem d) ++ encodeFrom (suc i) header is
+  unfolding encodeFrom
+  disposition-encoded i d is (opened-by r rs e details) =
+      let one : opened (r .kind) ≡ 1 = ap opened e in
+      let number : i + opened (r .kind) ≡ suc i = omega arith in
+      let meant : headerBehind header (ownItem r) ≡ header = ap (λ (k : Kind). cond (heads k) (ownItem r .body) header) e in
+      (λ j. encodeItem (number j) header (ownItem r) ∷ encodeFrom (number j) (meant j) (map ownItem rs ++ is))
+      ∙ ap (λ (l : List (List ℕ)). encodeItem (suc i) header (ownItem r) ∷ l) (details-encoded (suc i) rs is details)
+
+  -- so they are the records that their items encode, one behind the other
+  encoded-joined : (i : ℕ) (ds : List (List Typed)) → InShape ds → Encoded i ds → flatten (map recordsIn ds) ≡ encodeFrom i header (flatten (itemsBy ds))
+  unfolding flatten encodeFrom
+  encoded-joined i [] shape e = refl
+  encoded-joined i (d ∷ ds) shape e =
+      ap₂ (λ (xs ys : List (List ℕ)). xs ++ ys) (e .0) (encoded-joined (suc i) ds (shape .1) (e .1)) ∙ sym (disposition-encoded i d (flatten (itemsBy ds)) (opened-so d (shape .0)))
+
+  joined-encoded : (i : ℕ) (ds : List (List Typed)) → InShape ds → flatten (map recordsIn ds) ≡ encodeFrom i header (flatten (itemsBy ds)) → Encoded i ds
+  unfolding flatten
+  joined-encoded i [] shape e = tt
+  joined-encoded i (d ∷ ds) shape e =
+      let items = map ownItem d in
+      let size : length (recordsIn d) ≡ length (map (encodeItem (suc i) header) items) = length-map d (λ (r : Typed). r .bytes) ∙ sym (length-map items (encodeItem (suc i) header) ∙ length-map d ownItem) in
+      let both = append-same (recordsIn d) (map (encodeItem (suc i) header) items) (flatten (map recordsIn ds)) (encodeFrom (suc i) header (flatten (itemsBy ds))) size (e ∙ disposition-encoded i d (flatten (itemsBy ds)) (opened-so d (shape .0))) in
+      (both .0, joined-encoded (suc i) ds (shape .1) (both .1))
+
+-- what its header's item carries is what later records are encoded with
+abbrev pub bodyOf : List ℕ → List ℕ
+bodyOf im = gather (carried Im) im
+
+-- the three parts of a canonical flow
+pub record AsEncoded (f : List ℕ) (d c n : ℕ) (g : Grammar f d c n) : Type 0 where
+  pub header : g .parts .header ≡ encodeItem 0 [] (headItem (g .parts .header))
+  pub dispositions : Encoded (bodyOf (g .parts .header)) 0 (g .parts .dispositions)
+  pub trailer : g .parts .trailer ≡ encodeTrailer (bodyOf (g .parts .header)) d c n
+
+module _ (f : List ℕ) (d c n : ℕ) (g : Grammar f d c n) where
+  abbrev im : List ℕ
+  im = g .parts .header
+
+  abbrev ds : List (List Typed)
+  ds = g .parts .dispositions
+
+  abbrev own : List Item
+  own = headItem im ∷ flatten (itemsBy ds)
+
+  own-so : itemsOf f ≡ own
+  own-so = listed-so f d c n g
+
+  records-so : recordsFor own ≡ encodeItem 0 [] (headItem im) ∷ encodeFrom 0 (bodyOf im) (flatten (itemsBy ds))
+  unfolding encodeFrom
+  records-so = refl
+
+  trailer-meant : trailerFor own ≡ encodeTrailer (bodyOf im) d c n
+  trailer-meant = ap trailerFor (sym own-so ∙ own-list-items f d c n g) ∙ trailer-so f d c n g
+
+  again : recordsOf (encode own) ≡ recordsFor own ++ (trailerFor own ∷ [])
+  again = encode-records own (subst (All Proper) (sym (own-list-items f d c n g) ∙ own-so) (own-proper-all f d c n g))
+
+  pub canonical-encoded : Canonical f → AsEncoded f d c n g
+  canonical-encoded canonical =
+      let same : recordsFor own ++ (trailerFor own ∷ []) ≡ (im ∷ flatten (map recordsIn ds)) ++ (g .parts .trailer ∷ []) = sym again ∙ ap recordsOf (ap encode (sym own-so) ∙ canonical) ∙ between f d c n g in
+      let count : length (recordsFor own) ≡ length own = encoded-count 0 [] own in
+      let joined = length-append (recordsFor own) (trailerFor own ∷ []) in
+      let parted = length-append (im ∷ flatten (map recordsIn ds)) (g .parts .trailer ∷ []) in
+      let size : length (recordsFor own) ≡ length (im ∷ flatten (map recordsIn ds)) = omega (arith, ap (λ (l : List (List ℕ)). length l) same) in
+      let both = append-same (recordsFor own) (im ∷ flatten (map recordsIn ds)) (trailerFor own ∷ []) (g .parts .trailer ∷ []) size same in
+      let front = sym (both .0) ∙ records-so in
+      record {
+        header = head-eq-of-cons-eq front;
+        dispositions = joined-encoded (bodyOf im) 0 ds (grammar-shape f d c n g) (tail-eq-of-cons-eq front);
+        trailer = sym (head-eq-of-cons-eq (both .1)) ∙ trailer-meant;
+      }
+
+  pub encoded-canonical : AsEncoded f d c n g → Canonical f
+  encoded-canonical e =
+      let front : recordsFor own ≡ im ∷ flatten (map recordsIn ds) = records-so ∙ (λ i. sym (e .header) i ∷ sym (encoded-joined (bodyOf im) 0 ds (grammar-shape f d c n g) (e .dispositions)) i) in
+      ap encode own-so ∙ (λ i. flatten (front i ++ ((trailer-meant ∙ sym (e .trailer)) i ∷ []))) ∙ sym (left-bytes (g .parts)) ∙ g .bytes
+
+-- a record that has an item, and its item
+own-proper : (r : Typed) → length (r .bytes) ≡ 120 → hasItem (r .kind) ≡ true → Proper (ownItem r)
+own-proper r whole listed = record { listed = listed; sized = body-gathered (r .bytes) whole (r .kind) }
+
+-- dispositions with other numbers are what their items encode with these numbers
+module _ (header abi : List ℕ) where
+  details-numbered :
+      (i j n : ℕ) (rs : List Typed) → All Detail (kindsOf rs) → All (Member abi n) rs
+      → map (renumbered j) (map (encodeItem i header) (map ownItem rs)) ≡ map (encodeItem j header) (map ownItem rs)
+  details-numbered i j n [] details members = refl
+  details-numbered i j n (r ∷ rs) details members =
+      let proper = own-proper r (members .0 .0 .whole) (detail-listed (r .kind) (details .0)) in
+      ap₂ (λ (x : List ℕ) (xs : List (List ℕ)). x ∷ xs) (detail-renumbered i j header (ownItem r) proper (details .0)) (details-numbered i j n rs (details .1) (members .1))
+
+  records-numbered :
+      (i j n : ℕ) (d : List Typed) → RightDisposition abi n d → map (renumbered j) (map (encodeItem i header) (map ownItem d)) ≡ map (encodeItem j header) (map ownItem d)
+  records-numbered i j n d right = go d (opened-so d (right .order)) (right .records)
+    where
+      go : (d : List Typed) → Opened d → All (Member abi n) d → map (renumbered j) (map (encodeItem i header) (map ownItem d)) ≡ map (encodeItem j header) (map ownItem d)
+      go d (opened-by r rs e details) members =
+          let proper = own-proper r (members .0 .0 .whole) (ap hasItem e) in
+          ap₂ (λ (x : List ℕ) (xs : List (List ℕ)). x ∷ xs) (opening-renumbered i j header (ownItem r) proper e) (details-numbered i j n rs details (members .1))
+
+  pub typed-encoded : (i n : ℕ) (ds : List (List Typed)) → Numbered abi n ds → Encoded header (suc i) ds → Encoded header i (typedFrom (suc i) ds)
+  typed-encoded i n [] each e = tt
+  typed-encoded i n (d ∷ ds) each e =
+      let j = suc i in
+      let one : recordsIn (map (retyped j) d) ≡ map (renumbered j) (recordsIn d) = map-map (λ (r : Typed). r .bytes) (retyped j) d ∙ sym (map-map (renumbered j) (λ (r : Typed). r .bytes) d) in (
+        one ∙ ap (map (renumbered j)) (e .0) ∙ records-numbered (suc j) j n d (each .0) ∙ ap (map (encodeItem j header)) (sym (items-retyped abi n j d (each .0))),
+        typed-encoded (suc i) (suc n) ds (each .1) (e .1),
+      )
+
+  -- and one with another amount what its items encode with it
+  retold-encoded :
+      (i n new : ℕ) (d : List Typed) → RightDisposition abi n d → recordsIn d ≡ map (encodeItem i header) (map ownItem d) → recordsIn (retold new d) ≡ map (encodeItem i header) (map ownItem (retold new d))
+  retold-encoded i n new d right e = go d (opened-so d (right .order)) (right .records) e ∙ ap (map (encodeItem i header)) (sym (items-retold new abi n d right))
+    where
+      go : (d : List Typed) → Opened d → All (Member abi n) d → recordsIn d ≡ map (encodeItem i header) (map ownItem d) → recordsIn (retold new d) ≡ map (encodeItem i header) (firstRepriced new (map ownItem d))
+      go d (opened-by r rs kind details) members e =
+          let proper = own-proper r (members .0 .0 .whole) (ap hasItem kind) in
+          let opening = ap (Kept·repriced new) (head-eq-of-cons-eq e) ∙ opening-repriced i new header (ownItem r) proper kind in
+          ap₂ (λ (x : List ℕ) (xs : List (List ℕ)). x ∷ xs) opening (tail-eq-of-cons-eq e)
+
+-- so an amendment of a canonical flow leaves a canonical one
+module _ (f : List ℕ) (k d c n first m a : ℕ) (w : Among f k d c n first m a) (canonical : Canonical f) where
+  abbrev g : Grammar f d c n
+  g = w .grammar
+
+  abbrev header : List ℕ
+  header = bodyOf (g .parts .header)
+
+  abbrev abi : List ℕ
+  abi = headerOf (g .parts .header) .abi
+
+  was : AsEncoded f d c n g
+  was = canonical-encoded f d c n g canonical
+
+  each : Encoded header 0 (w .pre ++ (w .this ∷ w .post))
+  each = subst (Encoded header 0) (w .split) (was .dispositions)
+
+  abbrev count : ℕ
+  count = 0 + length (w .pre)
+
+  front : Encoded header 0 (w .pre)
+  front = encoded-before header 0 (w .pre) (w .this ∷ w .post) each
+
+  back : Encoded header count (w .this ∷ w .post)
+  back = encoded-behind header 0 (w .pre) (w .this ∷ w .post) each
+
+  recounted-trailer :
+      (ds : List (List Typed)) {d′ c′ n′ : ℕ} → length ds ≡ d′ → amounts ds ≡ c′ → 2 + sizes ds ≡ n′
+      → recounted (length ds) (amounts ds) (2 + sizes ds) (g .parts .trailer) ≡ encodeTrailer header d′ c′ n′
+  recounted-trailer ds count cents records =
+      ap (recounted (length ds) (amounts ds) (2 + sizes ds)) (was .trailer) ∙ trailer-recounted header d c n (length ds) (amounts ds) (2 + sizes ds) ∙ (λ i. encodeTrailer header (count i) (cents i) (records i))
+
+  pub withdrawn-canonical : (some : 2 ≤ d) → Canonical (flatten (recordsLeft f k (n - 1) (d - 1) (c - a) (n - m)))
+  withdrawn-canonical some =
+      let left = withdrawn-grammar f k d c n first m a w some in
+      let same : suc count ≡ 1 + length (w .pre) = omega arith in
+      let rest : Encoded header count (typedFrom (1 + length (w .pre)) (w .post)) = subst (λ (j : ℕ). Encoded header count (typedFrom j (w .post))) same (typed-encoded header abi count _ (w .post) (behind f d c n g (w .pre) (w .this) (w .post) (w .split)) (back .1)) in
+      let ds = restOf f k d c n first m a w in
+      encoded-canonical (flatten (recordsLeft f k (n - 1) (d - 1) (c - a) (n - m))) (d - 1) (c - a) (n - m) left
+      (record {
+        header = was .header;
+        dispositions = encoded-append header 0 (w .pre) (typedFrom (1 + length (w .pre)) (w .post)) front rest;
+        trailer = recounted-trailer ds (left .dispositions) (left .cents) (left .records);
+      })
+
+  pub changed-canonical : (new : ℕ) (small : new < 10000000000000) (fits : c - a + new ≤ 999999999999999) → Canonical (changed first new n (c - a + new) f)
+  changed-canonical new small fits =
+      let left = changed-grammar f k d c n first m a new w small fits in
+      let ds = changedOf f k d c n first m a w new small in
+      let this = retold-encoded header abi (suc count) (1 + length (w .pre)) new (w .this) (here f d c n g (w .pre) (w .this) (w .post) (w .split)) (back .0) in
+      encoded-canonical (changed first new n (c - a + new) f) d (c - a + new) n left
+      (record {
+        header = was .header;
+        dispositions = encoded-append header 0 (w .pre) (retold new (w .this) ∷ w .post) front (this, back .1);
+        trailer = recounted-trailer ds (left .dispositions) (left .cents) (left .records);
+      })

@@ -1,0 +1,45 @@
+-- Demand 1, from the laws of each crate. Assumes nothing.
+use Rattle.fields.proofs.DigitField.{field-refused, amount-refused}
+use Rattle.fields.proofs.Gregorian.{date-refused}
+use Rattle.records.proofs.Found.{checks-in-order, broken-exact}
+use Rattle.records.proofs.Numbers.{one-for-length}
+use Rattle.flow.proofs.Accepted.{length-refused}
+use Rattle.flow.proofs.Dispositions.{find-refused}
+use Rattle.flow.proofs.Sought.{seek-exact}
+use Rattle.grammar.proofs.AtPlace.{place-fault-exact}
+use Rattle.grammar.proofs.FirstFault.{first-fault-exact}
+use Rattle.grammar.proofs.Grammar.{right-or-faulty}
+use Rattle.grammar.proofs.Parts.{part-empty}
+use Rattle.list.proofs.Answered.{write-leaves, read-back-refused, read-back-leaves}
+use Rattle.list.proofs.ListItems.{faulty-exact}
+use Rattle.list.proofs.WriteRefused.{write-refused}
+use Rattle.amend.proofs.Answered.{change-refused, withdraw-refused, refused-untouched}
+use Rattle.claims.specs.Demand1.{Demand1}
+use Rattle.claims.proofs.Numbers.{numbers-given}
+
+pub demand1 : Demand1
+demand1 =
+    record {
+      numbers = numbers-given;
+      digits = field-refused;
+      amount = amount-refused;
+      date = date-refused;
+      checks-in-order = checks-in-order;
+      broken = broken-exact;
+      one-for-length = one-for-length;
+      at-place = place-fault-exact;
+      read = first-fault-exact;
+      right-or-faulty = right-or-faulty;
+      length-refused = length-refused;
+      find = find-refused;
+      part = part-empty;
+      seek-exact = seek-exact;
+      faulty = faulty-exact;
+      write = write-refused;
+      read-back = read-back-refused;
+      change-refused = change-refused;
+      withdraw-refused = withdraw-refused;
+      written-none = write-leaves;
+      read-back-none = read-back-leaves;
+      amended-none = refused-untouched;
+    }

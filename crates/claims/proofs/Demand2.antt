@@ -1,0 +1,31 @@
+-- Demand 2, from the laws of each crate. Assumes nothing.
+use Rattle.flow.proofs.Accepted.{accepted-exact}
+use Rattle.grammar.proofs.Grammar.{grammar-exact}
+use Rattle.grammar.proofs.Parts.{parts-exact, places-exact, opening-exact}
+use Rattle.list.proofs.Answered.{write-leaves, read-back-accepted, read-back-leaves}
+use Rattle.list.proofs.ListItems.{items-exact}
+use Rattle.list.proofs.Rewritten.{own-list, own-items, rewritten-exact, rewritten-same, unchecked-only}
+use Rattle.list.proofs.WriteRefused.{write-accepted}
+use Rattle.list.proofs.Written.{written-exact}
+use Rattle.claims.specs.Demand2.{Demand2}
+
+pub demand2 : Demand2
+demand2 =
+    record {
+      accepted-exactly = grammar-exact;
+      sums = accepted-exact;
+      parts = parts-exact;
+      places = places-exact;
+      openings = opening-exact;
+      items = items-exact;
+      list-accepted = write-accepted;
+      list-written = write-leaves;
+      flow-written = written-exact;
+      own-list = own-list;
+      own-items = own-items;
+      flow-accepted = read-back-accepted;
+      list-read-back = read-back-leaves;
+      accepted-again = rewritten-exact;
+      same-again = rewritten-same;
+      unchecked = unchecked-only;
+    }

@@ -1,0 +1,113 @@
+-- Demand 3: by induction over the calls, from one call beside one entry of the ledger. Assumes nothing.
+use Prim.Native.Nat.{ℕ, suc, _+_, _-_, _≤_}
+use mathlib.Core.List.{List, [], _∷_, _++_, append-nil, append-assoc}
+use mathlib.Core.Path.{_≡_, refl, sym, _∙_, ap, ap₂, subst}
+use native.Mathlib.Omega.{arith}
+use lib.ListN.{length, take, drop, replicate, length-append, length-replicate, replicate-append-replicate}
+use lib.Seq.{take-at}
+use Rattle.sequences.specs.Part.{put}
+use Rattle.sequences.proofs.Part.{put-at}
+use Rattle.flow.specs.Judge.{judge}
+use Rattle.flow.specs.Verdict.{accepted}
+use Rattle.list.specs.Encode.{dispositionsOf, centsOf, encode}
+use Rattle.list.specs.Items.{Item, listBytes}
+use Rattle.list.specs.ReadBack.{itemsOf, Canonical}
+use Rattle.amend.specs.Amended.{Amended}
+use Rattle.amend.specs.Laws.{flowLeft}
+use Rattle.claims.specs.Demand3.{Agrees, Touched, Demand3}
+use Rattle.claims.specs.Ledger.{Call, Reply, Entry, entry, listAfter, repliesOn}
+use Rattle.claims.specs.Run.{Memory, holding, lent, amend, replyOf, behind, run, replies, EachCall}
+use Rattle.claims.proofs.OneCall.{Step, one-step, call-touched, list-numbers}
+
+-- memory that holds a flow, and blanks behind it
+abbrev blanksBehind : List ℕ → ℕ → Memory
+blanksBehind g room = record { bytes = g ++ replicate room 32; size = length g }
+
+lent-so : (g : List ℕ) (room : ℕ) → lent (blanksBehind g room) ≡ g
+lent-so g room = take-at g (replicate room 32) (length g) refl
+
+-- behind a call it holds the flow left, and blanks
+behind-so :
+    (call : Call) (g : List ℕ) (room : ℕ) (e : Entry) → Step g call (amend call g) e → let a = amend call g in
+    behind call (blanksBehind g room) ≡ blanksBehind (flowLeft a) (length g - a .size + room)
+behind-so call g room e s =
+    let a = amend call g in
+    let rest : List ℕ = replicate room 32 in
+    let freed : List ℕ = replicate (length g - a .size) 32 in
+    let kept = s .within in
+    let size : length g ≡ length (a .bytes) = sym (ap (λ (l : List ℕ). length l) (s .memory) ∙ length-append (flowLeft a) freed ∙ omega (arith, s .sized, length-replicate {A = ℕ} (length g - a .size) 32)) in
+    let over : put 0 (a .bytes) (g ++ rest) ≡ a .bytes ++ rest = put-at 0 [] g rest (a .bytes) refl size in
+    let apart : a .bytes ++ rest ≡ flowLeft a ++ replicate (length g - a .size + room) 32 =
+    ap (λ (l : List ℕ). l ++ rest) (s .memory) ∙ append-assoc (flowLeft a) freed rest ∙ ap (λ (l : List ℕ). flowLeft a ++ l) (replicate-append-replicate (length g - a .size) room 32) in
+    (λ i. record { bytes = put 0 (amend call (lent-so g room i) .bytes) (g ++ rest); size = amend call (lent-so g room i) .size })
+    ∙ (λ i. record { bytes = (over ∙ apart) i; size = sym (s .sized) i })
+
+-- what is left behind a list of calls on an accepted flow, with blanks behind it up to a length
+record After (g : List ℕ) (all : ℕ) (m : Memory) (answers : List Reply) (list : List Item) (due : List Reply) : Type 0 where
+  read : judge (lent m) ≡ accepted (dispositionsOf list) (centsOf list) (suc (length list))
+  items : itemsOf (lent m) ≡ list
+  answered : answers ≡ due
+  canonical : Canonical g → Canonical (lent m)
+  sized : length (lent m) ≡ m .size
+  within : m .size ≤ all
+  memory : m .bytes ≡ lent m ++ replicate (all - m .size) 32
+
+after-calls :
+    (calls : List Call) (g : List ℕ) (room d c n : ℕ) → judge g ≡ accepted d c n → let m = blanksBehind g room in
+    After g (length g + room) (run calls m) (replies calls m) (listAfter calls (itemsOf g)) (repliesOn calls (itemsOf g))
+unfolding run replies listAfter repliesOn
+after-calls [] g room d c n read =
+    let own = lent-so g room in
+    let blank : room ≡ length g + room - length g = omega arith in
+    record {
+      read = ap judge own ∙ list-numbers g read;
+      items = ap itemsOf own;
+      answered = refl;
+      canonical = λ x. subst Canonical (sym own) x;
+      sized = ap (λ (l : List ℕ). length l) own;
+      within = omega arith;
+      memory = λ i. sym own i ++ replicate (blank i) 32;
+    }
+after-calls (call ∷ calls) g room d c n read =
+    let s = one-step g d c n read call in
+    let a = amend call g in
+    let left = flowLeft a in
+    let more = length g - a .size + room in
+    let within = s .within in
+    let all : length left + more ≡ length g + room = omega (arith, s .sized) in
+    let rest = after-calls calls left more _ _ _ (s .read) in
+    let reply : replyOf call (amend call (lent (blanksBehind g room))) ≡ entry call (itemsOf g) .reply = ap (λ (l : List ℕ). replyOf call (amend call l)) (lent-so g room) ∙ s .reply in
+    let next = sym (behind-so call g room (entry call (itemsOf g)) s) in
+    let moved = subst (λ (A : Type 0). A) (λ i. After left (all i) (run calls (next i)) (replies calls (next i)) (listAfter calls (s .items i)) (repliesOn calls (s .items i))) rest in
+    record {
+      read = moved .read;
+      items = moved .items;
+      answered = ap₂ (λ (x : Reply) (xs : List Reply). x ∷ xs) reply (moved .answered);
+      canonical = λ x. moved .canonical (s .canonical x);
+      sized = moved .sized;
+      within = moved .within;
+      memory = moved .memory;
+    }
+
+touched-all : (calls : List Call) (m : Memory) → EachCall Touched calls m
+unfolding EachCall
+touched-all [] m = tt
+touched-all (call ∷ calls) m = (call-touched call (lent m), touched-all calls (behind call m))
+
+pub demand3 : Demand3
+demand3 f d c n read calls =
+    let first : blanksBehind f 0 ≡ holding f = λ i. record { bytes = append-nil f i; size = length f } in
+    let all : length f + 0 ≡ length f = omega arith in
+    let x = subst (λ (A : Type 0). A) (λ i. After f (all i) (run calls (first i)) (replies calls (first i)) (listAfter calls (itemsOf f)) (repliesOn calls (itemsOf f))) (after-calls calls f 0 d c n read) in (
+      record {
+        read = x .read;
+        items = x .items;
+        bytes = ap listBytes (x .items);
+        answered = x .answered;
+        canonical = λ canonical. sym (x .canonical canonical) ∙ ap encode (x .items);
+        sized = x .sized;
+        within = x .within;
+        memory = x .memory;
+      },
+      touched-all calls (holding f),
+    )

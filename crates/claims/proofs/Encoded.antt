@@ -1,0 +1,192 @@
+-- Records that items encode, with another number, another amount or other counts written over: what the items encode then. Assumes
+-- nothing.
+use Prim.Native.Nat.{ℕ, suc, _+_, _-_, _≤_}
+use mathlib.Core.List.{List, [], _∷_, _++_}
+use mathlib.Core.Logic.{inl, inr}
+use mathlib.Core.Path.{_≡_, refl, sym, _∙_, ap, subst}
+use native.Mathlib.Omega.{arith}
+use lib.ListN.{length, take, drop, length-drop}
+use lib.Seq.{length-take-le, drop-drop}
+use Rattle.sequences.specs.All.{All}
+use Rattle.sequences.specs.Part.{part, put}
+use Rattle.sequences.proofs.All.{all-append}
+use Rattle.sequences.proofs.Part.{part-at-most, part-put, take-put, drop-put}
+use Rattle.fields.specs.Digits.{digits}
+use Rattle.fields.proofs.Decimal.{written-length}
+use Rattle.records.specs.Constants.{causale, sign, currency}
+use Rattle.records.specs.Field.{Span, _to_, width}
+use Rattle.records.specs.Kinds.{typeOf}
+use Rattle.records.specs.declared.kind.Kind.{Kind}
+use Rattle.records.specs.declared.kind.Kind.the-variants.{Im, R14, R16, R20, R30, R40, R50, R59, R51, R70, Ef}
+use Rattle.records.proofs.EachKind.{each-kind}
+use Rattle.grammar.proofs.Dispositions.{Detail}
+use Rattle.list.specs.Encode.{Placed, place, fill, blanks, carriedAt, supplied, bodyPlaced, encodeItem, trailerPlaced, encodeTrailer}
+use Rattle.list.specs.Items.{Item, item, Proper}
+use Rattle.list.specs.Table.{carried, bodyLength}
+use Rattle.list.proofs.Carried.{body-fits, body-outside}
+use Rattle.list.proofs.OneRecord.{abi-short}
+use Rattle.list.proofs.Placing.{Fits, Outside, fill-again}
+use Rattle.list.proofs.TableSpans.{first, carried-within}
+use Rattle.amend.specs.Withdraw.{renumbered, recounted}
+use Rattle.claims.specs.Ledger.{repriced}
+
+-- the trailer with other counts
+module _ (header : List ℕ) (d c n d′ c′ n′ : ℕ) where
+  abbrev copied : List ℕ
+  copied = carriedAt Im 4 45 header
+
+  abbrev front : List Placed
+  front = place 2 (typeOf Ef) ∷ place 4 copied ∷ []
+
+  abbrev zeros : Placed
+  zeros = place 68 (digits 15 0)
+
+  abbrev money : Placed
+  money = place 114 currency
+
+  sizes : (w v u : ℕ) → length (digits w v) ≡ length (digits w u)
+  sizes w v u = written-length w v ∙ sym (written-length w u)
+
+  pub trailer-recounted : recounted d′ c′ n′ (encodeTrailer header d c n) ≡ encodeTrailer header d′ c′ n′
+  unfolding encodeTrailer
+  trailer-recounted =
+      let short : length copied ≤ 42 = part-at-most 0 42 header in
+      let seven : (v : ℕ) → length (digits 7 v) ≡ 7 = written-length 7 in
+      let fifteen : (v : ℕ) → length (digits 15 v) ≡ 15 = written-length 15 in
+      let type : Fits (place 2 (typeOf Ef)) = omega arith in
+      let copy : Fits (place 4 copied) = omega arith in
+      let count : (v : ℕ) → Fits (place 46 (digits 7 v)) = λ v. omega (arith, seven v) in
+      let cents : (v : ℕ) → Fits (place 53 (digits 15 v)) = λ v. omega (arith, fifteen v) in
+      let nothing : Fits zeros = omega (arith, fifteen 0) in
+      let records : (v : ℕ) → Fits (place 83 (digits 7 v)) = λ v. omega (arith, seven v) in
+      let last : Fits money = omega arith in
+      let one = fill-again front 46 (digits 7 d) (digits 7 d′) (place 53 (digits 15 c) ∷ zeros ∷ place 83 (digits 7 n) ∷ money ∷ []) blanks
+      (type, (copy, tt)) (cents c, (nothing, (records n, (last, tt)))) (count d) refl (sizes 7 d′ d)
+      (inl (omega (arith, seven d′)), (inl (omega (arith, seven d′)), (inl (omega (arith, seven d′)), (inl (omega (arith, seven d′)), tt)))) in
+      let two = fill-again (front ++ (place 46 (digits 7 d′) ∷ [])) 53 (digits 15 c) (digits 15 c′) (zeros ∷ place 83 (digits 7 n) ∷ money ∷ []) blanks
+      (type, (copy, (count d′, tt))) (nothing, (records n, (last, tt))) (cents c) refl (sizes 15 c′ c)
+      (inl (omega (arith, fifteen c′)), (inl (omega (arith, fifteen c′)), (inl (omega (arith, fifteen c′)), tt))) in
+      let three = fill-again (front ++ (place 46 (digits 7 d′) ∷ place 53 (digits 15 c′) ∷ zeros ∷ [])) 83 (digits 7 n) (digits 7 n′) (money ∷ []) blanks
+      (type, (copy, (count d′, (cents c′, (nothing, tt))))) (last, tt) (records n) refl (sizes 7 n′ n)
+      (inl (omega (arith, seven n′)), tt) in
+      ap (λ (l : List ℕ). put 82 (digits 7 n′) (put 52 (digits 15 c′) l)) one ∙ ap (put 82 (digits 7 n′)) two ∙ three
+
+-- what a record that is neither a 14 nor header nor trailer has beside its type and its body
+detail-supplied : (k : Kind) (n : ℕ) (abi : List ℕ) → Detail k → supplied k n abi ≡ place 4 (digits 7 n) ∷ []
+detail-supplied Im n abi d = absurd d
+detail-supplied R14 n abi d = absurd d
+detail-supplied R16 n abi d = refl
+detail-supplied R20 n abi d = refl
+detail-supplied R30 n abi d = refl
+detail-supplied R40 n abi d = refl
+detail-supplied R50 n abi d = refl
+detail-supplied R59 n abi d = refl
+detail-supplied R51 n abi d = refl
+detail-supplied R70 n abi d = refl
+detail-supplied Ef n abi d = absurd d
+
+-- no record of a disposition carries a position of its number
+pub detail-behind : (k : Kind) → Detail k → All (λ (t : Span). 10 ≤ first t - 1) (carried k)
+detail-behind Im d = absurd d
+detail-behind R14 d = absurd d
+detail-behind R16 d = (omega arith, tt)
+detail-behind R20 d = (omega arith, tt)
+detail-behind R30 d = (omega arith, tt)
+detail-behind R40 d = (omega arith, tt)
+detail-behind R50 d = (omega arith, tt)
+detail-behind R59 d = (omega arith, tt)
+detail-behind R51 d = (omega arith, tt)
+detail-behind R70 d = (omega arith, (omega arith, tt))
+detail-behind Ef d = absurd d
+
+type-fits : (k : Kind) → Fits (place 2 (typeOf k))
+type-fits = each-kind (λ (k : Kind). Fits (place 2 (typeOf k))) (omega arith, (omega arith, (omega arith, (omega arith, (omega arith, (omega arith, (omega arith, (omega arith, (omega arith, (omega arith, (omega arith, tt)))))))))))
+
+-- a number that was placed behind the type, with others behind it, written over
+number-again :
+    (k : Kind) (i j : ℕ) (qs : List Placed) → All Fits qs → All (Outside 3 7) qs
+    → renumbered j (fill (place 2 (typeOf k) ∷ place 4 (digits 7 i) ∷ qs) blanks) ≡ fill (place 2 (typeOf k) ∷ place 4 (digits 7 j) ∷ qs) blanks
+number-again k i j qs fits outside =
+    let size : (v : ℕ) → length (digits 7 v) ≡ 7 = written-length 7 in
+    fill-again (place 2 (typeOf k) ∷ []) 4 (digits 7 i) (digits 7 j) qs blanks (type-fits k, tt) fits (omega (arith, size i)) refl (size j ∙ sym (size i))
+    (subst (λ (w : ℕ). All (Outside 3 w) qs) (sym (size j)) outside)
+
+-- the record of an item whose kind is known
+encoded-as :
+    (header : List ℕ) (it : Item) (k : Kind) → it .kind ≡ k → (n : ℕ)
+    → encodeItem n header it ≡ fill (place 2 (typeOf k) ∷ (supplied k n (carriedAt Im 9 13 header) ++ bodyPlaced (carried k) (it .body))) blanks
+unfolding encodeItem
+encoded-as header it k e n = ap (λ (l : Kind). fill (place 2 (typeOf l) ∷ (supplied l n (carriedAt Im 9 13 header) ++ bodyPlaced (carried l) (it .body))) blanks) e
+
+-- what a 14 has behind its number and before its body: the fixed values and the ABI
+abbrev fixed : List ℕ → List Placed
+fixed header = place 29 causale ∷ place 47 sign ∷ place 48 (carriedAt Im 9 13 header) ∷ place 120 currency ∷ []
+
+fixed-fits : (header : List ℕ) → All Fits (fixed header)
+fixed-fits header =
+    let short = abi-short header in
+    (omega arith, (omega arith, (omega arith, (omega arith, tt))))
+
+-- the record of an item, with another number
+module _ (i j : ℕ) (header : List ℕ) (it : Item) (proper : Proper it) where
+  body-placed : (k : Kind) → it .kind ≡ k → All Fits (bodyPlaced (carried k) (it .body))
+  body-placed k e = body-fits (carried k) (it .body) (carried-within k) (ap bodyLength (sym e) ∙ sym (proper .sized))
+
+  pub detail-renumbered : Detail (it .kind) → renumbered j (encodeItem i header it) ≡ encodeItem j header it
+  detail-renumbered detail =
+      let k = it .kind in
+      let qs = bodyPlaced (carried k) (it .body) in
+      let told : (n : ℕ) → encodeItem n header it ≡ fill (place 2 (typeOf k) ∷ place 4 (digits 7 n) ∷ qs) blanks = λ n. encoded-as header it k refl n ∙ ap (λ (ps : List Placed). fill (place 2 (typeOf k) ∷ (ps ++ qs)) blanks) (detail-supplied k n (carriedAt Im 9 13 header) detail) in
+      ap (renumbered j) (told i) ∙ number-again k i j qs (body-placed k refl) (body-outside 3 7 (carried k) (it .body) (detail-behind k detail)) ∙ sym (told j)
+
+  pub opening-renumbered : it .kind ≡ R14 → renumbered j (encodeItem i header it) ≡ encodeItem j header it
+  opening-renumbered e =
+      let body = bodyPlaced (carried R14) (it .body) in
+      let outside : All (Outside 3 7) (fixed header) = (inl (omega arith), (inl (omega arith), (inl (omega arith), (inl (omega arith), tt)))) in
+      ap (renumbered j) (encoded-as header it R14 e i)
+      ∙ number-again R14 i j (fixed header ++ body) (all-append Fits (fixed header) body (fixed-fits header) (body-placed R14 e)) (all-append (Outside 3 7) (fixed header) body outside (body-outside 3 7 (carried R14) (it .body) (omega arith, (omega arith, (omega arith, (omega arith, tt))))))
+      ∙ sym (encoded-as header it R14 e j)
+
+-- the record of a D, with another amount
+module _ (n new : ℕ) (header : List ℕ) (it : Item) (proper : Proper it) (e : it .kind ≡ R14) where
+  abbrev body : List ℕ
+  body = it .body
+
+  body-length : length body ≡ 58
+  body-length = proper .sized ∙ ap bodyLength e
+
+  -- what is placed before the amount, and behind it
+  abbrev before : List Placed
+  before = place 2 (typeOf R14) ∷ place 4 (digits 7 n) ∷ (fixed header ++ (place 23 (take 6 body) ∷ []))
+
+  abbrev behind : List Placed
+  behind = bodyPlaced ((53 to 69) ∷ (92 to 113) ∷ []) (drop 13 (drop 6 body))
+
+  before-fits : All Fits before
+  before-fits =
+      let f = fixed-fits header in
+      (type-fits R14, (omega (arith, written-length 7 n), (f .0, (f .1 .0, (f .1 .1 .0, (f .1 .1 .1 .0, (omega (arith, length-take-le 6 body (omega (arith, body-length))), tt)))))))
+
+  behind-sized : 39 ≡ length (drop 13 (drop 6 body))
+  behind-sized = omega (arith, length-drop 13 (drop 6 body), length-drop 6 body, body-length)
+
+  within : 6 + length (digits 13 new) ≤ length body
+  within = omega (arith, written-length 13 new, body-length)
+
+  pub opening-repriced : put 33 (digits 13 new) (encodeItem n header it) ≡ encodeItem n header (repriced new it)
+  unfolding encodeItem bodyPlaced
+  opening-repriced =
+      let amount = take 13 (drop 6 body) in
+      let other = repriced new it in
+      let thirteen : length (digits 13 new) ≡ 13 = written-length 13 new in
+      let own : length amount ≡ 13 = length-take-le 13 (drop 6 body) (omega (arith, length-drop 6 body, body-length)) in
+      let spans = carried-within R14 in
+      let fits : All Fits behind = body-fits ((53 to 69) ∷ (92 to 113) ∷ []) (drop 13 (drop 6 body)) (spans .1 .1) behind-sized in
+      let outside : All (Outside 33 (length (digits 13 new))) behind = body-outside 33 (length (digits 13 new)) ((53 to 69) ∷ (92 to 113) ∷ []) (drop 13 (drop 6 body)) (omega arith, (omega arith, tt)) in
+      let date : take 6 body ≡ take 6 (other .body) = sym (take-put 6 (digits 13 new) body within 6 (omega arith)) in
+      let cents : digits 13 new ≡ take 13 (drop 6 (other .body)) = sym (ap (λ (w : ℕ). take w (drop 6 (other .body))) (sym thirteen) ∙ part-put 6 (digits 13 new) body within) in
+      let rest : drop 13 (drop 6 body) ≡ drop 13 (drop 6 (other .body)) = drop-drop 13 6 body ∙ sym (drop-drop 13 6 (other .body) ∙ drop-put 6 (digits 13 new) body within (6 + 13) (omega arith)) in
+      ap (put 33 (digits 13 new)) (encoded-as header it R14 e n)
+      ∙ fill-again before 34 amount (digits 13 new) behind blanks before-fits fits (omega arith) refl (thirteen ∙ sym own) outside
+      ∙ (λ i. fill (place 2 (typeOf R14) ∷ (supplied R14 n (carriedAt Im 9 13 header) ++ (place 23 (date i) ∷ place 34 (cents i) ∷ bodyPlaced ((53 to 69) ∷ (92 to 113) ∷ []) (rest i)))) blanks)
+      ∙ sym (encoded-as header other R14 e n)

@@ -1,0 +1,202 @@
+-- What the demands shut out, by the two-rent flow and the empty one. Assumes nothing.
+use Prim.Native.Nat.{ℕ, suc, _*_, _≤_}
+use mathlib.Core.Bool.{Bool, true, false, cond}
+use mathlib.Core.List.{List, [], _∷_, _++_, flatten}
+use mathlib.Core.Path.{_≡_, refl, sym, _∙_, ap}
+use native.Mathlib.Omega.{arith}
+use lib.Dec.{leb}
+use lib.ListN.{length, take, drop}
+use Rattle.sequences.specs.Every.{every}
+use Rattle.sequences.specs.Groups.{lead, groups}
+use Rattle.sequences.specs.Part.{put}
+use Rattle.fields.specs.Bytes.{isEqual}
+use Rattle.fields.specs.Calendar.{isLeap, daysIn, isDay}
+use Rattle.fields.specs.Digits.{numberFrom, digits}
+use Rattle.records.specs.Bytes.{badFrom}
+use Rattle.records.specs.Checks.{isListed, checks}
+use Rattle.records.specs.Finding.{firstFault}
+use Rattle.records.specs.Judge.{judge as Record·judge}
+use Rattle.flow.specs.Examples.{flowOf, headerIm, trailerEf, second, further59, firstClosed, withFurther, twoRents}
+use Rattle.flow.specs.Judge.{go, judge}
+use Rattle.flow.specs.Order.{among}
+use Rattle.flow.specs.Records.{cut, recordAt, recordsOf}
+use Rattle.flow.specs.Steps.{typed, judgeRecord}
+use Rattle.flow.specs.Verdict.{Verdict, accepted, refused}
+use Rattle.flow.proofs.Accepted.{accepted-not-refused, accepted-exact}
+use Rattle.flow.proofs.Examples.{examples as flow}
+use Rattle.grammar.specs.Fault.{FaultBehind, bad-byte}
+use Rattle.grammar.proofs.FirstFault.{first-fault-exact}
+use Rattle.grammar.proofs.Grammar.{grammar-exact}
+use Rattle.list.specs.Encode.{fill, bodyPlaced, encodeItem, encodeFrom, dispositionsOf, centsOf, encode}
+use Rattle.list.specs.Examples.{headerItem, secondItems}
+use Rattle.list.specs.Items.{items, itemsFrom, parse, itemsIn}
+use Rattle.list.specs.ReadBack.{itemsOf}
+use Rattle.list.specs.Table.{firstKind}
+use Rattle.list.specs.Write.{judgeItems, judgeList}
+use Rattle.list.proofs.Answered.{write-leaves}
+use Rattle.list.proofs.Examples.{examples as list}
+use Rattle.amend.specs.Amended.{Amended}
+use Rattle.amend.proofs.Answered.{change-refused, withdraw-refused}
+use Rattle.claims.specs.Demand3.{Kept}
+use Rattle.claims.specs.Excludes.{Reader, AcceptsExactly, RefusesFirst, Refusal, LowestNumber, lastWrong, ChangesFaithfully, WithdrawsFaithfully, Service, Serves, LibraryMeets, Excludes}
+use Rattle.claims.specs.Ledger.{Call, change, withdraw, withAmount, withoutDisposition, changeOn, withdrawOn, listAfter}
+use Rattle.claims.specs.Run.{Memory, holding, lent}
+use Rattle.claims.proofs.Demand3.{demand3}
+use Rattle.claims.proofs.Examples.{examples}
+
+-- a reader that meets demand 2 accepts where the reader of the library does, and only there
+reads-so : (read : Reader) → AcceptsExactly read → (f : List ℕ) (d c n : ℕ) → judge f ≡ accepted d c n → read f ≡ accepted d c n
+reads-so read exact f d c n e = exact f d c n .1 (grammar-exact f d c n .0 e)
+
+read-so : (read : Reader) → AcceptsExactly read → (f : List ℕ) (d c n : ℕ) → read f ≡ accepted d c n → judge f ≡ accepted d c n
+read-so read exact f d c n e = grammar-exact f d c n .1 (exact f d c n .0 e)
+
+two-read : (read : Reader) → AcceptsExactly read → read twoRents ≡ accepted 2 83050 16
+two-read read exact = reads-so read exact twoRents 2 83050 16 (flow .two-rents)
+
+-- an answer that is accepted is no refusal
+not-refused : {v : Verdict} {d c n : ℕ} → v ≡ accepted d c n → ¬ Refusal v
+not-refused a (n, r, p, e) = accepted-not-refused (sym e ∙ a)
+
+one-reply : (read : Reader) → AcceptsExactly read → (v : Verdict) → ¬ ((f : List ℕ) → read f ≡ v)
+one-reply read exact v all =
+    let empty : read [] ≡ accepted 2 83050 16 = all [] ∙ sym (all twoRents) ∙ two-read read exact in
+    accepted-not-refused (sym (flow .empty) ∙ read-so read exact [] 2 83050 16 empty)
+
+-- an amendment that meets demand 1 does not refuse where the library's accepts
+changes-so : (amend : List ℕ → ℕ → ℕ → Amended) → ChangesFaithfully amend → ¬ Refusal (amend twoRents 2 40000 .answer)
+changes-so amend faithful (e, r, p, refusal) = accepted-not-refused (sym (change-refused twoRents 2 40000 e r p .1 (faithful twoRents 2 40000 e r p refusal)) ∙ examples .two .0)
+
+withdraws-so : (amend : List ℕ → ℕ → Amended) → WithdrawsFaithfully amend → ¬ Refusal (amend twoRents 1 .answer)
+withdraws-so amend faithful (e, r, p, refusal) = accepted-not-refused (sym (withdraw-refused twoRents 1 e r p .1 (faithful twoRents 1 e r p refusal)) ∙ examples .three .0)
+
+-- the calls, and what the ledger has behind them
+abbrev first : Call
+first = change 2 40000
+
+abbrev both : List Call
+both = first ∷ change 1 1 ∷ []
+
+first-total : centsOf (listAfter (first ∷ []) (itemsOf twoRents)) ≡ 85000
+unfolding cut flatten firstKind isEqual numberFrom digits groups lead dispositionsOf centsOf withAmount changeOn listAfter
+first-total = refl
+
+both-total : centsOf (listAfter both (itemsOf twoRents)) ≡ 40001
+unfolding cut flatten firstKind isEqual numberFrom digits groups lead dispositionsOf centsOf withAmount changeOn listAfter
+both-total = refl
+
+one-left : dispositionsOf (listAfter (withdraw 1 ∷ []) (itemsOf twoRents)) ≡ 1
+unfolding cut flatten firstKind isEqual numberFrom digits groups lead dispositionsOf withoutDisposition withdrawOn listAfter
+one-left = refl
+
+list-left : listAfter (withdraw 1 ∷ []) (itemsOf twoRents) ≡ itemsIn (flowOf (headerItem ++ secondItems))
+unfolding cut flatten firstKind isEqual numberFrom digits groups lead dispositionsOf withoutDisposition withdrawOn listAfter itemsFrom
+list-left = refl
+
+-- what a service that meets demand 3 leaves of the two-rent flow
+module _ (serve : Service) (serves : Serves serve) where
+  abbrev left : List Call → List ℕ
+  left calls = lent (serve calls twoRents .after)
+
+  kept : (calls : List Call) → Kept twoRents calls (serve calls twoRents .after) (serve calls twoRents .answers)
+  kept = serves twoRents 2 83050 16 (flow .two-rents)
+
+  first-left : (d c n : ℕ) → judge (left (first ∷ [])) ≡ accepted d c n → c ≡ 85000
+  first-left d c n e = cc (kept (first ∷ []) .read, first-total)
+
+  both-left : (d c n : ℕ) → judge (left both) ≡ accepted d c n → c ≡ 40001
+  both-left d c n e = cc (kept both .read, both-total)
+
+  changed : ¬ (serve (first ∷ []) twoRents .after ≡ holding twoRents)
+  changed same =
+      let none : _≡_ {A = ℕ} 83050 85000 = first-left 2 83050 16 (ap (λ (m : Memory). judge (lent m)) same ∙ flow .two-rents) in
+      omega arith
+
+  changed-again : ¬ (serve both twoRents .after ≡ serve (first ∷ []) twoRents .after)
+  changed-again same =
+      let again = both-left _ _ _ (ap (λ (m : Memory). judge (lent m)) same ∙ kept (first ∷ []) .read) in
+      omega (arith, first-total)
+
+  withdrawn : (d c n : ℕ) → judge (left (withdraw 1 ∷ [])) ≡ accepted d c n → d ≡ 1
+  withdrawn d c n e = cc (kept (withdraw 1 ∷ []) .read, one-left)
+
+  moved : left (withdraw 1 ∷ []) ≡ encode (itemsIn (flowOf (headerItem ++ secondItems)))
+  moved = kept (withdraw 1 ∷ []) .canonical (list .canonical) ∙ ap encode list-left
+
+-- a reader that meets demand 1 refuses where the reader of the library does
+refuses-so : (read : Reader) → RefusesFirst read → (f : List ℕ) (n r p : ℕ) → judge f ≡ refused n r p → read f ≡ refused n r p
+refuses-so read exact f n r p e = exact f n r p .1 (first-fault-exact f n r p .0 e)
+
+-- the second rent alone under the two-rent header, with a line end before its 20: record 2 has a wrong number, and record 3 a byte outside 32
+-- to 126, which has a lower one
+abbrev twoFaults : List ℕ
+twoFaults = put 240 (10 ∷ []) (flowOf (headerIm ∷ (second ++ (trailerEf ∷ []))))
+
+lowest-record : judge twoFaults ≡ refused 9 2 4
+unfolding judge go cut judgeRecord typed among Record·judge firstFault checks isListed badFrom isEqual numberFrom every isDay daysIn isLeap
+lowest-record = refl
+
+later-fault : FaultBehind twoFaults (take 2 (recordsOf twoFaults)) (recordAt 2 twoFaults) 2 1
+later-fault = bad-byte [] 10 (drop 1 (recordAt 2 twoFaults)) refl tt (λ h. omega (arith, h .0))
+
+later-stands : recordsOf twoFaults ≡ take 2 (recordsOf twoFaults) ++ (recordAt 2 twoFaults ∷ drop 3 (recordsOf twoFaults))
+unfolding cut
+later-stands = refl
+
+not-lowest : (read : Reader) → RefusesFirst read → ¬ LowestNumber read
+not-lowest read exact lowest =
+    let none : 9 ≤ 2 = lowest twoFaults 9 2 4 (refuses-so read exact twoFaults 9 2 4 lowest-record) _ _ _ 2 1 later-stands later-fault in
+    omega arith
+
+mixed-judged : (judge (withFurther (take 1 firstClosed ++ (further59 ∷ []))) ≡ refused 3 7 2) × (judge (withFurther (further59 ∷ take 1 firstClosed)) ≡ refused 3 7 2)
+unfolding judge go cut judgeRecord typed among Record·judge firstFault checks isListed badFrom isEqual numberFrom every isDay daysIn isLeap
+mixed-judged = (refl, refl)
+
+-- with room the last record is refused, without it the call
+last-judged : judgeItems (itemsIn lastWrong) ≡ refused 6 15 94
+unfolding judgeItems encodeFrom encodeItem fill bodyPlaced flatten itemsFrom firstKind digits go judgeRecord typed among Record·judge firstFault checks isListed badFrom isEqual numberFrom every isDay daysIn isLeap
+last-judged = refl
+
+last-read : parse lastWrong ≡ items (itemsIn lastWrong)
+unfolding itemsFrom firstKind
+last-read = refl
+
+last-count : suc (length (itemsIn lastWrong)) ≡ 16
+unfolding itemsFrom firstKind
+last-count = refl
+
+last-refused : (room : ℕ) → Refusal (judgeList lastWrong room)
+unfolding judgeList
+last-refused room = rw (last-read, last-count) (by (leb 1920 room))
+  where
+    by : (b : Bool) → Refusal (cond b (judgeItems (itemsIn lastWrong)) (refused 21 0 0))
+    by true = (6, 15, 94, last-judged)
+    by false = (21, 0, 0, refl)
+
+pub excludes : Excludes
+excludes =
+    record {
+      refuses-everything = λ read exact all. not-refused (two-read read exact) (all twoRents);
+      one-reply = λ read exact (v, all). one-reply read exact v all;
+      change-always-refuses = λ amend faithful all. changes-so amend faithful (all twoRents 2 40000);
+      withdraw-always-refuses = λ amend faithful all. withdraws-so amend faithful (all twoRents 1);
+      touches-nothing = λ serve serves all. changed serve serves (all (first ∷ []) twoRents);
+      fakes-the-rest = λ serve serves all. changed-again serve serves (all first (change 1 1 ∷ []) twoRents);
+      made-up-counts = λ read exact f d c n e. accepted-exact f d c n (read-so read exact f d c n e);
+      copied-twice = λ serve serves (c, n, e). let none : _≡_ {A = ℕ} 2 1 = withdrawn serve serves 2 c n e in omega arith;
+      moved-up = moved;
+      further-mixed = λ read exact. (refuses-so read exact _ 3 7 2 (mixed-judged .0), refuses-so read exact _ 3 7 2 (mixed-judged .1));
+      written-early = λ writer untouched out. let (n, r, p, e) = last-refused (length out) in untouched lastWrong out n r p e;
+      lowest-number = not-lowest;
+    }
+
+pub library-meets : LibraryMeets
+library-meets =
+    record {
+      accepts-exactly = grammar-exact;
+      refuses-first = first-fault-exact;
+      refuses-untouched = λ list out n r p e. write-leaves list out .1 n r p e;
+      changes-faithfully = λ f k new e r p same. change-refused f k new e r p .0 same;
+      withdraws-faithfully = λ f k e r p same. withdraw-refused f k e r p .0 same;
+      serves = λ f d c n read calls. demand3 f d c n read calls .0;
+    }

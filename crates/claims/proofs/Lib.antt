@@ -1,0 +1,11 @@
+pub mod Canonical
+pub mod Demand1
+pub mod Demand2
+pub mod Demand3
+pub mod Encoded
+pub mod EntryPoints
+pub mod Examples
+pub mod Excludes
+pub mod Listed
+pub mod Numbers
+pub mod OneCall

@@ -1,0 +1,209 @@
+-- The list of a flow, disposition by disposition, and what the ledger makes of it. Assumes nothing.
+use Prim.Native.Nat.{ℕ, suc, _+_, _-_, _≤_, _<_}
+use mathlib.Core.Bool.{Bool, true, false, cond}
+use mathlib.Core.List.{List, [], _∷_, _++_, append-assoc, map, map-map, map-append, flatten}
+use mathlib.Core.Logic.{_⊎_, inl, inr}
+use mathlib.Core.Path.{_≡_, refl, sym, _∙_, ap, ap₂, subst}
+use native.Mathlib.Omega.{arith}
+use lib.ListN.{length, take, drop, getD, length-append, length-map}
+use lib.Seq.{take-at, drop-at, getD-at}
+use Rattle.sequences.specs.All.{All}
+use Rattle.sequences.specs.Groups.{lead, groups}
+use Rattle.sequences.specs.Part.{part, put}
+use Rattle.sequences.proofs.Flatten.{map-flatten}
+use Rattle.sequences.proofs.Groups.{Opens, lead-joined, groups-joined}
+use Rattle.sequences.proofs.Part.{part-length, part-put, put-at}
+use Rattle.fields.specs.Digits.{digits, number}
+use Rattle.fields.proofs.Decimal.{written-length}
+use Rattle.records.specs.Field.{Span, _to_, field}
+use Rattle.records.specs.Kinds.{opens}
+use Rattle.records.specs.declared.kind.Kind.{Kind}
+use Rattle.records.specs.declared.kind.Kind.the-variants.{Im, R14}
+use Rattle.grammar.specs.Grammar.{Typed, kindsOf, recordsIn, Numbered, RightDisposition, Grammar}
+use Rattle.grammar.specs.Grammar.{amountOf as Grammar·amountOf}
+use Rattle.grammar.specs.Rules.{Formed}
+use Rattle.grammar.proofs.Dispositions.{Detail, detail-opens, Opened, opened-by, opened-so, Member, InShape}
+use Rattle.grammar.proofs.Grammar.{grammar-shape}
+use Rattle.list.specs.Encode.{carriedAt, amountOf, centsOf}
+use Rattle.list.specs.Items.{Item, item}
+use Rattle.list.specs.ReadBack.{gather, itemsOf}
+use Rattle.list.specs.Table.{carried}
+use Rattle.list.proofs.Carried.{gather-at}
+use Rattle.list.proofs.RecordsAgain.{ownItem}
+use Rattle.list.proofs.Rewritten.{own-list-items}
+use Rattle.list.proofs.TableSpans.{first, carried-within}
+use Rattle.amend.specs.Withdraw.{renumbered}
+use Rattle.amend.proofs.Among.{Among}
+use Rattle.amend.proofs.Kept.{over-kept, over-length}
+use Rattle.amend.proofs.Kept.{repriced as Kept·repriced}
+use Rattle.amend.proofs.Left.{amounts, retyped, typedFrom, retold}
+use Rattle.claims.specs.Ledger.{isD, headOf, dispositions, repriced, firstRepriced, withAmount, withoutDisposition}
+use Rattle.claims.proofs.Encoded.{detail-behind}
+
+-- the items of dispositions
+abbrev pub itemsBy : List (List Typed) → List (List Item)
+itemsBy ds = map (map ownItem) ds
+
+-- the item of a header
+abbrev pub headItem : List ℕ → Item
+headItem header = ownItem (record { kind = Im; bytes = header })
+
+-- a disposition's items: a D, and others that are none
+details-shut : (rs : List Typed) → All Detail (kindsOf rs) → All (λ (it : Item). isD it ≡ false) (map ownItem rs)
+details-shut [] details = tt
+details-shut (r ∷ rs) details = (detail-opens (r .kind) (details .0), details-shut rs (details .1))
+
+items-open : (ds : List (List Typed)) → InShape ds → All (Opens isD) (itemsBy ds)
+items-open [] shape = tt
+items-open (d ∷ ds) shape = (go d (opened-so d (shape .0)), items-open ds (shape .1))
+  where
+    go : (d : List Typed) → Opened d → Opens isD (map ownItem d)
+    go d (opened-by r rs e details) = record { first = ownItem r; others = map ownItem rs; whole = refl; passes = ap opens e; none = details-shut rs details }
+
+-- so the list of a flow is its header's item and its dispositions', and the ledger finds them there
+module _ (f : List ℕ) (d c n : ℕ) (g : Grammar f d c n) where
+  abbrev head : Item
+  head = headItem (g .parts .header)
+
+  abbrev ds : List (List Typed)
+  ds = g .parts .dispositions
+
+  pub listed-so : itemsOf f ≡ head ∷ flatten (itemsBy ds)
+  listed-so = own-list-items f d c n g ∙ ap (λ (l : List Item). head ∷ l) (map-flatten ownItem ds)
+
+  head-so : headOf (itemsOf f) ≡ head ∷ []
+  unfolding lead
+  head-so = ap headOf listed-so ∙ ap (λ (l : List Item). head ∷ l) (lead-joined isD (itemsBy ds) (items-open ds (grammar-shape f d c n g)))
+
+  dispositions-so : dispositions (itemsOf f) ≡ itemsBy ds
+  unfolding groups
+  dispositions-so = ap dispositions listed-so ∙ groups-joined isD (itemsBy ds) (items-open ds (grammar-shape f d c n g))
+
+-- disposition k among them
+module _ (f : List ℕ) (k d c n first m a : ℕ) (w : Among f k d c n first m a) where
+  abbrev own : Item
+  own = headItem (w .grammar .parts .header)
+
+  abbrev before : List (List Item)
+  before = itemsBy (w .pre)
+
+  abbrev here : List Item
+  here = map ownItem (w .this)
+
+  abbrev behind : List (List Item)
+  behind = itemsBy (w .post)
+
+  found-so : dispositions (itemsOf f) ≡ before ++ (here ∷ behind)
+  found-so = dispositions-so f d c n (w .grammar) ∙ ap itemsBy (w .split) ∙ map-append (map ownItem) (w .pre) (w .this ∷ w .post)
+
+  before-count : length before ≡ k - 1
+  before-count = length-map (w .pre) (map ownItem) ∙ omega (arith, w .numbered)
+
+  taken : take (k - 1) (dispositions (itemsOf f)) ≡ before
+  taken = ap (take (k - 1)) found-so ∙ take-at before (here ∷ behind) (k - 1) before-count
+
+  dropped : drop k (dispositions (itemsOf f)) ≡ behind
+  dropped =
+      let ends : length (before ++ (here ∷ [])) ≡ k = length-append before (here ∷ []) ∙ omega (arith, before-count, w .numbered) in
+      ap (drop k) (found-so ∙ sym (append-assoc before (here ∷ []) behind)) ∙ drop-at (before ++ (here ∷ [])) behind k ends
+
+  picked : getD (dispositions (itemsOf f)) (k - 1) [] ≡ here
+  picked = ap (λ (l : List (List Item)). getD l (k - 1) []) found-so ∙ getD-at before here behind [] (k - 1) before-count
+
+  pub without-listed : withoutDisposition k (itemsOf f) ≡ own ∷ flatten (before ++ behind)
+  unfolding withoutDisposition
+  without-listed = λ i. head-so f d c n (w .grammar) i ++ flatten (taken i ++ dropped i)
+
+  pub amount-listed : (new : ℕ) → withAmount k new (itemsOf f) ≡ own ∷ flatten (before ++ (firstRepriced new here ∷ behind))
+  unfolding withAmount
+  amount-listed new = λ i. head-so f d c n (w .grammar) i ++ flatten (taken i ++ (firstRepriced new (picked i) ∷ dropped i))
+
+-- bytes carried from behind the number are not touched by another number
+gather-kept :
+    (ss : List Span) (rec other : List ℕ) → All (λ (t : Span). 10 ≤ first t - 1) ss → ((a n : ℕ) → 10 ≤ a → part a n other ≡ part a n rec) → gather ss other ≡ gather ss rec
+unfolding flatten
+gather-kept [] rec other behind same = refl
+gather-kept ((a to e) ∷ ss) rec other behind same =
+    ap₂ (λ (xs ys : List ℕ). xs ++ ys) (same (a - 1) (e - (a - 1)) (behind .0)) (gather-kept ss rec other (behind .1) same)
+
+carried-kept : (r : Typed) (j : ℕ) → length (r .bytes) ≡ 120 → All (λ (t : Span). 10 ≤ first t - 1) (carried (r .kind)) → ownItem (retyped j r) ≡ ownItem r
+carried-kept r j whole behind = ap (item (r .kind)) (gather-kept (carried (r .kind)) (r .bytes) (renumbered j (r .bytes)) behind (λ a n h. over-kept 3 7 j (r .bytes) whole (omega arith) a n (inr h)))
+
+opening-behind : (k : Kind) → k ≡ R14 → All (λ (t : Span). 10 ≤ first t - 1) (carried k)
+opening-behind k e = subst (λ (l : Kind). All (λ (t : Span). 10 ≤ first t - 1) (carried l)) (sym e) (omega arith, (omega arith, (omega arith, (omega arith, tt))))
+
+module _ (abi : List ℕ) where
+  details-kept : (i j : ℕ) (rs : List Typed) → All Detail (kindsOf rs) → All (Member abi i) rs → map ownItem (map (retyped j) rs) ≡ map ownItem rs
+  details-kept i j [] details members = refl
+  details-kept i j (r ∷ rs) details members =
+      ap₂ (λ (x : Item) (xs : List Item). x ∷ xs) (carried-kept r j (members .0 .0 .whole) (detail-behind (r .kind) (details .0))) (details-kept i j rs (details .1) (members .1))
+
+  pub items-retyped : (i j : ℕ) (d : List Typed) → RightDisposition abi i d → map ownItem (map (retyped j) d) ≡ map ownItem d
+  items-retyped i j d right = go d (opened-so d (right .order)) (right .records)
+    where
+      go : (d : List Typed) → Opened d → All (Member abi i) d → map ownItem (map (retyped j) d) ≡ map ownItem d
+      go d (opened-by r rs e details) members =
+          ap₂ (λ (x : Item) (xs : List Item). x ∷ xs) (carried-kept r j (members .0 .0 .whole) (opening-behind (r .kind) e)) (details-kept i j rs details (members .1))
+
+  -- so dispositions that are numbered anew have the same items
+  pub typed-items : (i j : ℕ) (ds : List (List Typed)) → Numbered abi i ds → itemsBy (typedFrom j ds) ≡ itemsBy ds
+  typed-items i j [] each = refl
+  typed-items i j (d ∷ ds) each = ap₂ (λ (x : List Item) (xs : List (List Item)). x ∷ xs) (items-retyped i j d (each .0)) (typed-items (suc i) (suc j) ds (each .1))
+
+-- and another amount in a 14 is another amount in its D
+gather-repriced : (new : ℕ) (rec : List ℕ) → length rec ≡ 120 → gather (carried R14) (Kept·repriced new rec) ≡ put 6 (digits 13 new) (gather (carried R14) rec)
+unfolding flatten
+gather-repriced new rec whole =
+    let other = Kept·repriced new rec in
+    let size = written-length 13 new in
+    let fits : 33 + length (digits 13 new) ≤ length rec = omega arith in
+    let kept : (b w : ℕ) → (b + w ≤ 33) ⊎ (46 ≤ b) → part b w other ≡ part b w rec = over-kept 33 13 new rec whole (omega arith) in
+    let here : part 33 13 other ≡ digits 13 new = ap (λ (w : ℕ). part 33 w other) (sym size) ∙ part-put 33 (digits 13 new) rec fits in
+    let front = kept 22 6 (inl (omega arith)) in
+    let third = kept 52 17 (inr (omega arith)) in
+    let fourth = kept 91 22 (inr (omega arith)) in
+    (λ i. front i ++ (here i ++ (third i ++ (fourth i ++ []))))
+    ∙ sym (put-at 6 (part 22 6 rec) (part 33 13 rec) (part 52 17 rec ++ (part 91 22 rec ++ [])) (digits 13 new) (part-length 22 6 rec (omega arith)) (part-length 33 13 rec (omega arith) ∙ sym size))
+
+module _ (new : ℕ) where
+  opening-item : (r : Typed) → r .kind ≡ R14 → length (r .bytes) ≡ 120 → ownItem (record { kind = r .kind; bytes = Kept·repriced new (r .bytes) }) ≡ repriced new (ownItem r)
+  opening-item r e whole =
+      ap (item (r .kind))
+      (subst (λ (k : Kind). gather (carried k) (Kept·repriced new (r .bytes)) ≡ put 6 (digits 13 new) (gather (carried k) (r .bytes))) (sym e) (gather-repriced new (r .bytes) whole))
+
+  pub items-retold : (abi : List ℕ) (i : ℕ) (d : List Typed) → RightDisposition abi i d → map ownItem (retold new d) ≡ firstRepriced new (map ownItem d)
+  items-retold abi i d right = go d (opened-so d (right .order)) (right .records)
+    where
+      go : (d : List Typed) → Opened d → All (Member abi i) d → map ownItem (retold new d) ≡ firstRepriced new (map ownItem d)
+      go d (opened-by r rs e details) members = ap (λ (x : Item). x ∷ map ownItem rs) (opening-item r e (members .0 .0 .whole))
+
+-- the cents of items
+cents-append : (xs ys : List Item) → centsOf (xs ++ ys) ≡ centsOf xs + centsOf ys
+unfolding centsOf
+cents-append [] ys = omega arith
+cents-append (x ∷ xs) ys = omega (arith, cents-append xs ys)
+
+details-cents : (rs : List Typed) → All Detail (kindsOf rs) → centsOf (map ownItem rs) ≡ 0
+unfolding centsOf
+details-cents [] details = refl
+details-cents (r ∷ rs) details =
+    let none : amountOf (ownItem r) ≡ 0 = ap (λ (b : Bool). cond b (number (carriedAt R14 34 46 (ownItem r .body))) 0) (detail-opens (r .kind) (details .0)) in
+    omega (arith, details-cents rs (details .1))
+
+opening-cents : (r : Typed) → r .kind ≡ R14 → length (r .bytes) ≡ 120 → amountOf (ownItem r) ≡ number (field 34 46 (r .bytes))
+opening-cents r e whole =
+    subst (λ (k : Kind). amountOf (item k (gather (carried k) (r .bytes))) ≡ number (field 34 46 (r .bytes))) (sym e)
+    (ap number (gather-at (carried R14) 34 46 (r .bytes) (carried-within R14) whole refl))
+
+disposition-cents : (abi : List ℕ) (i : ℕ) (d : List Typed) → RightDisposition abi i d → centsOf (map ownItem d) ≡ Grammar·amountOf d
+unfolding centsOf
+disposition-cents abi i d right = go d (opened-so d (right .order)) (right .records)
+  where
+    go : (d : List Typed) → Opened d → All (Member abi i) d → centsOf (map ownItem d) ≡ Grammar·amountOf d
+    go d (opened-by r rs e details) members = omega (arith, opening-cents r e (members .0 .0 .whole), details-cents rs details)
+
+pub items-cents : (abi : List ℕ) (i : ℕ) (ds : List (List Typed)) → Numbered abi i ds → centsOf (flatten (itemsBy ds)) ≡ amounts ds
+unfolding centsOf flatten
+items-cents abi i [] each = refl
+items-cents abi i (d ∷ ds) each =
+    cents-append (map ownItem d) (flatten (itemsBy ds)) ∙ omega (arith, disposition-cents abi i d (each .0), items-cents abi (suc i) ds (each .1))

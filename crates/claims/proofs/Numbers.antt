@@ -1,0 +1,230 @@
+-- Each call is refused by one of the numbers that document 01 gives it. Assumes nothing.
+use Prim.Native.Nat.{ℕ, _+_, _≤_, _<_}
+use mathlib.Core.Bool.{Bool, true, false, cond, _&&_, _||_, or-true, true≢false}
+use mathlib.Core.List.{List, [], _∷_, _++_, flatten}
+use mathlib.Core.Logic.{_↔_, _⊎_, inl, inr}
+use mathlib.Core.Path.{_≡_, refl, sym, _∙_, ap, subst}
+use native.Mathlib.Omega.{arith}
+use lib.Dec.{eqb}
+use lib.ListN.{length}
+use borrow.Author.Tests.{eqb-true, eq-eqb}
+use Rattle.sequences.specs.All.{All}
+use Rattle.sequences.specs.Every.{every}
+use Rattle.sequences.proofs.All.{all-at}
+use Rattle.fields.specs.Calendar.{Gregorian}
+use Rattle.fields.specs.Date.{dayOf}
+use Rattle.fields.specs.Laws.{SixDigits}
+use Rattle.fields.proofs.DigitField.{field-refused, amount-refused}
+use Rattle.fields.proofs.Gregorian.{date-refused}
+use Rattle.records.specs.Checks.{isListed, checks}
+use Rattle.records.specs.Context.{Header, Context}
+use Rattle.records.specs.Field.{field}
+use Rattle.records.specs.Finding.{Check, check, right, firstFault}
+use Rattle.records.specs.Finding.{refused as Finding·refused}
+use Rattle.records.specs.Judge.{asked}
+use Rattle.records.specs.Judge.{judge as Record·judge}
+use Rattle.records.specs.Kinds.{typeOf}
+use Rattle.records.specs.declared.kind.Kind.{Kind}
+use Rattle.records.specs.declared.kind.Kind.the-variants.{Ef}
+use Rattle.records.proofs.ByKind.{types-differ}
+use Rattle.records.proofs.EachKind.{each-kind}
+use Rattle.records.proofs.FirstFault.{right-not-refused}
+use Rattle.records.proofs.Numbers.{numbersOf, refused-by}
+use Rattle.flow.specs.Find.{find}
+use Rattle.flow.specs.Find.{refused as Located·refused}
+use Rattle.flow.specs.Judge.{judge}
+use Rattle.flow.specs.Records.{recordsOf}
+use Rattle.flow.specs.Steps.{opened, judgeRecord}
+use Rattle.flow.specs.Verdict.{accepted, refused}
+use Rattle.flow.specs.declared.walk.Walk.{Walk}
+use Rattle.flow.proofs.Cut.{joined-records}
+use Rattle.flow.proofs.Dispositions.{find-refused}
+use Rattle.flow.proofs.Sought.{seek-exact}
+use Rattle.grammar.specs.Fault.{Fault, bad-byte, wrong-type, broken, FirstFault, wrong-length, in-record, still-due}
+use Rattle.grammar.proofs.AtPlace.{FaultAt, place-fault-exact}
+use Rattle.grammar.proofs.FirstFault.{first-fault-exact}
+use Rattle.list.specs.Encode.{headerBehind, encodeItem, encodeFrom, recordsFor}
+use Rattle.list.specs.Items.{Item, Proper}
+use Rattle.list.specs.Laws.{WriteFault, no-item, too-many, no-room, no-trailer, too-much}
+use Rattle.list.specs.Laws.{in-record as Write·in-record}
+use Rattle.list.specs.ReadBack.{listOf}
+use Rattle.list.specs.Table.{hasItem}
+use Rattle.list.proofs.AllRecords.{encoded-whole, encoded-count}
+use Rattle.list.proofs.Answered.{read-back-refused}
+use Rattle.list.proofs.ListItems.{items-exact}
+use Rattle.list.proofs.OneRecord.{encoded-type}
+use Rattle.list.proofs.WriteRefused.{write-refused}
+use Rattle.amend.specs.Laws.{ChangeFault, not-read, no-disposition, amount-too-large, total-too-large, WithdrawFault, only-one}
+use Rattle.amend.proofs.Answered.{change-refused, withdraw-refused}
+use Rattle.claims.specs.Demand1.{OneOf, recordNumbers, placeNumbers, readingNumbers, findingNumbers, writingNumbers, readingBackNumbers, changeNumbers, withdrawalNumbers, NumbersGiven}
+
+-- numbers that are all among others, as a test that computes; and one of the first is one of the others
+abbrev areAmong : List ℕ → List ℕ → Bool
+areAmong ns ms = every (λ (m : ℕ). isListed m ns) ms
+
+among : (ns ms : List ℕ) (n : ℕ) → areAmong ns ms ≡ true → OneOf ms n → OneOf ns n
+unfolding every isListed
+among ns [] n all h = absurd (true≢false (sym h))
+among ns (m ∷ ms) n all h = by (eqb n m) refl (isListed m ns) refl all h (among ns ms n)
+  where
+    by : (a : Bool) → eqb n m ≡ a → (b : Bool) → isListed m ns ≡ b → (b && areAmong ns ms) ≡ true → (a || isListed n ms) ≡ true → (areAmong ns ms ≡ true → OneOf ms n → OneOf ns n) → OneOf ns n
+    by true e true l all h rest = subst (OneOf ns) (sym (eqb-true n m e)) l
+    by false e true l all h rest = rest all h
+    by a e false l all h rest = absurd (true≢false (sym all))
+
+-- a check's number is one of theirs
+broken-number : (held others : List Check) (n p : ℕ) → OneOf (numbersOf (held ++ (check false n p ∷ others))) n
+unfolding isListed
+broken-number [] others n p = rw (eq-eqb n n refl)
+broken-number (check holds m q ∷ held) others n p = rw (broken-number held others n p, or-true)
+
+-- a record's fault: 2, 3, or a number of the row of its kind
+fault-number :
+    (ns : List ℕ) {may : Kind → Type 0} {asked : Kind → Context} {rec : List ℕ} {n p : ℕ}
+    → areAmong ns (2 ∷ 3 ∷ []) ≡ true → ((k : Kind) → field 2 3 rec ≡ typeOf k → (m : ℕ) → OneOf (numbersOf (checks k (asked k) rec)) m → OneOf ns m)
+    → Fault may asked rec n p → OneOf ns n
+unfolding isListed
+fault-number ns all rows (bad-byte bs b cs same before bad) = among ns (2 ∷ 3 ∷ []) 2 all refl
+fault-number ns all rows (wrong-type printable none) = among ns (2 ∷ 3 ∷ []) 3 all refl
+fault-number ns all rows (broken k n p printable type permitted (held, others, same, h)) =
+    rows k type n (subst (λ (cs : List Check). OneOf (numbersOf cs) n) (sym same) (broken-number held others n p))
+
+-- one record: the numbers of every row, and 1 for its length
+row-number : (ctx : Context) (rec : List ℕ) (k : Kind) (n : ℕ) → OneOf (numbersOf (checks k ctx rec)) n → OneOf recordNumbers n
+unfolding every isListed checks
+row-number ctx rec k n h =
+    among recordNumbers (numbersOf (checks k ctx rec)) n
+    (each-kind (λ (k : Kind). areAmong recordNumbers (numbersOf (checks k ctx rec)) ≡ true) (refl, (refl, (refl, (refl, (refl, (refl, (refl, (refl, (refl, (refl, (refl, tt))))))))))) k) h
+
+record-judging : (k : Kind) (ctx : Context) (rec : List ℕ) (n p : ℕ) → Record·judge k ctx rec ≡ Finding·refused n p → OneOf recordNumbers n
+unfolding Record·judge isListed
+record-judging k ctx rec n p = by (eqb (length rec) 120)
+  where
+    told : (isListed n (numbersOf (checks k ctx rec)) ≡ true) ⊎ (right k (asked k rec) ≡ Finding·refused n p) → OneOf recordNumbers n
+    told (inl h) = row-number ctx rec k n h
+    told (inr h) = absurd (right-not-refused (sym h))
+
+    by : (b : Bool) → cond b (firstFault (checks k ctx rec) (right k (asked k rec))) (Finding·refused 1 0) ≡ Finding·refused n p → OneOf recordNumbers n
+    by true e = told (refused-by (checks k ctx rec) (right k (asked k rec)) n p e)
+    by false e = let one : 1 ≡ n = cc in subst (OneOf recordNumbers) one refl
+
+-- at its place
+place-number : {may : Kind → Type 0} {asked : Kind → Context} {rec : List ℕ} {n p : ℕ} → Fault may asked rec n p → OneOf placeNumbers n
+unfolding every isListed
+place-number {rec = rec} fault = fault-number placeNumbers refl (λ k type m h. among placeNumbers recordNumbers m refl (row-number _ rec k m h)) fault
+
+walking : (header : Header) (w : Walk) (company : List ℕ) (i : ℕ) (rec : List ℕ) (n p : ℕ) → judgeRecord header w company i rec ≡ Finding·refused n p → OneOf placeNumbers n
+unfolding isListed
+walking header w company i rec n p e = by (eqb (length rec) 120) refl
+  where
+    exact : (length rec ≡ 120 → (n p : ℕ) → (judgeRecord header w company i rec ≡ Finding·refused n p) ↔ FaultAt header w company i rec n p) × (¬ (length rec ≡ 120) → judgeRecord header w company i rec ≡ Finding·refused 1 0)
+    exact = place-fault-exact header w company i rec
+
+    by : (b : Bool) → eqb (length rec) 120 ≡ b → OneOf placeNumbers n
+    by true t = place-number (exact .0 (eqb-true (length rec) 120 t) n p .0 e)
+    by false t =
+        let same : Finding·refused 1 0 ≡ Finding·refused n p = sym (exact .1 (λ whole. true≢false (sym (eq-eqb (length rec) 120 whole) ∙ t))) ∙ e in
+        let one : 1 ≡ n = cc in
+        subst (OneOf placeNumbers) one refl
+
+-- reading
+read-number : {f : List ℕ} {n r p : ℕ} → FirstFault f n r p → OneOf readingNumbers n
+unfolding every isListed
+read-number (wrong-length wrong) = refl
+read-number (in-record before rec behind n p sized same each fault) = among readingNumbers placeNumbers n refl (place-number fault)
+read-number (still-due sized each none) = refl
+
+reading : (f : List ℕ) (n r p : ℕ) → judge f ≡ refused n r p → OneOf readingNumbers n
+reading f n r p e = read-number (first-fault-exact f n r p .0 e)
+
+-- where a disposition is
+finding : (f : List ℕ) (k n r p : ℕ) → find f k ≡ Located·refused n r p → OneOf findingNumbers n
+unfolding every isListed
+finding f k n r p e = by (find-refused f k n r p .0 e)
+  where
+    by : (judge f ≡ refused n r p) ⊎ ((d c m : ℕ) × (judge f ≡ accepted d c m) × ¬ ((1 ≤ k) × (k ≤ d)) × (n ≡ 15) × (r ≡ 0) × (p ≡ 0)) → OneOf findingNumbers n
+    by (inl wrong) = among findingNumbers readingNumbers n refl (reading f n r p wrong)
+    by (inr (d, c, m, read, none, number, none-of, position)) = rw number
+
+-- writing: those of every row but that of EF, which no item encodes
+writing-row : (ctx : Context) (rec : List ℕ) (k : Kind) → ¬ (k ≡ Ef) → areAmong writingNumbers (numbersOf (checks k ctx rec)) ≡ true
+unfolding every isListed checks
+writing-row ctx rec =
+    each-kind (λ (k : Kind). ¬ (k ≡ Ef) → areAmong writingNumbers (numbersOf (checks k ctx rec)) ≡ true)
+    (λ h. refl, (λ h. refl, (λ h. refl, (λ h. refl, (λ h. refl, (λ h. refl, (λ h. refl, (λ h. refl, (λ h. refl, (λ h. refl, (λ h. absurd (h refl), tt)))))))))))
+
+no-trailers : (n : ℕ) (header : List ℕ) (is : List Item) → All Proper is → All (λ (rec : List ℕ). ¬ (field 2 3 rec ≡ typeOf Ef)) (encodeFrom n header is)
+unfolding encodeFrom
+no-trailers n header [] proper = tt
+no-trailers n header (it ∷ is) proper = (other, no-trailers (n + opened (it .kind)) (headerBehind header it) is (proper .1))
+  where
+    other : ¬ (field 2 3 (encodeItem (n + opened (it .kind)) header it) ≡ typeOf Ef)
+    other e =
+        let same : it .kind ≡ Ef = types-differ (it .kind) Ef (sym (encoded-type _ header it (proper .0)) ∙ e) in
+        true≢false (sym (proper .0 .listed) ∙ ap hasItem same)
+
+module _ (is : List Item) (proper : All Proper is) where
+  abbrev own : recordsOf (flatten (recordsFor is)) ≡ recordsFor is
+  own = joined-records (recordsFor is) (encoded-whole 0 [] is proper)
+
+  encoded-number : {n r p : ℕ} → FirstFault (flatten (recordsFor is)) n r p → 1 ≤ r → r ≤ length is → OneOf writingNumbers n
+  unfolding every isListed
+  encoded-number (wrong-length wrong) some within = absurd (omega arith)
+  encoded-number (in-record before rec behind n p sized same each fault) some within =
+      let other = all-at (λ (l : List ℕ). ¬ (field 2 3 l ≡ typeOf Ef)) before rec behind (subst (All (λ (l : List ℕ). ¬ (field 2 3 l ≡ typeOf Ef))) (sym own ∙ same) (no-trailers 0 [] is proper)) in
+      fault-number writingNumbers refl (λ k type m h. among writingNumbers (numbersOf (checks k _ rec)) m (writing-row _ rec k (λ e. other (type ∙ ap typeOf e))) h) fault
+  encoded-number (still-due sized each none) some within =
+      let count : length (recordsOf (flatten (recordsFor is))) ≡ length is = ap (λ (l : List (List ℕ)). length l) own ∙ encoded-count 0 [] is in
+      absurd (omega arith)
+
+write-number : {list : List ℕ} {room n r p : ℕ} → WriteFault list room n r p → OneOf writingNumbers n
+unfolding isListed
+write-number (no-item n at) = refl
+write-number (too-many is said many) = refl
+write-number (no-room is said few short) = refl
+write-number {list} (Write·in-record is n r p fits e some within) =
+    encoded-number is (items-exact list is .0 (fits .said) .1) (first-fault-exact (flatten (recordsFor is)) n r p .0 e) some within
+write-number (no-trailer is fits each none) = refl
+write-number (too-much is fits each follows much) = refl
+
+-- the calls that read first, and then have numbers of their own
+change-number : {f : List ℕ} {k new n r p : ℕ} → ChangeFault f k new n r p → OneOf changeNumbers n
+unfolding every isListed
+change-number {f} (not-read e r p refusal) = among changeNumbers readingNumbers e refl (reading f e r p refusal)
+change-number (no-disposition d c n read none) = refl
+change-number (amount-too-large d c n read some large) = refl
+change-number (total-too-large d c n first m a read found small large) = refl
+
+withdraw-number : {f : List ℕ} {k n r p : ℕ} → WithdrawFault f k n r p → OneOf withdrawalNumbers n
+unfolding every isListed
+withdraw-number {f} (not-read e r p refusal) = among withdrawalNumbers readingNumbers e refl (reading f e r p refusal)
+withdraw-number (no-disposition d c n read none) = refl
+withdraw-number (only-one c n read one) = refl
+
+pub numbers-given : NumbersGiven
+unfolding every isListed
+numbers-given =
+    record {
+      digits = λ bs n e. rw (field-refused bs n .0 e .0);
+      amount = λ bs n e. rw (amount-refused bs n .0 e .0);
+      date = λ bs n e. by-date bs n (date-refused bs n .0 e);
+      record-judging = record-judging;
+      walking = walking;
+      reading = reading;
+      finding = finding;
+      seeking = λ f k n r p e. finding f k n r p (seek-exact f k .1 n r p .0 e);
+      writing = λ list room n r p e. write-number (write-refused list room n r p .0 e);
+      reading-back = λ f room n r p e. by-room f room n r p (read-back-refused f room n r p .0 e);
+      changing = λ f k new n r p e. change-number (change-refused f k new n r p .0 e);
+      withdrawing = λ f k n r p e. withdraw-number (withdraw-refused f k n r p .0 e);
+    }
+  where
+    by-date : (bs : List ℕ) (n : ℕ) → ((n ≡ 5) × ¬ SixDigits bs) ⊎ ((n ≡ 8) × SixDigits bs × ¬ Gregorian (dayOf bs)) → OneOf (5 ∷ 8 ∷ []) n
+    by-date bs n (inl h) = rw (h .0)
+    by-date bs n (inr h) = rw (h .0)
+
+    by-room :
+        (f : List ℕ) (room n r p : ℕ) → (judge f ≡ refused n r p) ⊎ ((d c m : ℕ) × (judge f ≡ accepted d c m) × (room < length (listOf f)) × (n ≡ 21) × (r ≡ 0) × (p ≡ 0))
+        → OneOf readingBackNumbers n
+    by-room f room n r p (inl e) = among readingBackNumbers readingNumbers n refl (reading f n r p e)
+    by-room f room n r p (inr (d, c, m, e, short, number, none-of, position)) = rw number

@@ -1,0 +1,261 @@
+-- One call on an accepted flow, beside one entry of the ledger. Assumes nothing.
+use Prim.Native.Nat.{ℕ, suc, _+_, _-_, _*_, _≤_, _<_}
+use mathlib.Core.Bool.{Bool, true, false, cond, _&&_}
+use mathlib.Core.List.{List, [], _∷_, _++_, append-nil, map, map-append, flatten}
+use mathlib.Core.Logic.{_⊎_, inl, inr}
+use mathlib.Core.Path.{_≡_, refl, sym, _∙_, ap, ap₂, subst}
+use native.Mathlib.Omega.{arith}
+use lib.Dec.{leb, ltb}
+use lib.ListN.{length, take, replicate}
+use lib.Seq.{take-length}
+use borrow.Author.Tests.{leb-true, leb-false, le-leb, lt-leb, lt-ltb, le-ltb}
+use Rattle.records.specs.Context.{headerOf}
+use Rattle.flow.specs.Find.{standing, find}
+use Rattle.flow.specs.Judge.{judge}
+use Rattle.flow.specs.Seek.{Target, target, seek}
+use Rattle.flow.specs.Verdict.{Verdict, accepted}
+use Rattle.flow.specs.Verdict.{refused as Verdict·refused}
+use Rattle.flow.proofs.Accepted.{accepted-not-refused}
+use Rattle.flow.proofs.Sought.{apart, read-found, sought-read}
+use Rattle.grammar.specs.Grammar.{Typed, amountOf, Grammar}
+use Rattle.grammar.proofs.Grammar.{grammar-exact}
+use Rattle.list.specs.Encode.{dispositionsOf, centsOf}
+use Rattle.list.specs.Items.{Item}
+use Rattle.list.specs.ReadBack.{itemsOf, Canonical}
+use Rattle.list.proofs.RecordsAgain.{ownItem}
+use Rattle.list.proofs.Rewritten.{own-list-items, own-sums, items-so}
+use Rattle.amend.specs.Amended.{Amended, unchanged}
+use Rattle.amend.specs.Change.{changed as Change·changed}
+use Rattle.amend.specs.Change.{change as Change·change}
+use Rattle.amend.specs.Laws.{Numbers, ChangeFault, not-read, no-disposition, amount-too-large, total-too-large, WithdrawFault, only-one, flowLeft}
+use Rattle.amend.specs.Withdraw.{withdraw as Withdraw·withdraw, withdrawn as Withdraw·withdrawn}
+use Rattle.amend.proofs.Among.{Among, among-so, restOf, changedOf}
+use Rattle.amend.proofs.Answered.{Changing, changing, changes, Withdrawing, withdrawing, withdraws, refuses, changed-grammar, withdrawn-grammar, refused-untouched, seeking, Seeking, stands, unread, none}
+use Rattle.amend.proofs.Leaving.{change-touches, withdraw-touches, changedFlow, changed-read, changed-size, changed-whole, withdrawnFlow, withdrawn-read, withdrawn-length, withdrawn-size, withdrawn-front}
+use Rattle.amend.proofs.Left.{amounts, typedFrom, retold, here, behind, changed-cents, changed-numbered}
+use Rattle.claims.specs.Demand3.{Touched}
+use Rattle.claims.specs.Ledger.{Call, change, withdraw, Reply, changed, withdrawn, refused, Entry, refusal, has, withAmount, withoutDisposition, changeLeaving, changeOn, withdrawLeaving, withdrawOn, entry, firstRepriced}
+use Rattle.claims.specs.Run.{amend, replyOf}
+use Rattle.claims.proofs.Canonical.{changed-canonical, withdrawn-canonical}
+use Rattle.claims.proofs.Listed.{itemsBy, headItem, listed-so, without-listed, amount-listed, typed-items, items-retold, items-cents}
+
+-- what a call leaves of the flow f, beside the ledger's entry
+pub record Step (f : List ℕ) (call : Call) (a : Amended) (e : Entry) : Type 0 where
+  pub read : judge (flowLeft a) ≡ accepted (dispositionsOf (e .items)) (centsOf (e .items)) (suc (length (e .items)))
+  pub items : itemsOf (flowLeft a) ≡ e .items
+  pub reply : replyOf call a ≡ e .reply
+  pub canonical : Canonical f → Canonical (flowLeft a)
+  pub sized : length (flowLeft a) ≡ a .size
+  pub within : a .size ≤ length f
+  pub memory : a .bytes ≡ flowLeft a ++ replicate (length f - a .size) 32
+
+-- the numbers of an accepted flow are those of its list
+pub numbers-listed : (f : List ℕ) (d c n : ℕ) → judge f ≡ accepted d c n → (dispositionsOf (itemsOf f) ≡ d) × (centsOf (itemsOf f) ≡ c) × (suc (length (itemsOf f)) ≡ n)
+numbers-listed f d c n read =
+    let g = grammar-exact f d c n .0 read in
+    let own = own-list-items f d c n g in
+    let sums = own-sums f d c n g in
+    (ap dispositionsOf own ∙ sums .0, ap centsOf own ∙ sums .1, ap (λ (is : List Item). suc (length is)) own ∙ items-so f d c n g)
+
+pub list-numbers : (f : List ℕ) {d c n : ℕ} → judge f ≡ accepted d c n → judge f ≡ accepted (dispositionsOf (itemsOf f)) (centsOf (itemsOf f)) (suc (length (itemsOf f)))
+list-numbers f {d} {c} {n} read =
+    let same = numbers-listed f d c n read in
+    read ∙ (λ i. accepted (sym (same .0) i) (sym (same .1) i) (sym (same .2) i))
+
+-- what is left is known as a flow and as a list
+left-step :
+    (f : List ℕ) (call : Call) (x : Amended) (e : Entry) (left : List ℕ) {d c n : ℕ} → flowLeft x ≡ left → judge left ≡ accepted d c n → itemsOf left ≡ e .items → replyOf call x ≡ e .reply
+    → (Canonical f → Canonical left) → length left ≡ x .size → x .size ≤ length f → x .bytes ≡ left ++ replicate (length f - x .size) 32 → Step f call x e
+left-step f call x e left own read listed reply canonical size within memory =
+    record {
+      read = ap judge own ∙ list-numbers left read ∙ ap (λ (l : List Item). accepted (dispositionsOf l) (centsOf l) (suc (length l))) listed;
+      items = ap itemsOf own ∙ listed;
+      reply = reply;
+      canonical = λ c. subst Canonical (sym own) (canonical c);
+      sized = ap (λ (l : List ℕ). length l) own ∙ size;
+      within = within;
+      memory = memory ∙ ap (λ (l : List ℕ). l ++ replicate (length f - x .size) 32) (sym own);
+    }
+
+-- a flow that is left at its length has no blanks behind it
+whole-memory : (f left : List ℕ) → left ≡ left ++ replicate (length f - length f) 32
+whole-memory f left = let none-left : length f - length f ≡ 0 = omega arith in sym (append-nil left) ∙ ap (λ (m : ℕ). left ++ replicate m 32) (sym none-left)
+
+-- whether the ledger has a disposition k
+has-number : (k d : ℕ) (is : List Item) → dispositionsOf is ≡ d → Numbers k d → has k is ≡ true
+has-number k d is count numbers =
+    let low : leb 1 k ≡ true = le-leb 1 k (numbers .0) in
+    let high : leb k (dispositionsOf is) ≡ true = ap (leb k) count ∙ le-leb k d (numbers .1) in
+    ap₂ (λ (a b : Bool). a && b) low high
+
+has-none : (k d : ℕ) (is : List Item) → dispositionsOf is ≡ d → ¬ Numbers k d → has k is ≡ false
+has-none k d is count absent = by (leb 1 k) (leb k d) refl refl
+  where
+    by : (a b : Bool) → leb 1 k ≡ a → leb k d ≡ b → has k is ≡ false
+    by false b low high = ap₂ (λ (x y : Bool). x && y) low (ap (leb k) count ∙ high)
+    by true false low high = ap₂ (λ (x y : Bool). x && y) low (ap (leb k) count ∙ high)
+    by true true low high = absurd (absent (leb-true 1 k low, leb-true k d high))
+
+-- a refused call beside a refusal on the ledger
+module _ (f : List ℕ) (d c n : ℕ) (read : judge f ≡ accepted d c n) where
+  abbrev is : List Item
+  is = itemsOf f
+
+  kept-alone : (call : Call) (number : ℕ) → (e : Entry) → e ≡ refusal number is → Step f call (unchanged number 0 0 f) e
+  kept-alone call number e same =
+      subst (Step f call (unchanged number 0 0 f)) (sym same)
+      (left-step f call (unchanged number 0 0 f) (refusal number is) f (take-length f) read refl (told call) (λ canonical. canonical) refl (omega arith) (whole-memory f f))
+    where
+      told : (call : Call) → replyOf call (unchanged number 0 0 f) ≡ refused number 0 0
+      told (change k new) = refl
+      told (withdraw k) = refl
+
+  count : dispositionsOf is ≡ d
+  count = numbers-listed f d c n read .0
+
+  numbers-same : (k d′ c′ n′ : ℕ) → judge f ≡ accepted d′ c′ n′ → (Numbers k d′ → Numbers k d) × (Numbers k d → Numbers k d′)
+  numbers-same k d′ c′ n′ other =
+      let same : accepted d′ c′ n′ ≡ accepted d c n = sym other ∙ read in
+      let equal : d′ ≡ d = cc in
+      (subst (Numbers k) equal, subst (Numbers k) (sym equal))
+
+  found-number : (k d′ c′ n′ first m a : ℕ) → seek f k ≡ target d′ c′ n′ first m a → Numbers k d
+  found-number k d′ c′ n′ first m a found = go (seek f k) (seeking f k) found
+    where
+      go : (t : Target) → Seeking f k t → t ≡ target d′ c′ n′ first m a → Numbers k d
+      go t (unread wrong) e = absurd (apart e)
+      go t (none other absent) e = absurd (apart e)
+      go t (stands {d = d₀} {c = c₀} {n = n₀} other place numbers) e = numbers-same k d₀ c₀ n₀ other .0 numbers
+
+  -- another amount on the ledger, and in the flow
+  module _ (k new d′ c′ n′ first m a : ℕ) (found : seek f k ≡ target d′ c′ n′ first m a) (small : new ≤ 9999999999999) where
+    abbrev w : Among f k d′ c′ n′ first m a
+    w = among-so f k found
+
+    below : new < 10000000000000
+    below = omega arith
+
+    abbrev ds : List (List Typed)
+    ds = changedOf f k d′ c′ n′ first m a w new below
+
+    amount-so : withAmount k new is ≡ headItem (w .grammar .parts .header) ∷ flatten (itemsBy ds)
+    amount-so =
+        let right = here f d′ c′ n′ (w .grammar) (w .pre) (w .this) (w .post) (w .split) in
+        let same : itemsBy ds ≡ itemsBy (w .pre) ++ (firstRepriced new (map ownItem (w .this)) ∷ itemsBy (w .post)) = map-append (map ownItem) (w .pre) (retold new (w .this) ∷ w .post) ∙ ap (λ (l : List Item). itemsBy (w .pre) ++ (l ∷ itemsBy (w .post))) (items-retold new _ _ (w .this) right) in
+        amount-listed f k d′ c′ n′ first m a w new ∙ ap (λ (l : List (List Item)). headItem (w .grammar .parts .header) ∷ flatten l) (sym same)
+
+    amount-cents : centsOf (withAmount k new is) ≡ c′ - a + new
+    unfolding centsOf
+    amount-cents =
+        let each = changed-numbered f d′ c′ n′ (w .grammar) (w .pre) (w .this) (w .post) (w .split) new below in
+        let total = changed-cents f d′ c′ n′ (w .grammar) (w .pre) (w .this) (w .post) (w .split) new below in
+        let own : c′ - amountOf (w .this) + new ≡ c′ - a + new = ap (λ (x : ℕ). c′ - x + new) (sym (w .amount)) in
+        ap centsOf amount-so ∙ omega (arith, items-cents _ 1 ds each)
+
+  module _ (k new : ℕ) where
+    change-refused : {e r p : ℕ} → ChangeFault f k new e r p → Step f (change k new) (unchanged e r p f) (changeOn k new is)
+    unfolding changeOn
+    change-refused (not-read e r p wrong) = absurd (accepted-not-refused (sym wrong ∙ read))
+    change-refused (no-disposition d′ c′ n′ other absent) =
+        let missing : has k is ≡ false = has-none k d is count (λ numbers. absent (numbers-same k d′ c′ n′ other .1 numbers)) in
+        kept-alone (change k new) 15 (changeOn k new is) (rw missing)
+    change-refused (amount-too-large d′ c′ n′ other numbers large) =
+        let there : has k is ≡ true = has-number k d is count (numbers-same k d′ c′ n′ other .0 numbers) in
+        let above : leb new 9999999999999 ≡ false = lt-leb new 9999999999999 large in
+        kept-alone (change k new) 16 (changeOn k new is) (rw (there, above))
+    change-refused (total-too-large d′ c′ n′ first m a other place small large) =
+        let found = read-found f k other place in
+        let there : has k is ≡ true = has-number k d is count (found-number k d′ c′ n′ first m a found) in
+        let within : leb new 9999999999999 ≡ true = le-leb new 9999999999999 small in
+        let above : leb (centsOf (withAmount k new is)) 999999999999999 ≡ false = ap (λ (x : ℕ). leb x 999999999999999) (amount-cents k new d′ c′ n′ first m a found small) ∙ lt-leb (c′ - a + new) 999999999999999 large in
+        kept-alone (change k new) 17 (changeOn k new is) (rw (there, within, above))
+
+    change-made :
+        (d′ c′ n′ first m a : ℕ) (found : seek f k ≡ target d′ c′ n′ first m a) (small : new ≤ 9999999999999) (fits : c′ - a + new ≤ 999999999999999)
+        → Step f (change k new) (record { answer = accepted d′ (c′ - a + new) n′; size = length f; bytes = Change·changed first new n′ (c′ - a + new) f }) (changeOn k new is)
+    unfolding changeOn
+    change-made d′ c′ n′ first m a found small fits =
+        let w′ = among-so f k found in
+        let left = changedFlow f k d′ c′ n′ first m a found new small fits in
+        let whole : take (length f) left ≡ left = changed-whole f k d′ c′ n′ first m a found new small fits in
+        let told : judge left ≡ accepted d′ (c′ - a + new) n′ = changed-read f k d′ c′ n′ first m a found new small fits in
+        let g = changed-grammar f k d′ c′ n′ first m a new w′ (below k new d′ c′ n′ first m a found small) fits in
+        let listed : itemsOf left ≡ withAmount k new is = listed-so left d′ (c′ - a + new) n′ g ∙ sym (amount-so k new d′ c′ n′ first m a found small) in
+        let there : has k is ≡ true = has-number k d is count (found-number k d′ c′ n′ first m a found) in
+        let within : leb new 9999999999999 ≡ true = le-leb new 9999999999999 small in
+        let low : leb (centsOf (withAmount k new is)) 999999999999999 ≡ true = ap (λ (x : ℕ). leb x 999999999999999) (amount-cents k new d′ c′ n′ first m a found small) ∙ le-leb (c′ - a + new) 999999999999999 fits in
+        let own : changeOn k new is ≡ record { reply = changed (dispositionsOf (withAmount k new is)) (centsOf (withAmount k new is)) (suc (length (withAmount k new is))); items = withAmount k new is } = rw (there, within, low) in
+        let numbers = numbers-listed left d′ (c′ - a + new) n′ told in
+        let reply = (λ i. changed (sym (numbers .0) i) (sym (numbers .1) i) (sym (numbers .2) i)) ∙ ap (λ (l : List Item). changed (dispositionsOf l) (centsOf l) (suc (length l))) listed in
+        let canonical : Canonical f → Canonical left = λ c. changed-canonical f k d′ c′ n′ first m a w′ c new (below k new d′ c′ n′ first m a found small) fits in
+        subst (Step f (change k new) _) (sym own) (left-step f (change k new) _ _ left whole told listed reply canonical (changed-size f k d′ c′ n′ first m a found new small fits) (omega arith) (whole-memory f left))
+
+    pub change-step : Step f (change k new) (Change·change f k new) (changeOn k new is)
+    change-step = go (Change·change f k new) (changing f k new)
+      where
+        go : (x : Amended) → Changing f k new x → Step f (change k new) x (changeOn k new is)
+        go x (refuses fault) = change-refused fault
+        go x (changes {d = d′} {c = c′} {n = n′} {first = first} {m = m} {a = a} found small fits) = change-made d′ c′ n′ first m a found small fits
+
+  -- a disposition less on the ledger, and in the flow
+  module _ (k : ℕ) where
+    withdraw-refused : {e r p : ℕ} → WithdrawFault f k e r p → Step f (withdraw k) (unchanged e r p f) (withdrawOn k is)
+    unfolding withdrawOn
+    withdraw-refused (not-read e r p wrong) = absurd (accepted-not-refused (sym wrong ∙ read))
+    withdraw-refused (no-disposition d′ c′ n′ other absent) =
+        let missing : has k is ≡ false = has-none k d is count (λ numbers. absent (numbers-same k d′ c′ n′ other .1 numbers)) in
+        kept-alone (withdraw k) 15 (withdrawOn k is) (rw missing)
+    withdraw-refused (only-one c′ n′ other one) =
+        let there : has k is ≡ true = has-number k d is count (numbers-same k 1 c′ n′ other .0 (omega arith, omega arith)) in
+        let same : accepted 1 c′ n′ ≡ accepted d c n = sym other ∙ read in
+        let alone : d ≡ 1 = cc in
+        let few : ltb 1 (dispositionsOf is) ≡ false = le-ltb 1 (dispositionsOf is) (omega (arith, count)) in
+        kept-alone (withdraw k) 18 (withdrawOn k is) (rw (there, few))
+
+    withdraw-made :
+        (d′ c′ n′ first m a : ℕ) (found : seek f k ≡ target d′ c′ n′ first m a) (some : 2 ≤ d′)
+        → Step f (withdraw k) (record { answer = accepted (d′ - 1) (c′ - a) (n′ - m); size = 120 * (n′ - m); bytes = Withdraw·withdrawn f k (n′ - 1) (d′ - 1) (c′ - a) (n′ - m) }) (withdrawOn k is)
+    unfolding withdrawOn
+    withdraw-made d′ c′ n′ first m a found some =
+        let w′ = among-so f k found in
+        let left = withdrawnFlow f k d′ c′ n′ first m a found some in
+        let list = withoutDisposition k is in
+        let front = withdrawn-front f k d′ c′ n′ first m a found some in
+        let told : judge left ≡ accepted (d′ - 1) (c′ - a) (n′ - m) = withdrawn-read f k d′ c′ n′ first m a found some in
+        let g = withdrawn-grammar f k d′ c′ n′ first m a w′ some in
+        let later = behind f d′ c′ n′ (w′ .grammar) (w′ .pre) (w′ .this) (w′ .post) (w′ .split) in
+        let same : itemsBy (restOf f k d′ c′ n′ first m a w′) ≡ itemsBy (w′ .pre) ++ itemsBy (w′ .post) = map-append (map ownItem) (w′ .pre) (typedFrom (1 + length (w′ .pre)) (w′ .post)) ∙ ap (λ (l : List (List Item)). itemsBy (w′ .pre) ++ l) (typed-items _ _ _ (w′ .post) later) in
+        let listed : itemsOf left ≡ list = listed-so left (d′ - 1) (c′ - a) (n′ - m) g ∙ ap (λ (l : List (List Item)). headItem (w′ .grammar .parts .header) ∷ flatten l) same ∙ sym (without-listed f k d′ c′ n′ first m a w′) in
+        let there : has k is ≡ true = has-number k d is count (found-number k d′ c′ n′ first m a found) in
+        let equal = numbers-listed f d′ c′ n′ (sought-read f k found .0) .0 in
+        let more : ltb 1 (dispositionsOf is) ≡ true = lt-ltb 1 (dispositionsOf is) (omega arith) in
+        let own : withdrawOn k is ≡ withdrawLeaving list = rw (there, more) in
+        let numbers = numbers-listed left (d′ - 1) (c′ - a) (n′ - m) told in
+        let reply = (λ i. withdrawn (sym (numbers .0) i) (sym (numbers .1) i) (sym (numbers .2) i) (120 * sym (numbers .2) i)) ∙ ap (λ (l : List Item). withdrawn (dispositionsOf l) (centsOf l) (suc (length l)) (120 * suc (length l))) listed in
+        let canonical : Canonical f → Canonical left = λ c. withdrawn-canonical f k d′ c′ n′ first m a w′ c some in
+        subst (Step f (withdraw k) _) (sym own) (left-step f (withdraw k) _ (withdrawLeaving list) left front told listed reply canonical (withdrawn-length f k d′ c′ n′ first m a found some) (withdrawn-size f k d′ c′ n′ first m a found some) refl)
+
+    pub withdraw-step : Step f (withdraw k) (Withdraw·withdraw f k) (withdrawOn k is)
+    withdraw-step = go (Withdraw·withdraw f k) (withdrawing f k)
+      where
+        go : (x : Amended) → Withdrawing f k x → Step f (withdraw k) x (withdrawOn k is)
+        go x (refuses fault) = withdraw-refused fault
+        go x (withdraws {d = d′} {c = c′} {n = n′} {first = first} {m = m} {a = a} found some) = withdraw-made d′ c′ n′ first m a found some
+
+  -- so of either call
+  pub one-step : (call : Call) → Step f call (amend call f) (entry call is)
+  one-step (change k new) = change-step k new
+  one-step (withdraw k) = withdraw-step k
+
+-- which bytes a call touches
+pub call-touched : (call : Call) (f : List ℕ) → Touched call f (amend call f)
+call-touched (change k new) f =
+    record {
+      only = λ d c n first m cents read found d′ c′ n′ same. change-touches f k new d c n first m cents read found;
+      none = λ e r p same. refused-untouched f k e r p .0 new same;
+    }
+call-touched (withdraw k) f =
+    record {
+      only = λ d c n first m cents read found d′ c′ n′ same. withdraw-touches f k d c n first m cents d′ c′ n′ read found same .0;
+      none = λ e r p same. refused-untouched f k e r p .1 same;
+    }

@@ -1,0 +1,112 @@
+-- Demand 1. Assumes nothing.
+use Prim.Native.Nat.{ℕ}
+use mathlib.Core.Bool.{true}
+use mathlib.Core.List.{List, [], _∷_, _++_}
+use mathlib.Core.Path.{_≡_}
+use Rattle.fields.specs.Amount.{amountField}
+use Rattle.fields.specs.Answer.{refused as Answer·refused}
+use Rattle.fields.specs.Date.{dateField}
+use Rattle.fields.specs.Digits.{digitField}
+use Rattle.fields.specs.Laws.{FieldRefused, AmountRefused, DateRefused}
+use Rattle.records.specs.Checks.{isListed}
+use Rattle.records.specs.Context.{Header, Context}
+use Rattle.records.specs.Finding.{refused as Finding·refused}
+use Rattle.records.specs.Judge.{judge as Record·judge}
+use Rattle.records.specs.Laws.{ChecksInOrder, BrokenExact, OneForLength}
+use Rattle.records.specs.declared.kind.Kind.{Kind}
+use Rattle.flow.specs.Find.{find}
+use Rattle.flow.specs.Find.{refused as Located·refused}
+use Rattle.flow.specs.Judge.{judge}
+use Rattle.flow.specs.Laws.{LengthRefused, FindRefused, SeekExact}
+use Rattle.flow.specs.Seek.{seek}
+use Rattle.flow.specs.Seek.{refused as Target·refused}
+use Rattle.flow.specs.Steps.{judgeRecord}
+use Rattle.flow.specs.Verdict.{refused}
+use Rattle.flow.specs.declared.walk.Walk.{Walk}
+use Rattle.grammar.specs.Laws.{FirstFaultExact, RightOrFaulty, PlaceFaultExact, PartEmpty}
+use Rattle.list.specs.Laws.{FaultyExact, WriteRefused, WriteLeaves, ReadBackRefused, ReadBackLeaves}
+use Rattle.list.specs.ReadBack.{judgeRoom}
+use Rattle.list.specs.Write.{judgeList}
+use Rattle.amend.specs.Change.{change}
+use Rattle.amend.specs.Laws.{ChangeRefused, WithdrawRefused, RefusedUntouched}
+use Rattle.amend.specs.Withdraw.{withdraw}
+
+-- the numbers that document 01 gives to each call; 19 is given to none
+abbrev pub readingNumbers : List ℕ
+readingNumbers = 1 ∷ 2 ∷ 3 ∷ 4 ∷ 5 ∷ 6 ∷ 7 ∷ 8 ∷ 9 ∷ 10 ∷ 11 ∷ 12 ∷ 13 ∷ 14 ∷ []
+
+abbrev pub findingNumbers : List ℕ
+findingNumbers = readingNumbers ++ (15 ∷ [])
+
+-- a record alone, and at its place in the flow
+abbrev pub recordNumbers : List ℕ
+recordNumbers = 1 ∷ 5 ∷ 6 ∷ 7 ∷ 8 ∷ 9 ∷ 10 ∷ 11 ∷ 12 ∷ 13 ∷ 14 ∷ []
+
+abbrev pub placeNumbers : List ℕ
+placeNumbers = 2 ∷ 3 ∷ recordNumbers
+
+-- EF is not judged in writing: neither 4 nor what its row of the table gives
+abbrev pub writingNumbers : List ℕ
+writingNumbers = 20 ∷ 1 ∷ 21 ∷ 2 ∷ 3 ∷ 5 ∷ 6 ∷ 7 ∷ 8 ∷ 9 ∷ 10 ∷ 11 ∷ 17 ∷ []
+
+abbrev pub readingBackNumbers : List ℕ
+readingBackNumbers = readingNumbers ++ (21 ∷ [])
+
+abbrev pub changeNumbers : List ℕ
+changeNumbers = readingNumbers ++ (15 ∷ 16 ∷ 17 ∷ [])
+
+abbrev pub withdrawalNumbers : List ℕ
+withdrawalNumbers = readingNumbers ++ (15 ∷ 18 ∷ [])
+
+-- a refusal's number is one of these
+abbrev pub OneOf : List ℕ → ℕ → Type 0
+OneOf ns n = isListed n ns ≡ true
+
+pub record NumbersGiven : Type 0 where
+  pub digits : (bs : List ℕ) (n : ℕ) → digitField bs ≡ Answer·refused n → OneOf (5 ∷ []) n
+  pub amount : (bs : List ℕ) (n : ℕ) → amountField bs ≡ Answer·refused n → OneOf (5 ∷ []) n
+  pub date : (bs : List ℕ) (n : ℕ) → dateField bs ≡ Answer·refused n → OneOf (5 ∷ 8 ∷ []) n
+  pub record-judging : (k : Kind) (ctx : Context) (rec : List ℕ) (n p : ℕ) → Record·judge k ctx rec ≡ Finding·refused n p → OneOf recordNumbers n
+  pub walking : (header : Header) (w : Walk) (company : List ℕ) (i : ℕ) (rec : List ℕ) (n p : ℕ) → judgeRecord header w company i rec ≡ Finding·refused n p → OneOf placeNumbers n
+  pub reading : (f : List ℕ) (n r p : ℕ) → judge f ≡ refused n r p → OneOf readingNumbers n
+  pub finding : (f : List ℕ) (k n r p : ℕ) → find f k ≡ Located·refused n r p → OneOf findingNumbers n
+  pub seeking : (f : List ℕ) (k n r p : ℕ) → seek f k ≡ Target·refused n r p → OneOf findingNumbers n
+  pub writing : (list : List ℕ) (room n r p : ℕ) → judgeList list room ≡ refused n r p → OneOf writingNumbers n
+  pub reading-back : (f : List ℕ) (room n r p : ℕ) → judgeRoom f room ≡ refused n r p → OneOf readingBackNumbers n
+  pub changing : (f : List ℕ) (k new n r p : ℕ) → change f k new .answer ≡ refused n r p → OneOf changeNumbers n
+  pub withdrawing : (f : List ℕ) (k n r p : ℕ) → withdraw f k .answer ≡ refused n r p → OneOf withdrawalNumbers n
+
+-- "whatever bytes we lend, every entry point ends with an answer and asks nothing of us first": `EntryPoints` and `AskNothing`. "A refusal
+-- gives one number, one record and one position from the table, always the first fault in the stated order, and no lent byte has changed":
+pub record Demand1 : Type 0 where
+  pub numbers : NumbersGiven
+  -- the field rules: what is refused, and by which number
+  pub digits : FieldRefused
+  pub amount : AmountRefused
+  pub date : DateRefused
+  -- one record: the checks stand in the stated order, a record is refused exactly by the first that fails, and by 1 for its length alone
+  pub checks-in-order : ChecksInOrder
+  pub broken : BrokenExact
+  pub one-for-length : OneForLength
+  -- the same at its place in the flow, where 2 and 3 come first
+  pub at-place : PlaceFaultExact
+  -- a flow is refused exactly by its first fault: every record before it is right at its place, every earlier check of its record holds and
+  -- this one fails; what has no fault is accepted
+  pub read : FirstFaultExact
+  pub right-or-faulty : RightOrFaulty
+  pub length-refused : LengthRefused
+  -- where a disposition is: the reader's refusals, then 15; and a refusal's part is empty
+  pub find : FindRefused
+  pub part : PartEmpty
+  pub seek-exact : SeekExact
+  -- a list: which item is none, and each refusal of writing where those before it do not apply
+  pub faulty : FaultyExact
+  pub write : WriteRefused
+  pub read-back : ReadBackRefused
+  -- the amendments: the reader's refusals, then each of their own where those before it do not apply
+  pub change-refused : ChangeRefused
+  pub withdraw-refused : WithdrawRefused
+  -- and every buffer is as before
+  pub written-none : WriteLeaves
+  pub read-back-none : ReadBackLeaves
+  pub amended-none : RefusedUntouched

@@ -1,0 +1,32 @@
+-- Demand 2. Assumes nothing.
+use Rattle.flow.specs.Laws.{AcceptedExact}
+use Rattle.grammar.specs.Laws.{GrammarExact, PartsExact, PlacesExact, OpeningExact}
+use Rattle.list.specs.Laws.{ItemsExact, WriteAccepted, WriteLeaves, WrittenExact, OwnList, OwnItems, ReadBackAccepted, ReadBackLeaves, RewrittenExact, RewrittenSame, UncheckedOnly}
+
+pub record Demand2 : Type 0 where
+  -- "a flow is accepted exactly when it keeps the M.Av. rules of document 01, trailer count and cents being the exact sums over its
+  -- records": the answer is accepted with these numbers exactly where the flow is one of the grammar, and they are its sums
+  pub accepted-exactly : GrammarExact
+  pub sums : AcceptedExact
+  -- where each disposition of it stands: together all that is between header and trailer, in order
+  pub parts : PartsExact
+  pub places : PlacesExact
+  pub openings : OpeningExact
+  -- "our request list becomes exactly the flow it spells": which items a list is, when they are accepted, with the counts and the sum of
+  -- the items, and that the output then has exactly the encoding at its front and the rest as it was
+  pub items : ItemsExact
+  pub list-accepted : WriteAccepted
+  pub list-written : WriteLeaves
+  -- the flow written is accepted with the same numbers, is canonical and gives back the list
+  pub flow-written : WrittenExact
+  -- "an accepted flow gives back its list": one item for each record but EF, and the output then has exactly these at its front
+  pub own-list : OwnList
+  pub own-items : OwnItems
+  pub flow-accepted : ReadBackAccepted
+  pub list-read-back : ReadBackLeaves
+  -- "and a clean flow comes again byte for byte": its list is accepted with the same numbers, and gives the same bytes exactly where the
+  -- flow was canonical
+  pub accepted-again : RewrittenExact
+  pub same-again : RewrittenSame
+  -- a flow and the encoding of its list differ at no position that the table of checks names
+  pub unchecked : UncheckedOnly

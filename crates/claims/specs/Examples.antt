@@ -1,0 +1,80 @@
+-- Document 01's ten worked examples ("The two-rent example": "to be proved of the meanings themselves, gathered in a single list under one
+-- claim"), as equations that compute. Its word for "encodes" is "spells". Assumes nothing.
+use Prim.Native.Nat.{ℕ}
+use mathlib.Core.List.{List, [], _∷_, _++_}
+use mathlib.Core.Path.{_≡_}
+use lib.ListN.{length, drop, replicate}
+use Rattle.sequences.specs.Text.{text}
+use Rattle.fields.specs.Answer.{accepted as Answer·accepted}
+use Rattle.fields.specs.Answer.{refused as Answer·refused}
+use Rattle.fields.specs.Date.{dateField}
+use Rattle.records.specs.Field.{field}
+use Rattle.flow.specs.Examples.{flowOf, headerIm, trailerEf, further59, withFurther, twoRents}
+use Rattle.flow.specs.Judge.{judge}
+use Rattle.flow.specs.Records.{recordAt}
+use Rattle.flow.specs.Verdict.{accepted, refused}
+use Rattle.list.specs.Encode.{trailerFor, encode}
+use Rattle.list.specs.Examples.{headerItem, secondItems, twoRentList, oneRentList}
+use Rattle.list.specs.Items.{listBytes, itemsIn}
+use Rattle.amend.specs.Change.{change}
+use Rattle.amend.specs.Laws.{Untouched, flowLeft}
+use Rattle.amend.specs.Withdraw.{withdraw}
+use Rattle.claims.specs.Ledger.{Call, changed, withdrawn, listAfter, repliesOn}
+use Rattle.claims.specs.Ledger.{change as Ledger·change, withdraw as Ledger·withdraw, refused as Reply·refused}
+
+-- the flow of the first rent alone
+abbrev pub oneRent : List ℕ
+oneRent = encode (itemsIn oneRentList)
+
+pub record Examples : Type 0 where
+  -- "this EF is what the list spells", and so is the whole flow
+  pub one : (trailerFor (itemsIn twoRentList) ≡ text trailerEf) × (encode (itemsIn twoRentList) ≡ twoRents)
+  -- "disposition 2 changed to 40000: total 85000", in the answer and in the bytes of EF; and the amount in those of record 9
+  pub two :
+      let a = change twoRents 2 40000 in
+      (a .answer ≡ accepted 2 85000 16)
+      × (field 53 67 (recordAt 15 (flowLeft a)) ≡ text "000000000085000")
+      × (field 34 46 (recordAt 8 (flowLeft a)) ≡ text "0000000040000")
+  -- "disposition 1 withdrawn instead: 1,080 bytes, total 38050, 840 blanks"
+  pub three :
+      let a = withdraw twoRents 1 in
+      (a .answer ≡ accepted 1 38050 9)
+      × (a .size ≡ 1080)
+      × (field 53 67 (recordAt 8 (flowLeft a)) ≡ text "000000000038050")
+      × (drop 1080 (a .bytes) ≡ replicate 840 32)
+  -- "empty flow: 1"
+  pub four : judge [] ≡ refused 1 0 0
+  -- "one right IM alone: 4 at record 2"
+  pub five : judge (flowOf (headerIm ∷ [])) ≡ refused 4 2 0
+  -- "IM then EF: 3 at record 2"
+  pub six : judge (flowOf (headerIm ∷ trailerEf ∷ [])) ≡ refused 3 2 2
+  -- "290228 is a date's digits but year 2028, February 29: a date; 290227: 8"
+  pub seven :
+      (dateField (text "290228") ≡ Answer·accepted (record { day = 29; month = 2; year = 2028 })) × (dateField (text "290227") ≡ Answer·refused 8)
+  -- "six 59s: 3 at the sixth", which is record 11
+  pub eight : judge (withFurther (further59 ∷ further59 ∷ further59 ∷ further59 ∷ further59 ∷ further59 ∷ [])) ≡ refused 3 11 2
+  -- "a list of one disposition with R and no S has 643 bytes and spells 1,080"
+  pub nine : (length oneRentList ≡ 643) × (length oneRent ≡ 1080)
+  -- "withdrawing 1 of 1: 18", and nothing is touched
+  pub ten : (withdraw oneRent 1 .answer ≡ refused 18 0 0) × Untouched oneRent (withdraw oneRent 1)
+
+-- beside these, a list of calls on the ledger that starts as the two-rent flow's list: an amount, a number and an amount that are refused, a
+-- withdrawal, one of the only disposition, and an amount of what is now the first
+abbrev pub someCalls : List Call
+someCalls =
+    Ledger·change 2 40000
+    ∷ Ledger·change 3 1
+    ∷ Ledger·change 1 10000000000000
+    ∷ Ledger·withdraw 1
+    ∷ Ledger·withdraw 1
+    ∷ Ledger·change 1 39000
+    ∷ []
+
+pub record LedgerExample : Type 0 where
+  pub answered :
+      repliesOn someCalls (itemsIn twoRentList)
+      ≡ changed 2 85000 16 ∷ Reply·refused 15 0 0 ∷ Reply·refused 16 0 0 ∷ withdrawn 1 40000 9 1080 ∷ Reply·refused 18 0 0 ∷ changed 1 39000 9 ∷ []
+  -- the header's item, and the second rent's with the new amount
+  pub left :
+      listBytes (listAfter someCalls (itemsIn twoRentList))
+      ≡ flowOf (headerItem ++ ("D310326000000003900002400000000123456AB1232S0023           " ∷ drop 1 secondItems))

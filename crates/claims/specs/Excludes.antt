@@ -1,0 +1,124 @@
+-- For each wrong program that document 01 names ("What the promises must exclude", "Errors that look right") the demand that it breaks, as
+-- a statement about any program that meets the demand. A program is here what it answers and leaves, as a function of what it is given.
+-- Assumes nothing.
+use Prim.Native.Nat.{ℕ, _*_, _≤_}
+use mathlib.Core.List.{List, [], _∷_, _++_}
+use mathlib.Core.Logic.{_↔_}
+use mathlib.Core.Path.{_≡_}
+use lib.ListN.{length, take}
+use Rattle.sequences.specs.Part.{put}
+use Rattle.sequences.specs.Text.{text}
+use Rattle.flow.specs.Examples.{flowOf, further59, firstClosed, withFurther, twoRents}
+use Rattle.flow.specs.Judge.{judge}
+use Rattle.flow.specs.Records.{recordsOf}
+use Rattle.flow.specs.Sums.{dispositionsOf, centsOf}
+use Rattle.flow.specs.Verdict.{Verdict, accepted, refused}
+use Rattle.grammar.specs.Fault.{FaultBehind, FirstFault}
+use Rattle.grammar.specs.Grammar.{Grammar}
+use Rattle.list.specs.Encode.{encode}
+use Rattle.list.specs.Examples.{headerItem, secondItems, twoRentList}
+use Rattle.list.specs.Items.{itemsIn}
+use Rattle.list.specs.Laws.{LeavesAlone}
+use Rattle.list.specs.Output.{Output}
+use Rattle.list.specs.Write.{judgeList, write}
+use Rattle.amend.specs.Amended.{Amended}
+use Rattle.amend.specs.Change.{change}
+use Rattle.amend.specs.Laws.{ChangeFault, WithdrawFault}
+use Rattle.amend.specs.Withdraw.{withdraw}
+use Rattle.claims.specs.Demand3.{Kept}
+use Rattle.claims.specs.Ledger.{Call, Reply}
+use Rattle.claims.specs.Ledger.{withdraw as Call·withdraw}
+use Rattle.claims.specs.Run.{Memory, holding, lent, run, replies}
+
+-- a reader, and that it meets demand 2, or demand 1
+abbrev pub Reader : Type 0
+Reader = List ℕ → Verdict
+
+abbrev pub AcceptsExactly : Reader → Type 0
+AcceptsExactly read = (f : List ℕ) (d c n : ℕ) → (read f ≡ accepted d c n) ↔ Grammar f d c n
+
+abbrev pub RefusesFirst : Reader → Type 0
+RefusesFirst read = (f : List ℕ) (n r p : ℕ) → (read f ≡ refused n r p) ↔ FirstFault f n r p
+
+abbrev pub Refusal : Verdict → Type 0
+Refusal v = (n r p : ℕ) × (v ≡ refused n r p)
+
+-- a reader that reports the lowest number: no fault of any record, wherever it stands, has a lower one than the refusal
+abbrev pub LowestNumber : Reader → Type 0
+LowestNumber read =
+    (f : List ℕ) (n r p : ℕ) → read f ≡ refused n r p → (before : List (List ℕ)) (rec : List ℕ) (behind : List (List ℕ)) (m q : ℕ)
+    → recordsOf f ≡ before ++ (rec ∷ behind) → FaultBehind f before rec m q → n ≤ m
+
+-- a writer, and that it meets demand 1: a refused call leaves the output as it was
+abbrev pub Writer : Type 0
+Writer = List ℕ → List ℕ → Output
+
+abbrev pub RefusesUntouched : Writer → Type 0
+RefusesUntouched writer = (list out : List ℕ) (n r p : ℕ) → judgeList list (length out) ≡ refused n r p → LeavesAlone (writer list out) out
+
+-- the two-rent list with a byte at 94 of its last record that is neither blank nor P nor B
+abbrev pub lastWrong : List ℕ
+lastWrong = put 1210 (text "X") twoRentList
+
+-- an amendment's answers, and that it meets demand 1: a number is given only for its own fault
+abbrev pub ChangesFaithfully : (List ℕ → ℕ → ℕ → Amended) → Type 0
+ChangesFaithfully amend = (f : List ℕ) (k new e r p : ℕ) → amend f k new .answer ≡ refused e r p → ChangeFault f k new e r p
+
+abbrev pub WithdrawsFaithfully : (List ℕ → ℕ → Amended) → Type 0
+WithdrawsFaithfully amend = (f : List ℕ) (k e r p : ℕ) → amend f k .answer ≡ refused e r p → WithdrawFault f k e r p
+
+-- what serves a list of calls on a flow, whatever it keeps in between; and that it meets demand 3
+pub record Served : Type 0 where
+  pub after : Memory
+  pub answers : List Reply
+
+abbrev pub Service : Type 0
+Service = List Call → List ℕ → Served
+
+abbrev pub Serves : Service → Type 0
+Serves serve =
+    (f : List ℕ) (d c n : ℕ) → judge f ≡ accepted d c n → (calls : List Call) → Kept f calls (serve calls f .after) (serve calls f .answers)
+
+-- the library meets each of these
+abbrev pub library : Service
+library calls f = record { after = run calls (holding f); answers = replies calls (holding f) }
+
+pub record LibraryMeets : Type 0 where
+  pub accepts-exactly : AcceptsExactly judge
+  pub refuses-first : RefusesFirst judge
+  pub refuses-untouched : RefusesUntouched write
+  pub changes-faithfully : ChangesFaithfully change
+  pub withdraws-faithfully : WithdrawsFaithfully withdraw
+  pub serves : Serves library
+
+-- and whatever meets them is none of the wrong programs
+pub record Excludes : Type 0 where
+  -- "a reader that refuses everything, or has one reply (demand 2: the two-rent flow and the empty one)"
+  pub refuses-everything : (read : Reader) → AcceptsExactly read → ¬ ((f : List ℕ) → Refusal (read f))
+  pub one-reply : (read : Reader) → AcceptsExactly read → ¬ ((v : Verdict) × ((f : List ℕ) → read f ≡ v))
+  -- "an amendment that always refuses (demand 1: a number is given only for its own fault in the table)"
+  pub change-always-refuses : (amend : List ℕ → ℕ → ℕ → Amended) → ChangesFaithfully amend → ¬ ((f : List ℕ) (k new : ℕ) → Refusal (amend f k new .answer))
+  pub withdraw-always-refuses : (amend : List ℕ → ℕ → Amended) → WithdrawsFaithfully amend → ¬ ((f : List ℕ) (k : ℕ) → Refusal (amend f k .answer))
+  -- "one that touches nothing (demand 3: the list must have changed)"
+  pub touches-nothing : (serve : Service) → Serves serve → ¬ ((calls : List Call) (f : List ℕ) → serve calls f .after ≡ holding f)
+  -- "one that serves the first amendment and fakes the rest (demand 3 speaks of every list of calls)": whatever it answers, the memory stays
+  -- as the first call left it
+  pub fakes-the-rest : (serve : Service) → Serves serve → ¬ ((call : Call) (calls : List Call) (f : List ℕ) → serve (call ∷ calls) f .after ≡ serve (call ∷ []) f .after)
+  -- "made-up counts (demand 2: they equal the sums)"
+  pub made-up-counts :
+      (read : Reader) → AcceptsExactly read → (f : List ℕ) (d c n : ℕ) → read f ≡ accepted d c n
+      → (d ≡ dispositionsOf (recordsOf f)) × (c ≡ centsOf (recordsOf f)) × (n * 120 ≡ length f)
+  -- The rest are the "errors that look right", in document 01's order. "Summing the trailer from the bytes as moved, so that a block copied
+  -- twice agrees with itself": whatever its trailer says, the flow left by the withdrawal of the first rent never has two dispositions
+  pub copied-twice : (serve : Service) → Serves serve → ¬ ((c n : ℕ) × (judge (lent (serve (Call·withdraw 1 ∷ []) twoRents .after)) ≡ accepted 2 c n))
+  -- "moving records up from the wrong end, so that later records are overwritten before they are read": what is left is, byte for byte, what
+  -- the header and the second rent encode
+  pub moved-up : (serve : Service) → Serves serve → lent (serve (Call·withdraw 1 ∷ []) twoRents .after) ≡ encode (itemsIn (flowOf (headerItem ++ secondItems)))
+  -- "comparing 59 after 50 as a further 50: either kind excludes the other": 3 at the second of them
+  pub further-mixed :
+      (read : Reader) → RefusesFirst read
+      → (read (withFurther (take 1 firstClosed ++ (further59 ∷ []))) ≡ refused 3 7 2) × (read (withFurther (further59 ∷ take 1 firstClosed)) ≡ refused 3 7 2)
+  -- "writing output before the last item has been judged, then refusing": the two-rent list whose last item alone breaks a rule
+  pub written-early : (writer : Writer) → RefusesUntouched writer → (out : List ℕ) → LeavesAlone (writer lastWrong out) out
+  -- "reporting the lowest refusal number, where the lowest record is wanted"
+  pub lowest-number : (read : Reader) → RefusesFirst read → ¬ LowestNumber read

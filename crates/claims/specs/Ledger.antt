@@ -1,0 +1,100 @@
+-- The ledger of demand 3 (document 01, "Questions and changes"; its word is "sheet"): a request list that is fed with the calls alone. It
+-- knows items and calls, and no flow. Assumes nothing.
+use Prim.Native.Nat.{ℕ, suc, _-_, _*_}
+use mathlib.Core.Bool.{Bool, cond, _&&_}
+use mathlib.Core.List.{List, [], _∷_, _++_, flatten}
+use lib.Dec.{leb, ltb}
+use lib.ListN.{length, take, drop, getD}
+use Rattle.sequences.specs.Groups.{lead, groups}
+use Rattle.sequences.specs.Part.{put}
+use Rattle.fields.specs.Digits.{digits}
+use Rattle.records.specs.Kinds.{opens}
+use Rattle.records.specs.declared.kind.Kind.the-variants.{R14}
+use Rattle.list.specs.Encode.{indexIn, dispositionsOf, centsOf}
+use Rattle.list.specs.Items.{Item, item}
+use Rattle.list.specs.Table.{carried}
+
+-- a call: which of the two amendments it is, its number k, and the new amount of a change
+pub data Call : Type 0 where
+  change : ℕ → ℕ → Call
+  withdraw : ℕ → Call
+
+-- what a call is answered: accepted, with dispositions, cents and records, and a withdrawal with the new length too; or refused, with
+-- number, record and position
+pub data Reply : Type 0 where
+  changed : ℕ → ℕ → ℕ → Reply
+  withdrawn : ℕ → ℕ → ℕ → ℕ → Reply
+  refused : ℕ → ℕ → ℕ → Reply
+
+-- "disposition k is the k-th D with the items after it, up to the next D or the end"; before the first D stands the head
+abbrev pub isD : Item → Bool
+isD it = opens (it .kind)
+
+abbrev pub headOf : List Item → List Item
+headOf is = lead isD is
+
+abbrev pub dispositions : List Item → List (List Item)
+dispositions is = groups isD is
+
+-- "34-46 of the k-th D become the new amount, zeros in front"
+abbrev pub repriced : ℕ → Item → Item
+repriced new it = item (it .kind) (put (indexIn (carried R14) 34) (digits 13 new) (it .body))
+
+abbrev pub firstRepriced : ℕ → List Item → List Item
+firstRepriced new [] = []
+firstRepriced new (it ∷ is) = repriced new it ∷ is
+
+unfoldable pub withAmount : ℕ → ℕ → List Item → List Item
+withAmount k new is =
+    let ds = dispositions is in
+    headOf is ++ flatten (take (k - 1) ds ++ (firstRepriced new (getD ds (k - 1) []) ∷ drop k ds))
+
+-- "the items of disposition k go"
+unfoldable pub withoutDisposition : ℕ → List Item → List Item
+withoutDisposition k is =
+    let ds = dispositions is in
+    headOf is ++ flatten (take (k - 1) ds ++ drop k ds)
+
+-- the ledger behind a call: what the call is answered, and the list that is left
+pub record Entry : Type 0 where
+  pub reply : Reply
+  pub items : List Item
+
+-- "a refused call answers the refusal's number with 0, 0 and leaves the sheet as it was"
+abbrev pub refusal : ℕ → List Item → Entry
+refusal n is = record { reply = refused n 0 0; items = is }
+
+-- there is a disposition k
+abbrev pub has : ℕ → List Item → Bool
+has k is = leb 1 k && leb k (dispositionsOf is)
+
+-- "refused by 15, 16, 17, the first that fits by the table"; "an accepted one answers, of the sheet it leaves, the count, the total and the
+-- number of items + 1"
+abbrev pub changeLeaving : List Item → List Item → Entry
+changeLeaving left is =
+    cond (leb (centsOf left) 999999999999999)
+    (record { reply = changed (dispositionsOf left) (centsOf left) (suc (length left)); items = left })
+    (refusal 17 is)
+
+unfoldable pub changeOn : ℕ → ℕ → List Item → Entry
+changeOn k new is = cond (has k is) (cond (leb new 9999999999999) (changeLeaving (withAmount k new is) is) (refusal 16 is)) (refusal 15 is)
+
+-- "refused by 15, 18 likewise"; "a withdrawal also 120 times that last number, the new length"
+abbrev pub withdrawLeaving : List Item → Entry
+withdrawLeaving left = record { reply = withdrawn (dispositionsOf left) (centsOf left) (suc (length left)) (120 * suc (length left)); items = left }
+
+unfoldable pub withdrawOn : ℕ → List Item → Entry
+withdrawOn k is = cond (has k is) (cond (ltb 1 (dispositionsOf is)) (withdrawLeaving (withoutDisposition k is)) (refusal 18 is)) (refusal 15 is)
+
+abbrev pub entry : Call → List Item → Entry
+entry (change k new) is = changeOn k new is
+entry (withdraw k) is = withdrawOn k is
+
+-- the list on the ledger behind a list of calls, and what each was answered
+unfoldable pub listAfter : List Call → List Item → List Item
+listAfter [] is = is
+listAfter (c ∷ cs) is = listAfter cs (entry c is .items)
+
+unfoldable pub repliesOn : List Call → List Item → List Reply
+repliesOn [] is = []
+repliesOn (c ∷ cs) is = entry c is .reply ∷ repliesOn cs (entry c is .items)

@@ -1,0 +1,58 @@
+-- A list of calls on memory (demand 3: "each call is lent the flow that the one before it left, and nobody else writes to it meanwhile").
+-- What a call of the library does is what its contract says, by the contract's own definition. Assumes nothing.
+use Prim.Native.Nat.{ℕ}
+use mathlib.Core.List.{List, [], _∷_}
+use lib.ListN.{length, take}
+use Rattle.sequences.specs.Part.{put}
+use Rattle.flow.specs.Verdict.{Verdict, accepted}
+use Rattle.flow.specs.Verdict.{refused as Verdict·refused}
+use Rattle.amend.specs.Amended.{Amended}
+use Rattle.amend.specs.Change.{change as Change·change}
+use Rattle.amend.specs.Withdraw.{withdraw as Withdraw·withdraw}
+use Rattle.claims.specs.Ledger.{Call, change, withdraw, Reply, changed, withdrawn, refused}
+
+-- what a call leaves of the flow that it is lent: `amend::change` or `amend::withdraw`
+abbrev pub amend : Call → List ℕ → Amended
+amend (change k new) f = Change·change f k new
+amend (withdraw k) f = Withdraw·withdraw f k
+
+-- what it is answered, with the length where it is a withdrawal that was accepted
+abbrev pub replied : Call → Verdict → ℕ → Reply
+replied (change k new) (accepted d c n) size = changed d c n
+replied (withdraw k) (accepted d c n) size = withdrawn d c n size
+replied call (Verdict·refused e r p) size = refused e r p
+
+abbrev pub replyOf : Call → Amended → Reply
+replyOf call a = replied call (a .answer) (a .size)
+
+-- the first flow's memory, and how many bytes of it the next call is lent
+pub record Memory : Type 0 where
+  pub bytes : List ℕ
+  pub size : ℕ
+
+-- at first it is the flow, all of it
+abbrev pub holding : List ℕ → Memory
+holding f = record { bytes = f; size = length f }
+
+-- what the next call is lent
+abbrev pub lent : Memory → List ℕ
+lent m = take (m .size) (m .bytes)
+
+-- the memory behind a call
+abbrev pub behind : Call → Memory → Memory
+behind call m =
+    let a = amend call (lent m) in
+    record { bytes = put 0 (a .bytes) (m .bytes); size = a .size }
+
+unfoldable pub run : List Call → Memory → Memory
+run [] m = m
+run (c ∷ cs) m = run cs (behind c m)
+
+unfoldable pub replies : List Call → Memory → List Reply
+replies [] m = []
+replies (c ∷ cs) m = replyOf c (amend c (lent m)) ∷ replies cs (behind c m)
+
+-- what holds of every call, of the flow that it is lent and of what it leaves
+unfoldable pub EachCall : (Call → List ℕ → Amended → Type 0) → List Call → Memory → Type 0
+EachCall P [] m = Unit
+EachCall P (c ∷ cs) m = P c (lent m) (amend c (lent m)) × EachCall P cs (behind c m)
