@@ -1,7 +1,5 @@
 // The line that each line of the vectors is answered by.
 use crate::location;
-use libc::STDOUT_FILENO;
-use printing::line_feed;
 ghost use Prim.Native.Nat.{_≤_};
 ghost use lib.ListN.{length};
 
@@ -19,7 +17,7 @@ pub(crate) fn answer(line: &[u8], space: &mut [u8], n: usize) -> usize
     let kind = line[0];
     match kind {
         b'#' => {
-            name(line);
+            printing::line(line);
             n
         }
         b'=' => judged(&line[1..], space),
@@ -34,11 +32,6 @@ pub(crate) fn answer(line: &[u8], space: &mut [u8], n: usize) -> usize
     }
 }
 
-fn name(line: &[u8]) {
-    io::write_all(STDOUT_FILENO, line);
-    line_feed();
-}
-
 // Decodes the flow into `space`, and answers its length.
 fn judged(text: &[u8], space: &mut [u8]) -> usize
     ensures { λ r. ⌜ r ≤ length (now (space .exit)) ⌝ }
@@ -49,5 +42,5 @@ fn judged(text: &[u8], space: &mut [u8]) -> usize
 }
 
 fn unknown() {
-    io::write_all(STDOUT_FILENO, b"unknown\n");
+    printing::line(b"unknown");
 }

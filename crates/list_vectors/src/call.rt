@@ -1,7 +1,8 @@
 // A call that fills an output, and the line that tells what it did.
 use crate::output;
 use list::Filled;
-ghost use Prim.Native.Nat.{_≤_};
+use vector_memory::least;
+use vector_memory::mark;
 
 // How many bytes behind the room are looked at too.
 const BEHIND: usize = 64;
@@ -18,14 +19,7 @@ pub(crate) fn fill(kind: u8, given: &[u8], out: &mut [u8]) -> Filled {
 pub(crate) fn print(kind: u8, given: &[u8], room: u64, out: &mut [u8]) {
     let n = least(room, out.len());
     let end = least(n as u64 + BEHIND as u64, out.len());
-    output::mark(&mut out[0..end]);
+    mark(&mut out[0..end], 0);
     let filled = fill(kind, given, &mut out[0..n]);
     output::print(filled, &out[0..end], n);
-}
-
-pub(crate) fn least(a: u64, b: usize) -> usize
-    ensures { λ r. ⌜ (r ≤ a) × (r ≤ b) ⌝ }
-{
-    let limit = b as u64;
-    if a < limit { a as usize } else { b }
 }

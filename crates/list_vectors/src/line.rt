@@ -1,7 +1,6 @@
 // The line that each line of the vectors is answered by.
 use crate::call;
 use crate::round_trip;
-use libc::STDOUT_FILENO;
 use printing::labelled;
 use printing::line_feed;
 ghost use Prim.Native.Nat.{_≤_};
@@ -30,7 +29,7 @@ pub(crate) fn answer(line: &[u8], held: &[u8], between: &mut [u8], out: &mut [u8
     }
     let kind = line[0];
     match kind {
-        b'#' => name(line),
+        b'#' => printing::line(line),
         b'=' => size(held),
         b'>' | b'<' => asked(kind, &line[1..], held, between, out),
         _ => unknown(),
@@ -50,16 +49,11 @@ fn asked(kind: u8, text: &[u8], held: &[u8], between: &mut [u8], out: &mut [u8])
     }
 }
 
-fn name(line: &[u8]) {
-    io::write_all(STDOUT_FILENO, line);
-    line_feed();
-}
-
 fn size(held: &[u8]) {
     labelled(b"bytes ", held.len() as u64);
     line_feed();
 }
 
 fn unknown() {
-    io::write_all(STDOUT_FILENO, b"unknown\n");
+    printing::line(b"unknown");
 }

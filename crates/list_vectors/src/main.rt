@@ -2,7 +2,6 @@
 // and writes a line for each line. The vectors and the lines due are written by the second program
 // (`oracle vectors list`, which says the format).
 mod call;
-mod checksum;
 mod line;
 mod output;
 mod round_trip;

@@ -1,12 +1,12 @@
 // A list to a flow and back, or a flow to its list and back.
 use crate::call::fill;
-use crate::call::least;
-use crate::output::mark;
 use flow::Answer;
 use libc::STDOUT_FILENO;
 use list::Filled;
 use printing::labelled;
 use printing::line_feed;
+use vector_memory::least;
+use vector_memory::mark;
 
 // `there 1920 back 1236 same`, or where the bytes that came back first differ from those given, as
 // `there 1236 back 1920 differs at 226`; or the refusal of the call that was refused.
@@ -29,7 +29,7 @@ pub(crate) fn print(kind: u8, other: u8, given: &[u8], between: &mut [u8], out: 
 
 // The call with all of `out` for its output, which holds nothing of an earlier call.
 fn fill_marked(kind: u8, given: &[u8], out: &mut [u8]) -> Filled {
-    mark(out);
+    mark(out, 0);
     fill(kind, given, out)
 }
 

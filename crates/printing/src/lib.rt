@@ -16,6 +16,20 @@ pub fn line_feed() {
     io::write_all(STDOUT_FILENO, b"\n");
 }
 
+// Writes the bytes as they are, and a line feed.
+pub fn line(bytes: &[u8]) {
+    io::write_all(STDOUT_FILENO, bytes);
+    line_feed();
+}
+
+// Writes the label, then the bytes in quotes, as `escaped` has them.
+pub fn quoted(label: &[u8], bytes: &[u8]) {
+    io::write_all(STDOUT_FILENO, label);
+    io::write_all(STDOUT_FILENO, b"\"");
+    escaped(bytes);
+    io::write_all(STDOUT_FILENO, b"\"");
+}
+
 // Writes each byte as it is, but those outside 32 to 126 and the backslash as a backslash and two
 // lower-case hexadecimal digits.
 pub fn escaped(bytes: &[u8]) {

@@ -32,7 +32,7 @@ pub fn cases() -> Vec<Case> {
 
 /// Numbers that a shorter or signed integer, or a product with the length of
 /// a disposition, would take for a small one.
-const LARGE: [u64; 13] = [
+pub(crate) const LARGE: [u64; 13] = [
     255,
     256,
     257,
@@ -52,7 +52,7 @@ const LARGE: [u64; 13] = [
 const ASKED_OF_REFUSED: [u64; 5] = [0, 1, 2, 3, u64::MAX];
 
 /// A disposition, by those of its records that differ from one to another.
-type Variant = &'static str;
+pub(crate) type Variant = &'static str;
 
 const TWO_59: Variant = "59 59";
 const THREE_59: Variant = "59 59 59";
@@ -64,7 +64,7 @@ const AND_FOUR_59: Variant = "16 59 59 59 59";
 const AND_FIVE_59: Variant = "16 59 59 59 59 59";
 
 /// Every disposition that the rules allow, of 7 to 12 records.
-const VARIANTS: [Variant; 12] = [
+pub(crate) const VARIANTS: [Variant; 12] = [
     "16 59",
     FIVE_59,
     "50",
@@ -81,7 +81,7 @@ const VARIANTS: [Variant; 12] = [
 
 /// Dispositions of different lengths, one after the other.
 #[rustfmt::skip]
-const ORDERS: [(&str, &[Variant]); 5] = [
+pub(crate) const ORDERS: [(&str, &[Variant]); 5] = [
     ("7 to 12 records", &["50", TWO_59, THREE_59, FOUR_59, FIVE_59, AND_FIVE_59]),
     ("12 to 7 records", &[AND_FIVE_59, AND_FOUR_59, AND_THREE_59, AND_TWO_59, "16 50", "59"]),
     ("16 in every other", &["16 50", "50", "16 50", "50", "16 50"]),
@@ -98,7 +98,7 @@ fn types(variant: Variant) -> String {
 }
 
 /// A right flow of these dispositions and amounts.
-fn flow_of(dispositions: &[(Variant, u64)]) -> Flow {
+pub(crate) fn flow_of(dispositions: &[(Variant, u64)]) -> Flow {
     let blocks: Vec<String> = dispositions.iter().map(|d| types(d.0)).collect();
     let mut flow = Flow::of(&format!("IM {}", blocks.join(" ")));
     let openings = flow.0.iter_mut().filter(|r| record_type(r) == *b"14");
@@ -111,7 +111,7 @@ fn flow_of(dispositions: &[(Variant, u64)]) -> Flow {
 
 /// A right flow of these dispositions: the amounts are 1001, 2002 and on, so
 /// that no two are equal.
-fn flow_of_variants(variants: &[Variant]) -> Flow {
+pub(crate) fn flow_of_variants(variants: &[Variant]) -> Flow {
     let amounts = (1..).map(|k| 1_001 * k);
     let dispositions: Vec<(Variant, u64)> = variants.iter().copied().zip(amounts).collect();
     flow_of(&dispositions)
@@ -201,7 +201,7 @@ const OPENING: &[u8] = b" 140000002            310326070000000000077777-01234";
 /// Bytes put into `EVERY`, whose second 14 is record 10 and whose EF is
 /// record 17.
 #[rustfmt::skip]
-const LOOK_ALIKES: [(&str, &[Change]); 11] = [
+pub(crate) const LOOK_ALIKES: [(&str, &[Change]); 11] = [
     ("14 at 1-2", &[(6, 1, b"1"), (13, 1, b"1")]),
     ("14 at 10-11", &[
         (4, 11, b"4"), (5, 11, b"4"), (6, 11, b"4"), (7, 11, b"4"), (8, 11, b"4"), (9, 11, b"4"),

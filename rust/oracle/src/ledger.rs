@@ -110,9 +110,15 @@ impl Ledger {
             .sum()
     }
 
+    /// The amount of disposition k, if there is one.
+    pub fn amount(&self, k: u64) -> Option<u64> {
+        let (start, _) = self.disposition(k).ok()?;
+        cents_of(&self.items[start])
+    }
+
     /// Count, total and items + 1. The total of a list that no flow has may
     /// exceed 64 bits; it is given as the largest number then.
-    fn numbers(&self) -> Accepted {
+    pub fn numbers(&self) -> Accepted {
         Accepted {
             dispositions: self.count(),
             cents: u64::try_from(self.total()).unwrap_or(u64::MAX),

@@ -9,6 +9,7 @@
 #![forbid(unsafe_code)]
 
 pub mod amend;
+pub mod amend_cases;
 pub mod answer;
 pub mod damage;
 pub mod fields;

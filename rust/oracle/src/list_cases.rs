@@ -779,7 +779,7 @@ const CARRIED: [(&str, &str, usize, &[usize]); 9] = [
 ];
 
 /// Fills the positions of a record that are not checked with a run of bytes.
-fn fill(record: &mut Record, start: usize) {
+pub(crate) fn fill(record: &mut Record, start: usize) {
     let mut filled = BLANK_RECORD;
     filled.copy_from_slice(&run(start, RECORD_LEN));
     for &(first, last) in checked(record_type(record)) {

@@ -43,7 +43,8 @@ const FULL: &str = "IM 14 16 20 30 40 59 51 70 EF";
 /// Two dispositions of 45000 and 38050 cents in 16 records.
 pub(crate) const TWO: &str = "IM 14 20 30 40 50 51 70 14 20 30 40 50 51 70 EF";
 /// Three dispositions of 45000, 38050 and 45000 cents in 23 records.
-const THREE: &str = "IM 14 20 30 40 50 51 70 14 20 30 40 50 51 70 14 20 30 40 50 51 70 EF";
+pub(crate) const THREE: &str =
+    "IM 14 20 30 40 50 51 70 14 20 30 40 50 51 70 14 20 30 40 50 51 70 EF";
 /// Two dispositions in 17 records of every type.
 pub(crate) const EVERY: &str = "IM 14 16 20 30 40 59 51 70 14 20 30 40 50 51 70 EF";
 /// A flow that ends with the second 14, record 9.

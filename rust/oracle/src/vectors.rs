@@ -56,6 +56,36 @@
 //! that came back are not those of the case; or the first refusal of the two,
 //! `refused 9 record 10 position 4`.
 //!
+//! Amount changes and withdrawals (`oracle vectors amend IN OUT`): OUT has as
+//! many lines as IN. The first flow's memory is as long as that flow, and each
+//! call is lent the flow that the one before it left, at its length.
+//!
+//! | line of IN | the same line of OUT |
+//! |---|---|
+//! | `# two rents: 1 withdrawn`, the name of the case whose flow comes next | as it is |
+//! | `=` and the bytes of one flow, as above | the flow told |
+//! | `!2 40000` | the amount of disposition 2 changed to 40000, and the flow left told |
+//! | `-1` | disposition 1 withdrawn, and the flow left told |
+//! | `@16` | record 16 of the first flow's memory, in quotes and escaped as above |
+//!
+//! A flow is told as
+//! `reads accepted dispositions 1 cents 38050 records 9 list 643 adler 1234567
+//! flow 1080 adler 7654321 blank 840 kept 64`: the reader's answer; the length
+//! and the Adler-32 checksum of its list, read back; its own length and
+//! checksum; how many bytes of the first flow's memory lie behind it, all blank;
+//! and how many bytes behind that memory are all as before, of 64 that hold the
+//! byte 128 + i % 101 at index i of the memory from 0. Where one is not,
+//! `not blank at 1081` or `changed at 1925` gives the first one's index. Of a
+//! refused flow the list is `list 0 adler 1`.
+//!
+//! Before that stands the answer of the call, of a withdrawal with the length
+//! returned: `accepted dispositions 2 cents 85000 records 16 reads ..`,
+//! `accepted dispositions 1 cents 38050 records 9 length 1080 reads ..`, or
+//! `refused 15 record 0 position 0 length 1920 reads ..`, behind which the flow
+//! is told as it was before the call. Answers, lengths and lists are those of
+//! the ledger, or of the reader where it refuses the flow; the flows are those
+//! of the amendments.
+//!
 //! Generated flows (`oracle vectors flows SEED COUNT DIR`): a file for each
 //! flow, and `expected` with the small program's line for each.
 
@@ -63,13 +93,15 @@ use std::fmt::Write;
 use std::path::Path;
 use std::{fs, io};
 
+use crate::amend::{change, withdraw};
 use crate::answer::Answer;
 use crate::find::find;
+use crate::ledger::{Call, Ledger};
 use crate::list::{write_flow, write_list};
 use crate::list_cases::Asked;
 use crate::reader::read;
 use crate::record::RECORD_LEN;
-use crate::{fields, find_cases, generate, list_cases, program, reader_cases};
+use crate::{amend_cases, fields, find_cases, generate, list_cases, program, reader_cases};
 
 /// Writes the input and the output file of the field rules.
 pub fn write_fields(input: &Path, output: &Path) -> io::Result<()> {
@@ -84,6 +116,11 @@ pub fn write_flow_rules(input: &Path, output: &Path) -> io::Result<()> {
 /// Writes the input and the output file of request lists.
 pub fn write_lists(input: &Path, output: &Path) -> io::Result<()> {
     write_both(list_files(), input, output)
+}
+
+/// Writes the input and the output file of amount changes and withdrawals.
+pub fn write_amendments(input: &Path, output: &Path) -> io::Result<()> {
+    write_both(amend_files(), input, output)
 }
 
 fn write_both(files: (String, String), input: &Path, output: &Path) -> io::Result<()> {
@@ -141,6 +178,99 @@ pub fn list_files() -> (String, String) {
         }
     }
     (input, output)
+}
+
+/// The cases of amount changes and withdrawals and their answers.
+pub fn amend_files() -> (String, String) {
+    let (mut input, mut output) = (String::new(), String::new());
+    for amend_cases::Case { name, flow, asked } in amend_cases::cases() {
+        let mut held = Held::new(&flow);
+        let _ = writeln!(input, "# {name}\n={}", escaped(&flow));
+        let _ = writeln!(output, "# {name}\n{}", held.told());
+        for asked in asked {
+            let (question, answer) = match asked {
+                amend_cases::Asked::Call(call) => (call_line(call), held.call(call)),
+                amend_cases::Asked::Record(n) => (format!("@{n}"), held.record(n)),
+            };
+            let _ = writeln!(input, "{question}");
+            let _ = writeln!(output, "{answer}");
+        }
+    }
+    (input, output)
+}
+
+/// A call as the input file has it.
+fn call_line(call: Call) -> String {
+    match call {
+        Call::Change { k, cents } => format!("!{k} {cents}"),
+        Call::Withdraw { k } => format!("-{k}"),
+    }
+}
+
+/// A flow in the first flow's memory, and its ledger; a flow that the reader
+/// refuses has none.
+struct Held {
+    memory: Vec<u8>,
+    len: usize,
+    ledger: Option<Ledger>,
+}
+
+impl Held {
+    fn new(flow: &[u8]) -> Held {
+        let mut list = vec![0; flow.len()];
+        let (answer, len) = write_list(flow, &mut list);
+        let accepted = matches!(answer, Answer::Accepted { .. });
+        Held {
+            memory: flow.to_vec(),
+            len: flow.len(),
+            ledger: accepted.then(|| Ledger::new(&list[..len])).flatten(),
+        }
+    }
+
+    /// Runs a call on the flow and feeds the ledger; the line of the call.
+    fn call(&mut self, call: Call) -> String {
+        let lent = &mut self.memory[..self.len];
+        let (answer, len) = match &mut self.ledger {
+            Some(ledger) => ledger.call(call),
+            None => (read(lent), None),
+        };
+        let length = match call {
+            Call::Change { k, cents } => {
+                change(lent, k, cents);
+                String::new()
+            }
+            Call::Withdraw { k } => {
+                withdraw(lent, k);
+                self.len = len.unwrap_or(self.len);
+                format!(" length {}", self.len)
+            }
+        };
+        format!("{answer}{length} {}", self.told())
+    }
+
+    /// The flow left as the lines tell it.
+    fn told(&self) -> String {
+        let (flow, behind) = self.memory.split_at(self.len);
+        let list = self.ledger.as_ref().map(Ledger::list).unwrap_or_default();
+        let blank = match behind.iter().position(|&byte| byte != b' ') {
+            Some(index) => format!("not blank at {}", self.len + index),
+            None => format!("blank {}", behind.len()),
+        };
+        format!(
+            "reads {} list {} adler {} flow {} adler {} {blank} kept {BEHIND}",
+            read(flow),
+            list.len(),
+            adler(&list),
+            flow.len(),
+            adler(flow),
+        )
+    }
+
+    /// A record of the memory, counted from 1.
+    fn record(&self, n: usize) -> String {
+        let (records, _) = self.memory.as_chunks::<RECORD_LEN>();
+        format!("\"{}\"", escaped(&records[n - 1]))
+    }
 }
 
 /// A call that fills an output: writing a list or reading a flow back.

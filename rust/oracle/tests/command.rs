@@ -67,6 +67,7 @@ fn bad_usage_is_one_sentence_and_status_2() {
         &["vectors", "fields", "a"],
         &["vectors", "flow", "a"],
         &["vectors", "list", "a"],
+        &["vectors", "amend", "a"],
         &["vectors", "flows", "one", "2", "dir"],
         &["tally", "1"],
         &["tally", "1", "-5"],
@@ -106,6 +107,7 @@ fn vectors_of_the_rules_are_written() {
     for (rules, due) in [
         ("flow", vectors::flow_files()),
         ("list", vectors::list_files()),
+        ("amend", vectors::amend_files()),
     ] {
         let dir = scratch(rules);
         fs::create_dir_all(&dir).unwrap();

@@ -21,8 +21,11 @@
 //!   is whole;
 //! - a refusal's part that is not empty: the 0 at the end of its line.
 
+mod common;
+
 use std::collections::HashSet;
 
+use common::vectors;
 use oracle::find_cases::cases;
 use oracle::vectors::{find_files, flow_files, reader_files};
 
@@ -205,27 +208,22 @@ struct Given<'a> {
     asked: Vec<(u64, &'a str)>,
 }
 
-/// The cases of the two files, which have equally many lines.
+/// The cases of the two files.
 fn given<'a>(input: &'a str, output: &'a str) -> Vec<Given<'a>> {
-    assert!(input.ends_with('\n') && output.ends_with('\n'));
-    assert_eq!(input.lines().count(), output.lines().count());
-    let mut lines = input.lines().zip(output.lines()).peekable();
-    let mut all = Vec::new();
-    while let Some((name, same)) = lines.next() {
-        assert_eq!(name, same);
-        let (flow, answer) = lines.next().unwrap();
-        let mut asked = Vec::new();
-        while let Some((k, line)) = lines.next_if(|(line, _)| line.starts_with('?')) {
-            asked.push((k[1..].parse().unwrap(), line));
-        }
-        all.push(Given {
-            name: name.strip_prefix("# find: ").unwrap(),
-            flow: flow.strip_prefix('=').unwrap(),
-            answer,
-            asked,
-        });
-    }
-    all
+    let number = |line: &str| line[1..].parse().unwrap();
+    vectors(input, output, &['?'])
+        .into_iter()
+        .map(|case| Given {
+            name: case.name.strip_prefix("find: ").unwrap(),
+            flow: case.bytes,
+            answer: case.told,
+            asked: case
+                .asked
+                .iter()
+                .map(|&(k, line)| (number(k), line))
+                .collect(),
+        })
+        .collect()
 }
 
 /// The due lines of the flow of 36 dispositions.

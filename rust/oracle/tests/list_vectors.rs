@@ -882,38 +882,19 @@ struct Given<'a> {
     asked: Vec<Line<'a>>,
 }
 
-/// The cases of the two files, which have equally many lines.
+/// The cases of the two files.
 fn given<'a>(input: &'a str, output: &'a str) -> Vec<Given<'a>> {
-    assert!(input.ends_with('\n') && output.ends_with('\n'));
-    assert_eq!(input.lines().count(), output.lines().count());
-    let mut lines = input.lines().zip(output.lines()).peekable();
-    let mut all = Vec::new();
-    while let Some((name, same)) = lines.next() {
-        assert_eq!(name, same);
-        let (bytes, size) = lines.next().unwrap();
-        let bytes = unescaped(bytes.strip_prefix('=').unwrap());
-        assert_eq!(size, format!("bytes {}", bytes.len()));
-        let mut asked = Vec::new();
-        while let Some(line) = lines.next_if(|(line, _)| line.starts_with(['<', '>'])) {
-            asked.push(line);
-        }
-        all.push(Given {
-            name: name.strip_prefix("# ").unwrap(),
+    let from = |case: Vector<'a>| {
+        let bytes = unescaped(case.bytes);
+        assert_eq!(case.told, format!("bytes {}", bytes.len()));
+        Given {
+            name: case.name,
             bytes,
-            asked,
-        });
-    }
-    all
-}
-
-fn unescaped(text: &str) -> Vec<u8> {
-    let mut parts = text.split('\\');
-    let mut bytes = parts.next().unwrap().as_bytes().to_vec();
-    for part in parts {
-        bytes.push(u8::from_str_radix(&part[..2], 16).unwrap());
-        bytes.extend(part[2..].bytes());
-    }
-    bytes
+            asked: case.asked,
+        }
+    };
+    let cases = vectors(input, output, &['<', '>']);
+    cases.into_iter().map(from).collect()
 }
 
 /// The bytes in quotes at the end of a line; none where there are no quotes.
@@ -1036,17 +1017,6 @@ fn carried(flow: &[u8]) -> Vec<u8> {
         }
     }
     list
-}
-
-/// Adler-32, by its definition over sums of the whole.
-fn adler(bytes: &[u8]) -> u64 {
-    let len = bytes.len() as u64;
-    let low: u64 = bytes.iter().map(|&byte| u64::from(byte)).sum();
-    let weighted = (0..len)
-        .zip(bytes)
-        .map(|(i, &byte)| (len - i) * u64::from(byte));
-    let high: u64 = len + weighted.sum::<u64>();
-    (high % 65_521) << 16 | (1 + low) % 65_521
 }
 
 #[test]

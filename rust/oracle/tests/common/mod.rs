@@ -281,6 +281,61 @@ pub fn list_of(flow: &[u8]) -> Vec<u8> {
     list
 }
 
+/// Adler-32, by its definition over sums of the whole.
+pub fn adler(bytes: &[u8]) -> u64 {
+    let len = bytes.len() as u64;
+    let low: u64 = bytes.iter().map(|&byte| u64::from(byte)).sum();
+    let weighted = (0..len)
+        .zip(bytes)
+        .map(|(i, &byte)| (len - i) * u64::from(byte));
+    let high: u64 = len + weighted.sum::<u64>();
+    ((high % 65_521) << 16) | ((1 + low) % 65_521)
+}
+
+/// The bytes of a line of vectors.
+pub fn unescaped(text: &str) -> Vec<u8> {
+    let mut parts = text.split('\\');
+    let mut bytes = parts.next().unwrap().as_bytes().to_vec();
+    for part in parts {
+        bytes.push(u8::from_str_radix(&part[..2], 16).unwrap());
+        bytes.extend(part[2..].bytes());
+    }
+    bytes
+}
+
+/// A case as two files of vectors have it: its name, the line of its bytes and
+/// what is told of them, and each line that asks with its answer.
+pub struct Vector<'a> {
+    pub name: &'a str,
+    pub bytes: &'a str,
+    pub told: &'a str,
+    pub asked: Vec<(&'a str, &'a str)>,
+}
+
+/// The cases of two files, which have equally many lines. A line that asks
+/// starts with one of the signs.
+pub fn vectors<'a>(input: &'a str, output: &'a str, signs: &[char]) -> Vec<Vector<'a>> {
+    assert!(input.ends_with('\n') && output.ends_with('\n'));
+    assert_eq!(input.lines().count(), output.lines().count());
+    let mut lines = input.lines().zip(output.lines()).peekable();
+    let mut all = Vec::new();
+    while let Some((name, same)) = lines.next() {
+        assert_eq!(name, same);
+        let (bytes, told) = lines.next().unwrap();
+        let mut asked = Vec::new();
+        while let Some(line) = lines.next_if(|(line, _)| line.starts_with(signs)) {
+            asked.push(line);
+        }
+        all.push(Vector {
+            name: name.strip_prefix("# ").unwrap(),
+            bytes: bytes.strip_prefix('=').unwrap(),
+            told,
+            asked,
+        });
+    }
+    all
+}
+
 /// Records that can be changed by record and position, both from 1.
 #[derive(Clone)]
 pub struct Flow(pub Vec<Vec<u8>>);

@@ -1,20 +1,22 @@
--- `list_vectors::output::mark` is safe and ends: a store keeps the length. Assumes nothing.
+-- `vector_memory::marks::mark` meets its contract: what is left to mark from i on makes the same of the memory. Assumes nothing.
 use Prim.Native.Nat.{_-_}
-use mathlib.Core.Path.{_≡_}
+use mathlib.Core.Path.{_≡_, refl, sym, ap, _∙_}
 use native.Mathlib.Omega.{arith}
 use lib.ListN.{length, length-set}
 use borrow.Author.Needs.{needs}
-use Rattle.list_vectors.proofs.output.mark.Statement.{statement}
-use Rattle.list_vectors.proofs.output.mark.Tie as tie
+use Rattle.vector_memory.specs.Marks.{marked}
+use Rattle.vector_memory.proofs.Marking.{marked-next, marked-past}
+use Rattle.vector_memory.proofs.marks.mark.Statement.{statement}
+use Rattle.vector_memory.proofs.marks.mark.Tie as tie
 
 abbrev Inv-loop : tie.InvT-loop
-Inv-loop out₀ i₀ out i = length out ≡ length out₀
+Inv-loop out₀ at i₀ out i = (length out ≡ length out₀) × (marked i out ≡ marked at out₀)
 
 abbrev μ-loop : tie.MeasureT-loop
-μ-loop out₀ i₀ out i = length out - i
+μ-loop out₀ at i₀ out i = length out - i
 
 loop-holds : tie.Need-loop-holds Inv-loop μ-loop
-loop-holds c = search needs
+loop-holds c = (refl, refl)
 
 marker-requires : tie.Need-marker-requires Inv-loop μ-loop
 marker-requires c κs = search needs
@@ -29,13 +31,15 @@ loop-less : tie.Need-loop-less Inv-loop μ-loop
 loop-less c = simp length-set (omega arith)
 
 loop-again : tie.Need-loop-again Inv-loop μ-loop
-loop-again c = simp length-set (omega arith)
+loop-again c =
+    let turn = c .before in
+    (simp length-set (omega arith), rw (c .marker .ensures) (marked-next _ (turn .before .loop .i) (turn .loop-test .taken) ∙ turn .before .loop .inv .1))
 
 same-length : tie.Need-same-length Inv-loop μ-loop
 same-length c = search needs
 
 returns : tie.Need-returns Inv-loop μ-loop
-returns c = search needs
+returns c = sym (marked-past _ _ (c .loop-test .left)) ∙ c .before .loop .inv .1
 
 pub mark-spec : {M : Type 1} → statement M
 mark-spec =

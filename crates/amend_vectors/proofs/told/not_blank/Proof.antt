@@ -1,24 +1,21 @@
--- `list_vectors::output::changed` meets its contract. Assumes nothing.
+-- `amend_vectors::told::not_blank` meets its contract. Assumes nothing.
 use Prim.Native.Nat.{_-_, _≤_}
 use lib.ListN.{length}
 use borrow.Author.Needs.{needs}
-use Rattle.list_vectors.proofs.output.changed.Statement.{statement}
-use Rattle.list_vectors.proofs.output.changed.Tie as tie
+use Rattle.amend_vectors.proofs.told.not_blank.Statement.{statement}
+use Rattle.amend_vectors.proofs.told.not_blank.Tie as tie
 
 abbrev Inv-loop : tie.InvT-loop
-Inv-loop out at i₀ i = (at ≤ i) × (i ≤ length out)
+Inv-loop memory at i₀ i = (at ≤ i) × (i ≤ length memory)
 
 abbrev μ-loop : tie.MeasureT-loop
-μ-loop out at i₀ i = length out - i
+μ-loop memory at i₀ i = length memory - i
 
 loop-holds : tie.Need-loop-holds Inv-loop μ-loop
 loop-holds c = search needs
 
 shared-slice-read-if1 : tie.Need-shared-slice-read-if1 Inv-loop μ-loop
 shared-slice-read-if1 c = search needs
-
-marker-requires : tie.Need-marker-requires Inv-loop μ-loop
-marker-requires c κs = search needs
 
 returns : tie.Need-returns Inv-loop μ-loop
 returns c = search needs
@@ -35,15 +32,14 @@ loop-again c = search needs
 returns-2 : tie.Need-returns-2 Inv-loop μ-loop
 returns-2 c = search needs
 
-pub changed-spec : {M : Type 1} → statement M
-changed-spec =
+pub not-blank-spec : {M : Type 1} → statement M
+not-blank-spec =
     tie.close
     (tie.spec
     Inv-loop
     μ-loop
     loop-holds
     shared-slice-read-if1
-    marker-requires
     returns
     add-i
     loop-less

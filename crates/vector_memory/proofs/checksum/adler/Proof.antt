@@ -1,18 +1,22 @@
--- `list_vectors::checksum::adler` is safe and ends: both sums stay below the modulus. Assumes nothing.
+-- `vector_memory::checksum::adler` meets its contract: both sums stay below the modulus, and with what is left behind i they decide as the whole does. Assumes nothing.
 use Prim.Native.Nat.{_-_, _≤_, _<_}
-use lib.ListN.{length}
+use mathlib.Core.Path.{_≡_, refl, sym, _∙_}
+use native.Mathlib.Omega.{arith}
+use lib.ListN.{length, drop}
 use borrow.Author.Needs.{needs}
-use Rattle.list_vectors.proofs.checksum.adler.Statement.{statement}
-use Rattle.list_vectors.proofs.checksum.adler.Tie as tie
+use Rattle.vector_memory.specs.Checksum.{adlerFrom, adler32}
+use Rattle.vector_memory.proofs.Sums.{adler-next, adler-past}
+use Rattle.vector_memory.proofs.checksum.adler.Statement.{statement}
+use Rattle.vector_memory.proofs.checksum.adler.Tie as tie
 
 abbrev Inv-loop : tie.InvT-loop
-Inv-loop bytes low₀ high₀ i₀ low high i = (i ≤ length bytes) × (low < 65521) × (high < 65521)
+Inv-loop bytes low₀ high₀ i₀ low high i = (i ≤ length bytes) × (low < 65521) × (high < 65521) × (adler32 bytes ≡ adlerFrom low high (drop i bytes))
 
 abbrev μ-loop : tie.MeasureT-loop
 μ-loop bytes low₀ high₀ i₀ low high i = length bytes - i
 
 loop-holds : tie.Need-loop-holds Inv-loop μ-loop
-loop-holds c = search needs
+loop-holds c = (omega arith, omega arith, omega arith, refl)
 
 shared-slice-read-wide : tie.Need-shared-slice-read-wide Inv-loop μ-loop
 shared-slice-read-wide c = search needs
@@ -33,7 +37,9 @@ loop-less : tie.Need-loop-less Inv-loop μ-loop
 loop-less c = search needs
 
 loop-again : tie.Need-loop-again Inv-loop μ-loop
-loop-again c = search needs
+loop-again c =
+    let turn = c .before .before in
+    (omega arith, omega arith, omega arith, rw (turn .before .loop .inv .3, adler-next _ (turn .before .loop .i) _ _ (turn .loop-test .taken), c .wide .ensures .0))
 
 mul-result : tie.Need-mul-result Inv-loop μ-loop
 mul-result c = search needs
@@ -42,7 +48,7 @@ add-result : tie.Need-add-result Inv-loop μ-loop
 add-result c = search needs
 
 returns : tie.Need-returns Inv-loop μ-loop
-returns c = search needs
+returns c = sym (c .before .loop .inv .3 ∙ adler-past _ _ _ _ (c .loop-test .left))
 
 pub adler-spec : {M : Type 1} → statement M
 adler-spec =
