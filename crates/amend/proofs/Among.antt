@@ -4,34 +4,31 @@ use Prim.Native.Nat.{ℕ, suc, _+_, _-_, _*_, _/_, _≤_, _<_}
 use mathlib.Core.List.{List, [], _∷_, _++_, append-assoc, map, map-map, map-append, flatten}
 use mathlib.Core.Path.{_≡_, refl, sym, _∙_, ap, ap₂, subst}
 use native.Mathlib.Omega.{arith}
-use lib.ListN.{length, take, drop, getD, replicate, length-append, length-take, length-map, List·getD-map}
-use lib.Seq.{split-at, take-at, drop-at, getD-at, length-take-le}
-use Rattle.sequences.specs.All.{All}
+use lib.ListN.{length, take, drop, getD, length-append, length-map, List·getD-map}
+use lib.Seq.{split-at, take-at, getD-at, length-take-le}
 use Rattle.sequences.specs.Part.{part, put}
-use Rattle.sequences.specs.Sum.{sum}
-use Rattle.sequences.proofs.All.{all-before, all-behind}
+use Rattle.sequences.proofs.All.{all-before}
+use Rattle.sequences.proofs.Append.{parted}
 use Rattle.sequences.proofs.Flatten.{flatten-append, flatten-flatten}
 use Rattle.sequences.proofs.Part.{put-part, put-front, put-back, part-put-behind, part-length, put-length}
 use Rattle.fields.specs.Digits.{number, digits}
 use Rattle.fields.proofs.Decimal.{written-length}
 use Rattle.records.specs.Context.{headerOf}
 use Rattle.records.specs.Field.{field}
-use Rattle.flow.specs.Find.{standing, dispositionsIn, find}
-use Rattle.flow.specs.Judge.{judge}
-use Rattle.flow.specs.Records.{recordAt, recordsOf}
+use Rattle.flow.specs.Find.{dispositionsIn, find}
+use Rattle.flow.specs.Records.{recordAt}
 use Rattle.flow.specs.Seek.{target, seek}
 use Rattle.flow.specs.Verdict.{accepted}
 use Rattle.flow.proofs.Accepted.{accepted-exact}
 use Rattle.flow.proofs.Cut.{Whole, cut-count, cut-at, flatten-length}
 use Rattle.flow.proofs.Dispositions.{found-stands, standing-same}
 use Rattle.flow.proofs.Sought.{sought-read}
-use Rattle.grammar.specs.Grammar.{Typed, Parts, recordsIn, opening, amountOf, bytesOf, dispositionCount, totalCents, recordCount, RightDisposition, Right, Grammar}
-use Rattle.grammar.specs.Rules.{Says, TrailerRules}
+use Rattle.grammar.specs.Grammar.{Typed, Parts, recordsIn, amountOf, bytesOf, RightDisposition, Grammar}
+use Rattle.grammar.specs.Rules.{Says}
 use Rattle.grammar.proofs.Dispositions.{Opened, opened-by, opened-so}
 use Rattle.grammar.proofs.Grammar.{grammar-exact, grammar-records, grammar-whole}
 use Rattle.grammar.proofs.Parts.{between, dispositions-exact, stands-so}
 use Rattle.grammar.proofs.Rules.{says-digits}
-use Rattle.amend.specs.Amended.{written}
 use Rattle.amend.specs.Withdraw.{recounted, without, numberedFrom, recordsLeft}
 use Rattle.amend.specs.Change.{changed as Change·changed}
 use Rattle.amend.proofs.Kept.{repriced}
@@ -129,14 +126,9 @@ module _ (f : List ℕ) (k d c n first m a : ℕ) (w : Among f k d c n first m a
   -- those before it as they are, those behind it numbered anew
   without-parts : without k (dispositionsIn f) ≡ map recordsIn (w .pre) ++ numberedFrom k (map recordsIn (w .post))
   without-parts =
-      let before = map recordsIn (w .pre) in
-      let here = recordsIn (w .this) in
-      let behind = map recordsIn (w .post) in
-      let starts : length before ≡ k - 1 = length-map (w .pre) recordsIn ∙ omega (arith, w .numbered) in
-      let ends : length (before ++ (here ∷ [])) ≡ k = length-append before (here ∷ []) ∙ omega (arith, w .numbered) in
-      let front : take (k - 1) (dispositionsIn f) ≡ before = ap (take (k - 1)) (w .found) ∙ take-at before (here ∷ behind) (k - 1) starts in
-      let back : drop k (dispositionsIn f) ≡ behind = ap (drop k) (w .found ∙ sym (append-assoc before (here ∷ []) behind)) ∙ drop-at (before ++ (here ∷ [])) behind k ends in
-      λ i. front i ++ numberedFrom k (back i)
+      let number : k ≡ 1 + length (map recordsIn (w .pre)) = w .numbered ∙ ap (λ (i : ℕ). 1 + i) (sym (length-map (w .pre) recordsIn)) in
+      let parts = parted k [] (dispositionsIn f) (map recordsIn (w .pre)) (recordsIn (w .this)) (map recordsIn (w .post)) (w .found) number in
+      λ i. parts .0 i ++ numberedFrom k (parts .2 i)
 
   without-so : without k (dispositionsIn f) ≡ map recordsIn restOf
   without-so =

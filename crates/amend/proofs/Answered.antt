@@ -2,38 +2,36 @@
 -- Assumes nothing.
 use Prim.Native.Nat.{ℕ, suc, _+_, _-_, _*_, _≤_, _<_}
 use mathlib.Core.Bool.{Bool, true, false, cond}
-use mathlib.Core.List.{List, [], _∷_, _++_, append-nil, flatten}
+use mathlib.Core.List.{List, flatten}
 use mathlib.Core.Logic.{_⊎_, inl, inr}
 use mathlib.Core.Path.{_≡_, refl, sym, _∙_, ap, subst}
 use native.Mathlib.Omega.{arith}
 use lib.Dec.{leb, ltb}
-use lib.ListN.{length, take, replicate}
-use lib.Seq.{take-at, take-all, length-take-le}
+use lib.ListN.{length}
 use borrow.Author.Tests.{leb-true, leb-false, ltb-true, ltb-false, le-leb, lt-leb}
-use Rattle.flow.specs.Find.{Located, standing, find}
+use Rattle.flow.specs.Find.{Located, standing, IsNumber, find}
 use Rattle.flow.specs.Find.{refused as Located·refused}
 use Rattle.flow.specs.Judge.{judge}
 use Rattle.flow.specs.Seek.{Target, target, seek}
 use Rattle.flow.specs.Seek.{refused as Target·refused}
 use Rattle.flow.specs.Verdict.{Verdict, accepted, refused}
-use Rattle.flow.proofs.Accepted.{accepted-not-refused, accepted-exact}
+use Rattle.flow.proofs.Accepted.{accepted-not-refused}
 use Rattle.flow.proofs.Dispositions.{find-refused, find-so, found-stands}
-use Rattle.flow.proofs.Sought.{sought-read, read-found, not-found}
+use Rattle.flow.proofs.Sought.{read-found, not-found}
 use Rattle.flow.proofs.Sought.{not-read as unread-so}
 use Rattle.grammar.specs.Grammar.{amountOf, Grammar}
-use Rattle.grammar.proofs.Grammar.{grammar-exact}
 use Rattle.amend.specs.Amended.{Amended, unchanged}
 use Rattle.amend.specs.Change.{changed, changeAt, changeFound, change}
-use Rattle.amend.specs.Laws.{Numbers, ChangeFault, not-read, no-disposition, amount-too-large, total-too-large, ChangeRefused, WithdrawFault, only-one, WithdrawRefused, Untouched, RefusedUntouched}
+use Rattle.amend.specs.Laws.{ChangeFault, not-read, no-disposition, amount-too-large, total-too-large, ChangeRefused, WithdrawFault, only-one, WithdrawRefused, Untouched, RefusedUntouched}
 use Rattle.amend.specs.Withdraw.{recordsLeft, withdrawn, withdrawAt, withdrawFound, withdraw}
-use Rattle.amend.proofs.Among.{Among, among-so, restOf, withdrawn-left, changedOf, changed-left}
+use Rattle.amend.proofs.Among.{Among, restOf, withdrawn-left, changedOf, changed-left}
 use Rattle.amend.proofs.Left.{leftWith, rest-count, rest-cents, rest-records, rest-right, changed-count, changed-cents, changed-records, changed-right}
 
 -- what was sought: the flow is not read, or it has no such disposition, or it stands there
 pub data Seeking (f : List ℕ) (k : ℕ) : Target → Type 0 where
   unread : {e r p : ℕ} → judge f ≡ refused e r p → Seeking f k (Target·refused e r p)
-  none : {d c n : ℕ} → judge f ≡ accepted d c n → ¬ Numbers k d → Seeking f k (Target·refused 15 0 0)
-  stands : {d c n first m a : ℕ} → judge f ≡ accepted d c n → find f k ≡ standing first m a → Numbers k d → Seeking f k (target d c n first m a)
+  none : {d c n : ℕ} → judge f ≡ accepted d c n → ¬ IsNumber k d → Seeking f k (Target·refused 15 0 0)
+  stands : {d c n first m a : ℕ} → judge f ≡ accepted d c n → find f k ≡ standing first m a → IsNumber k d → Seeking f k (target d c n first m a)
 
 pub seeking : (f : List ℕ) (k : ℕ) → Seeking f k (seek f k)
 seeking f k = by (judge f) (find f k) refl refl
@@ -50,7 +48,7 @@ seeking f k = by (judge f) (find f k) refl refl
     by (accepted d c n) (Located·refused e r p) read found = told (find-refused f k e r p .0 found)
       where
         told :
-            (judge f ≡ refused e r p) ⊎ ((d c m : ℕ) × (judge f ≡ accepted d c m) × ¬ ((1 ≤ k) × (k ≤ d)) × (e ≡ 15) × (r ≡ 0) × (p ≡ 0)) → Seeking f k (seek f k)
+            (judge f ≡ refused e r p) ⊎ ((d c m : ℕ) × (judge f ≡ accepted d c m) × ¬ IsNumber k d × (e ≡ 15) × (r ≡ 0) × (p ≡ 0)) → Seeking f k (seek f k)
         told (inl wrong) = absurd (accepted-not-refused (sym wrong ∙ read))
         told (inr h) =
             let same : seek f k ≡ Target·refused 15 0 0 = not-found f k found ∙ (λ i. Target·refused (h .5 i) (h .6 i) (h .7 i)) in
@@ -67,7 +65,7 @@ pub changing : (f : List ℕ) (k new : ℕ) → Changing f k new (change f k new
 unfolding change
 changing f k new = by (seek f k) refl (seeking f k)
   where
-    made : {d c n first m a : ℕ} → judge f ≡ accepted d c n → find f k ≡ standing first m a → Numbers k d → Changing f k new (changeAt d c n first a new f)
+    made : {d c n first m a : ℕ} → judge f ≡ accepted d c n → find f k ≡ standing first m a → IsNumber k d → Changing f k new (changeAt d c n first a new f)
     made {d} {c} {n} {first} {m} {a} read found numbers = amount (leb new 9999999999999) refl
       where
         sum : new ≤ 9999999999999 → (b : Bool) → leb (c - a + new) 999999999999999 ≡ b
@@ -96,7 +94,7 @@ pub withdrawing : (f : List ℕ) (k : ℕ) → Withdrawing f k (withdraw f k)
 unfolding withdraw
 withdrawing f k = by (seek f k) (seeking f k)
   where
-    made : {d c n first m a : ℕ} → judge f ≡ accepted d c n → find f k ≡ standing first m a → Numbers k d → Withdrawing f k (withdrawAt k d c n m a f)
+    made : {d c n first m a : ℕ} → judge f ≡ accepted d c n → find f k ≡ standing first m a → IsNumber k d → Withdrawing f k (withdrawAt k d c n m a f)
     made {d} {c} {n} {first} {m} {a} read found numbers = others (ltb 1 d) refl
       where
         others : (b : Bool) → ltb 1 d ≡ b
@@ -119,10 +117,10 @@ refused-same s = (cc, cc, cc)
 
 -- what is sought of a flow that has no such disposition, and of one that has
 module _ (f : List ℕ) (k : ℕ) {d c n : ℕ} (read : judge f ≡ accepted d c n) where
-  absent-so : ¬ Numbers k d → seek f k ≡ Target·refused 15 0 0
+  absent-so : ¬ IsNumber k d → seek f k ≡ Target·refused 15 0 0
   absent-so absent = not-found f k (find-refused f k 15 0 0 .1 (inr (d, c, n, read, absent, refl, refl, refl)))
 
-  numbers-so : Numbers k d → (first m a : ℕ) × (seek f k ≡ target d c n first m a)
+  numbers-so : IsNumber k d → (first m a : ℕ) × (seek f k ≡ target d c n first m a)
   numbers-so numbers =
       let low = numbers .0 in
       let high = numbers .1 in

@@ -1,9 +1,9 @@
 -- The records of a flow around disposition k. Assumes nothing.
-use Prim.Native.Nat.{ℕ, suc, _+_, _-_, _*_, _/_}
+use Prim.Native.Nat.{ℕ, suc, _-_, _/_}
 use mathlib.Core.List.{List, [], _∷_, _++_, append-assoc, flatten}
 use mathlib.Core.Path.{_≡_, sym, _∙_, ap, subst}
 use native.Mathlib.Omega.{arith}
-use lib.ListN.{length, take, drop, getD, length-append}
+use lib.ListN.{length, take, drop, getD}
 use lib.Seq.{split-at}
 use Rattle.sequences.proofs.All.{all-before, all-behind}
 use Rattle.sequences.proofs.DropLast.{dropLast-last}

@@ -1,25 +1,22 @@
 -- A record of a disposition with another number, a 14 with another amount, and a trailer with other counts keep their rules. Assumes
 -- nothing.
-use Prim.Native.Nat.{ℕ, _+_, _-_, _^_, _≤_, _<_}
+use Prim.Native.Nat.{ℕ, _+_, _^_, _≤_, _<_}
 use mathlib.Core.List.{List, List·Memᴰ}
 use mathlib.Core.Logic.{_⊎_, inl, inr}
-use mathlib.Core.Path.{_≡_, refl, sym, _∙_, ap, subst}
+use mathlib.Core.Path.{_≡_, sym, _∙_, ap, subst}
 use native.Mathlib.Omega.{arith}
 use lib.ListN.{length, getD}
-use Rattle.sequences.specs.All.{All}
 use Rattle.sequences.specs.Part.{part, put}
 use Rattle.sequences.specs.Text.{text}
 use Rattle.sequences.proofs.Part.{put-length, part-put, part-put-before, part-put-behind, part-getD, all-put}
 use Rattle.fields.specs.Digits.{digits, number}
 use Rattle.fields.proofs.Decimal.{written-length}
-use Rattle.records.specs.Constants.{causale, sign, currency}
 use Rattle.records.specs.Context.{Header}
 use Rattle.records.specs.Field.{field}
-use Rattle.records.specs.Kinds.{typeOf}
 use Rattle.records.specs.declared.kind.Kind.{Kind}
 use Rattle.records.specs.declared.kind.Kind.the-variants.{Im, R14, R16, R20, R30, R40, R50, R59, R51, R70, Ef}
 use Rattle.grammar.specs.Rules.{Digits, Blank, Present, Date, Says, Formed, DispositionRules, CoordinatesRules, BesideNumber, MemberRules, TrailerRules}
-use Rattle.grammar.proofs.Rules.{says-written, digits-printable, digits-exact}
+use Rattle.grammar.proofs.Rules.{says-written, digits-printable}
 use Rattle.amend.specs.Withdraw.{renumbered, recounted}
 
 -- the digits of a number written over a record

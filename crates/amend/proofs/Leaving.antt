@@ -1,12 +1,10 @@
 -- What an amendment leaves: a flow that is accepted, blanks behind it, and each byte that it does not name as it was. Assumes nothing.
 use Prim.Native.Nat.{ℕ, suc, _+_, _-_, _*_, _/_, _≤_, _<_}
-use mathlib.Core.Bool.{Bool, true, false}
-use mathlib.Core.List.{List, [], _∷_, _++_, append-nil, append-assoc, map, map-append, flatten}
-use mathlib.Core.Path.{_≡_, refl, sym, _∙_, ap, ap₂, subst}
+use mathlib.Core.List.{List, [], _∷_, _++_, append-nil, append-assoc, map, flatten}
+use mathlib.Core.Path.{_≡_, refl, sym, _∙_, ap, subst}
 use native.Mathlib.Omega.{arith}
-use lib.ListN.{length, take, drop, getD, replicate, length-append, length-map, List·getD-append}
+use lib.ListN.{length, take, drop, getD, replicate, length-append, List·getD-append}
 use lib.Seq.{take-at, take-length, getD-append-seam, getD-append-add}
-use Rattle.sequences.specs.All.{All}
 use Rattle.sequences.specs.Pairs.{Pairs}
 use Rattle.sequences.specs.Part.{put}
 use Rattle.sequences.proofs.All.{all-append, all-before, all-behind}
@@ -16,23 +14,20 @@ use Rattle.sequences.proofs.Part.{put-length, getD-put-elsewhere}
 use Rattle.fields.specs.Digits.{digits}
 use Rattle.fields.proofs.Decimal.{written-length}
 use Rattle.records.specs.Field.{Span, _to_, byteAt}
-use Rattle.flow.specs.Find.{standing, dispositionsIn, find}
+use Rattle.flow.specs.Find.{dispositionsIn}
 use Rattle.flow.specs.Judge.{judge}
 use Rattle.flow.specs.Records.{recordAt, recordsOf}
 use Rattle.flow.specs.Seek.{target, seek}
-use Rattle.flow.specs.Verdict.{accepted, refused}
-use Rattle.flow.specs.declared.answer.Answer.the-variants.{Accepted, Refused}
+use Rattle.flow.specs.Verdict.{accepted}
 use Rattle.flow.proofs.Accepted.{accepted-not-refused, accepted-exact, answer-determined}
 use Rattle.flow.proofs.Cut.{Whole, cut-count, cut-at, flatten-length, joined-records}
 use Rattle.flow.proofs.Dispositions.{found-within, standing-same}
-use Rattle.flow.proofs.Sought.{sought-read, read-found}
-use Rattle.grammar.specs.Grammar.{Typed, recordsIn, Grammar}
+use Rattle.flow.proofs.Sought.{sought-read}
 use Rattle.grammar.proofs.Grammar.{grammar-exact}
-use Rattle.grammar.proofs.Parts.{between}
-use Rattle.amend.specs.Amended.{Amended, unchanged, written}
+use Rattle.amend.specs.Amended.{Amended, written}
 use Rattle.amend.specs.Change.{changed, change}
-use Rattle.amend.specs.Laws.{flowLeft, Leaves, ChangeLeaves, WithdrawLeaves, Lies, ChangeTouches, Outside, SameBut, Moved, WithdrawTouches, AmendedDetermined}
-use Rattle.amend.specs.Withdraw.{renumbered, numberedFrom, without, recounted, recordsLeft, withdrawn, withdraw}
+use Rattle.amend.specs.Laws.{flowLeft, Leaves, ChangeLeaves, WithdrawLeaves, Lies, AmountOnly, ChangeTouches, SameBut, Moved, WithdrawTouches, AmendedDetermined}
+use Rattle.amend.specs.Withdraw.{renumbered, numberedFrom, recounted, recordsLeft, withdrawn, withdraw}
 use Rattle.amend.proofs.Among.{Among, among-so}
 use Rattle.amend.proofs.Answered.{Changing, changing, Withdrawing, withdrawing, refuses, changes, withdraws, changed-grammar, withdrawn-grammar}
 use Rattle.amend.proofs.Around.{before, own, behind, trailer, records-split, pieces}
@@ -122,8 +117,8 @@ written-size r p w v f fits = put-length (120 * (r - 1) + (p - 1)) (digits w v) 
 pub change-touches : ChangeTouches
 change-touches f k new d c n first m a read found = go (change f k new) (changing f k new)
   where
-    go : (x : Amended) → Changing f k new x → (length (x .bytes) ≡ length f) × ((i : ℕ) → ¬ Lies i first 34 46 → ¬ Lies i n 53 67 → getD (x .bytes) i 0 ≡ getD f i 0)
-    go x (refuses fault) = (refl, λ i u v. refl)
+    go : (x : Amended) → Changing f k new x → AmountOnly f (x .bytes) n first
+    go x (refuses fault) = record { sizes = refl; bytes = λ i u v. refl }
     go x (changes {d = d₀} {c = c₀} {n = n₀} {first = first₀} {m = m₀} {a = a₀} sought small fits) =
         let both = sought-read f k sought in
         let count = accepted-same (sym (both .0) ∙ read) in
@@ -132,12 +127,13 @@ change-touches f k new d c n first m a read found = go (change f k new) (changin
         let size = accepted-exact f d₀ c₀ n₀ (both .0) .2 in
         let total = c₀ - a₀ + new in
         let one = written first₀ 34 (digits 13 new) f in
-        let kept : length one ≡ length f = written-size first₀ 34 13 new f (omega arith) in (
-          written-size n₀ 53 15 total one (omega arith) ∙ kept,
-          λ i u v.
+        let kept : length one ≡ length f = written-size first₀ 34 13 new f (omega arith) in
+        record {
+          sizes = written-size n₀ 53 15 total one (omega arith) ∙ kept;
+          bytes = λ i u v.
               written-elsewhere n₀ 53 15 total i one (omega arith) (omega arith) (λ l. v (subst (λ (r : ℕ). Lies i r 53 67) (count .2) l))
-              ∙ written-elsewhere first₀ 34 13 new i f (omega arith) (omega arith) (λ l. u (subst (λ (r : ℕ). Lies i r 34 46) (place .0) l)),
-        )
+              ∙ written-elsewhere first₀ 34 13 new i f (omega arith) (omega arith) (λ l. u (subst (λ (r : ℕ). Lies i r 34 46) (place .0) l));
+        }
 
 -- a record with digits written over, and any byte that does not lie there
 over-elsewhere : (a w v : ℕ) (rec : List ℕ) → length rec ≡ 120 → a + w ≤ 120 → (p : ℕ) → 1 ≤ p → ¬ ((suc a ≤ p) × (p ≤ a + w)) → byteAt p (put a (digits w v) rec) ≡ byteAt p rec
@@ -277,4 +273,4 @@ withdraw-touches f k d c n first m a d′ c′ n′ read found same = go (withdr
         )
 
 pub amended-determined : AmendedDetermined
-amended-determined r s size bytes e = answer-determined r s (ap (λ (a : Amended). a .answer) e)
+amended-determined r s size size′ bytes bytes′ e = (answer-determined r s (ap (λ (a : Amended). a .answer) e), ap (λ (a : Amended). a .size) e, ap (λ (a : Amended). a .bytes) e)

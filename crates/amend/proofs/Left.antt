@@ -8,17 +8,17 @@ use lib.ListN.{length, length-append, length-map}
 use Rattle.sequences.specs.All.{All}
 use Rattle.sequences.specs.Part.{part}
 use Rattle.sequences.specs.Sum.{sum}
-use Rattle.sequences.proofs.Flatten.{map-flatten, flatten-append}
+use Rattle.sequences.proofs.Counted.{counted-before, counted-behind, counted-append}
+use Rattle.sequences.proofs.Flatten.{map-flatten}
 use Rattle.sequences.proofs.Sum.{sum-append}
 use Rattle.fields.specs.Digits.{number}
 use Rattle.records.specs.Context.{headerOf}
-use Rattle.records.specs.Field.{field}
 use Rattle.records.specs.declared.kind.Kind.{Kind}
 use Rattle.records.specs.declared.kind.Kind.the-variants.{R14, Ef}
-use Rattle.grammar.specs.Grammar.{Typed, Parts, kindsOf, recordsIn, opening, amountOf, codeOf, bytesOf, dispositionCount, totalCents, recordCount, RightDisposition, Numbered, AllEqual, Right, Grammar}
-use Rattle.grammar.specs.Rules.{Says, Formed, MemberRules}
+use Rattle.grammar.specs.Grammar.{Typed, Parts, kindsOf, recordsIn, opening, amountOf, codeOf, bytesOf, RightDisposition, Numbered, AllEqual, Right, Grammar}
+use Rattle.grammar.specs.Rules.{Formed, MemberRules}
 use Rattle.grammar.specs.Shape.{Disposition}
-use Rattle.grammar.proofs.Bytes.{typedOf, parts-joined}
+use Rattle.grammar.proofs.Bytes.{parts-joined}
 use Rattle.grammar.proofs.Dispositions.{Opened, opened-by, opened-so, Member}
 use Rattle.grammar.proofs.Grammar.{counts-below}
 use Rattle.amend.specs.Withdraw.{renumbered, numberedFrom, recounted}
@@ -57,22 +57,6 @@ left-bytes p =
     let ms = flatten (p .dispositions) in
     sym (parts-joined p)
     ∙ ap (λ (l : List (List ℕ)). flatten (p .header ∷ l)) (map-append bytes ms (record { kind = Ef; bytes = p .trailer } ∷ []) ∙ ap (λ (l : List (List ℕ)). l ++ (p .trailer ∷ [])) (map-flatten bytes (p .dispositions)))
-
--- dispositions numbered one behind the other, in two parts
-module _ (abi : List ℕ) where
-  pub numbered-before : (n : ℕ) (xs ys : List (List Typed)) → Numbered abi n (xs ++ ys) → Numbered abi n xs
-  numbered-before n [] ys each = tt
-  numbered-before n (x ∷ xs) ys each = (each .0, numbered-before (suc n) xs ys (each .1))
-
-  pub numbered-behind : (n : ℕ) (xs ys : List (List Typed)) → Numbered abi n (xs ++ ys) → Numbered abi (n + length xs) ys
-  numbered-behind n [] ys each = let same : n ≡ n + 0 = omega arith in subst (λ (m : ℕ). Numbered abi m ys) same each
-  numbered-behind n (x ∷ xs) ys each = let same : suc n + length xs ≡ n + suc (length xs) = omega arith in subst (λ (m : ℕ). Numbered abi m ys) same (numbered-behind (suc n) xs ys (each .1))
-
-  pub numbered-append : (n : ℕ) (xs ys : List (List Typed)) → Numbered abi n xs → Numbered abi (n + length xs) ys → Numbered abi n (xs ++ ys)
-  numbered-append n [] ys front back = let same : n + 0 ≡ n = omega arith in subst (λ (m : ℕ). Numbered abi m ys) same back
-  numbered-append n (x ∷ xs) ys front back =
-      let same : n + suc (length xs) ≡ suc n + length xs = omega arith in
-      (front .0, numbered-append (suc n) xs ys (front .1) (subst (λ (m : ℕ). Numbered abi m ys) same back))
 
 -- a disposition with another number, and dispositions numbered from j on
 abbrev pub retyped : ℕ → Typed → Typed
@@ -184,13 +168,13 @@ module _ (f : List ℕ) (d c n : ℕ) (g : Grammar f d c n) (pre : List (List Ty
   each = subst (Numbered abi 1) split (g .right .each)
 
   pub here : RightDisposition abi number-of x
-  here = numbered-behind abi 1 pre (x ∷ post) each .0
+  here = counted-behind (RightDisposition abi) 1 pre (x ∷ post) each .0
 
   before : Numbered abi 1 pre
-  before = numbered-before abi 1 pre (x ∷ post) each
+  before = counted-before (RightDisposition abi) 1 pre (x ∷ post) each
 
   pub behind : Numbered abi (suc number-of) post
-  behind = numbered-behind abi 1 pre (x ∷ post) each .1
+  behind = counted-behind (RightDisposition abi) 1 pre (x ∷ post) each .1
 
   -- its counts
   pub count-split : d ≡ length pre + suc (length post)
@@ -239,7 +223,7 @@ module _ (f : List ℕ) (d c n : ℕ) (g : Grammar f d c n) (pre : List (List Ty
       let same : map codeOf rest ≡ map codeOf pre ++ map codeOf post = map-append codeOf pre (typedFrom number-of post) ∙ ap (λ (l : List (List ℕ)). map codeOf pre ++ l) (typed-kept abi (λ (bs : List ℕ). bs) 91 5 number-of post (omega arith) rest-few behind) in
       left-right p rest (g .right)
       (omega (arith, rest-count))
-      (numbered-append abi 1 pre (typedFrom number-of post) before (typed-numbered abi number-of post rest-few behind))
+      (counted-append (RightDisposition abi) 1 pre (typedFrom number-of post) before (typed-numbered abi number-of post rest-few behind))
       (subst AllEqual (sym same) (fewer-equal (map codeOf pre) (map codeOf post) (codeOf x) codes))
       (omega (arith, rest-count))
       (omega (arith, rest-cents))
@@ -268,7 +252,7 @@ module _ (f : List ℕ) (d c n : ℕ) (g : Grammar f d c n) (pre : List (List Ty
         ∙ omega (arith, retold-here .size, records-split)
 
     pub changed-numbered : Numbered abi 1 changed
-    changed-numbered = numbered-append abi 1 pre (retold new x ∷ post) before (retold-here .right, behind)
+    changed-numbered = counted-append (RightDisposition abi) 1 pre (retold new x ∷ post) before (retold-here .right, behind)
 
     pub changed-right : c - amountOf x + new < 1000000000000000 → Right (leftWith p changed)
     changed-right fits =

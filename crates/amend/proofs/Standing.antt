@@ -10,7 +10,7 @@ use Rattle.flow.specs.Seek.{target, seek}
 use Rattle.flow.specs.Verdict.{accepted}
 use Rattle.flow.proofs.Dispositions.{dispositions-counted, standing-same, found-stands, found-within}
 use Rattle.flow.proofs.Sought.{sought-read}
-use Rattle.amend.proofs.Among.{Among, among-so, size-so}
+use Rattle.amend.proofs.Among.{among-so, size-so}
 use Rattle.amend.proofs.Left.{below, count-split, cents-split}
 
 pub record Standing (f : List ℕ) (k d c n first m a : ℕ) : Type 0 where

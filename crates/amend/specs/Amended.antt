@@ -20,6 +20,10 @@ amended r size bytes = record { answer = verdict r; size = size; bytes = bytes }
 abbrev pub unchanged : ℕ → ℕ → ℕ → List ℕ → Amended
 unchanged n r p f = record { answer = refused n r p; size = length f; bytes = f }
 
+-- a record with bytes written over it from position p on
+abbrev pub writtenAt : ℕ → List ℕ → List ℕ → List ℕ
+writtenAt p bs rec = put (p - 1) bs rec
+
 -- the flow with bytes written over record r from position p on, both counted from 1
 abbrev pub written : ℕ → ℕ → List ℕ → List ℕ → List ℕ
 written r p bs f = put (120 * (r - 1) + (p - 1)) bs f

@@ -1,11 +1,11 @@
 -- What is proved of the amendments. `proofs/` has its proof under the law's name in small letters. Assumes nothing.
-use Prim.Native.Nat.{ℕ, suc, _+_, _-_, _*_, _≤_, _<_}
+use Prim.Native.Nat.{ℕ, _+_, _-_, _*_, _≤_, _<_}
 use mathlib.Core.List.{List, [], _∷_, _++_}
-use mathlib.Core.Logic.{_↔_, _⊎_}
+use mathlib.Core.Logic.{_↔_}
 use mathlib.Core.Path.{_≡_}
 use lib.ListN.{length, take, getD, replicate}
 use Rattle.records.specs.Field.{Span, _to_, byteAt}
-use Rattle.flow.specs.Find.{standing, find}
+use Rattle.flow.specs.Find.{standing, IsNumber, find}
 use Rattle.flow.specs.Judge.{judge}
 use Rattle.flow.specs.Records.{recordAt}
 use Rattle.flow.specs.Verdict.{accepted, refused}
@@ -14,15 +14,11 @@ use Rattle.amend.specs.Change.{change}
 use Rattle.amend.specs.Withdraw.{withdraw}
 use Rattle.flow.specs.declared.answer.Answer.{Answer}
 
--- disposition k is one of the d of the flow
-abbrev pub Numbers : ℕ → ℕ → Type 0
-Numbers k d = (1 ≤ k) × (k ≤ d)
-
 -- document 01's refusals of a change, each where those before it do not apply
 pub data ChangeFault (f : List ℕ) (k new : ℕ) : ℕ → ℕ → ℕ → Type 0 where
   not-read : (e r p : ℕ) → judge f ≡ refused e r p → ChangeFault f k new e r p
-  no-disposition : (d c n : ℕ) → judge f ≡ accepted d c n → ¬ Numbers k d → ChangeFault f k new 15 0 0
-  amount-too-large : (d c n : ℕ) → judge f ≡ accepted d c n → Numbers k d → 9999999999999 < new → ChangeFault f k new 16 0 0
+  no-disposition : (d c n : ℕ) → judge f ≡ accepted d c n → ¬ IsNumber k d → ChangeFault f k new 15 0 0
+  amount-too-large : (d c n : ℕ) → judge f ≡ accepted d c n → IsNumber k d → 9999999999999 < new → ChangeFault f k new 16 0 0
   -- the new total is the old one less the old amount, and the new amount
   total-too-large :
       (d c n first m a : ℕ) → judge f ≡ accepted d c n → find f k ≡ standing first m a → new ≤ 9999999999999 → 999999999999999 < c - a + new
@@ -34,7 +30,7 @@ ChangeRefused = (f : List ℕ) (k new e r p : ℕ) → (change f k new .answer �
 -- and of a withdrawal
 pub data WithdrawFault (f : List ℕ) (k : ℕ) : ℕ → ℕ → ℕ → Type 0 where
   not-read : (e r p : ℕ) → judge f ≡ refused e r p → WithdrawFault f k e r p
-  no-disposition : (d c n : ℕ) → judge f ≡ accepted d c n → ¬ Numbers k d → WithdrawFault f k 15 0 0
+  no-disposition : (d c n : ℕ) → judge f ≡ accepted d c n → ¬ IsNumber k d → WithdrawFault f k 15 0 0
   only-one : (c n : ℕ) → judge f ≡ accepted 1 c n → k ≡ 1 → WithdrawFault f k 18 0 0
 
 abbrev pub WithdrawRefused : Type 0
@@ -71,17 +67,21 @@ pub record Lies (i r p q : ℕ) : Type 0 where
   pub starts : 120 * (r - 1) + (p - 1) ≤ i
   pub ends : i < 120 * (r - 1) + q
 
--- "only 34-46 of that record 14 and 53-67 of EF may differ"
+-- "only 34-46 of that record 14 and 53-67 of EF may differ", where the 14 is record `first` and EF record n
+pub record AmountOnly (f left : List ℕ) (n first : ℕ) : Type 0 where
+  pub sizes : length left ≡ length f
+  pub bytes : (i : ℕ) → ¬ Lies i first 34 46 → ¬ Lies i n 53 67 → getD left i 0 ≡ getD f i 0
+
 abbrev pub ChangeTouches : Type 0
 ChangeTouches =
-    (f : List ℕ) (k new d c n first m a : ℕ) → judge f ≡ accepted d c n → find f k ≡ standing first m a → let left = change f k new .bytes in
-    (length left ≡ length f) × ((i : ℕ) → ¬ Lies i first 34 46 → ¬ Lies i n 53 67 → getD left i 0 ≡ getD f i 0)
+    (f : List ℕ) (k new d c n first m a : ℕ) → judge f ≡ accepted d c n → find f k ≡ standing first m a → AmountOnly f (change f k new .bytes) n first
 
--- two records have the same bytes but at the spans
+-- position p lies outside of spans
 abbrev pub Outside : List Span → ℕ → Type 0
 Outside [] p = Unit
 Outside ((a to e) ∷ ss) p = (¬ ((a ≤ p) × (p ≤ e))) × Outside ss p
 
+-- two records have the same bytes but at the spans
 pub record SameBut (ss : List Span) (rec other : List ℕ) : Type 0 where
   pub sizes : length rec ≡ length other
   pub bytes : (p : ℕ) → 1 ≤ p → Outside ss p → byteAt p rec ≡ byteAt p other
@@ -99,6 +99,7 @@ WithdrawTouches =
     (f : List ℕ) (k d c n first m a d′ c′ n′ : ℕ) → judge f ≡ accepted d c n → find f k ≡ standing first m a → withdraw f k .answer ≡ accepted d′ c′ n′
     → Moved f (flowLeft (withdraw f k)) n first m × (n′ ≡ n - m)
 
--- what an answer stands for on paper determines it
+-- what an answer, a length and bytes stand for on paper determines them
 abbrev pub AmendedDetermined : Type 0
-AmendedDetermined = (r s : Answer) (size : ℕ) (bytes : List ℕ) → amended r size bytes ≡ amended s size bytes → r ≡ s
+AmendedDetermined =
+    (r s : Answer) (size size′ : ℕ) (bytes bytes′ : List ℕ) → amended r size bytes ≡ amended s size′ bytes′ → (r ≡ s) × (size ≡ size′) × (bytes ≡ bytes′)

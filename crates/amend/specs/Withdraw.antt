@@ -6,7 +6,6 @@ use mathlib.Core.Bool.{cond}
 use mathlib.Core.List.{List, [], _∷_, _++_, map, flatten}
 use lib.Dec.{ltb}
 use lib.ListN.{length, take, drop, replicate}
-use Rattle.sequences.specs.Part.{put}
 use Rattle.fields.specs.Digits.{digits}
 use Rattle.records.specs.Kinds.{hasType}
 use Rattle.records.specs.declared.kind.Kind.the-variants.{R14}
@@ -14,11 +13,11 @@ use Rattle.flow.specs.Find.{dispositionsIn}
 use Rattle.flow.specs.Records.{recordAt}
 use Rattle.flow.specs.Seek.{Target, target, refused, seek}
 use Rattle.flow.specs.Verdict.{accepted}
-use Rattle.amend.specs.Amended.{Amended, unchanged}
+use Rattle.amend.specs.Amended.{Amended, unchanged, writtenAt}
 
 -- a record with another number at 4-10
 abbrev pub renumbered : ℕ → List ℕ → List ℕ
-renumbered j rec = put 3 (digits 7 j) rec
+renumbered j rec = writtenAt 4 (digits 7 j) rec
 
 -- dispositions with the numbers j, j + 1, ..
 unfoldable pub numberedFrom : ℕ → List (List (List ℕ)) → List (List (List ℕ))
@@ -36,7 +35,7 @@ renumberedFrom j (rec ∷ recs) = let i = j + cond (hasType R14 rec) 1 0 in renu
 
 -- the trailer with other counts: 46-52, 53-67 and 83-89
 abbrev pub recounted : ℕ → ℕ → ℕ → List ℕ → List ℕ
-recounted d c n rec = put 82 (digits 7 n) (put 52 (digits 15 c) (put 45 (digits 7 d) rec))
+recounted d c n rec = writtenAt 83 (digits 7 n) (writtenAt 53 (digits 15 c) (writtenAt 46 (digits 7 d) rec))
 
 -- the records that are left, of a flow with a trailer at index t: the header, the other dispositions, and the trailer with the counts d, c
 -- and n

@@ -29,7 +29,7 @@ fn change(text: &[u8], flow: &mut [u8]) {
     io::write_all(STDOUT_FILENO, b" ");
 }
 
-// Writes the length told too. One above the flow lent counts as that flow's.
+// Writes the returned length too. A length above the flow's counts as the flow's.
 fn withdraw(text: &[u8], flow: &mut [u8]) -> usize
     ensures { λ r. ⌜ r ≤ length (now (flow .entry)) ⌝ }
 {

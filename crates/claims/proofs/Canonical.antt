@@ -1,22 +1,22 @@
 -- A flow is canonical exactly where each of its records is what its item encodes; so amendments keep it canonical. Assumes nothing.
-use Prim.Native.Nat.{ℕ, zero, suc, _+_, _-_, _≤_, _<_}
-use mathlib.Core.Bool.{Bool, true, false, cond, not}
-use mathlib.Core.List.{List, [], _∷_, _++_, map, map-map, map-append, flatten, head-eq-of-cons-eq, tail-eq-of-cons-eq}
-use mathlib.Core.Logic.{_↔_}
+use Prim.Native.Nat.{ℕ, suc, _+_, _-_, _≤_, _<_}
+use mathlib.Core.Bool.{Bool, true, false, cond}
+use mathlib.Core.List.{List, [], _∷_, _++_, map, map-map, flatten, head-eq-of-cons-eq, tail-eq-of-cons-eq}
 use mathlib.Core.Path.{_≡_, refl, sym, _∙_, ap, ap₂, subst}
 use native.Mathlib.Omega.{arith}
 use lib.ListN.{length, length-append, length-map}
 use Rattle.sequences.specs.All.{All}
+use Rattle.sequences.specs.Counted.{Counted}
 use Rattle.sequences.proofs.Append.{append-same}
+use Rattle.sequences.proofs.Counted.{counted-before, counted-behind, counted-append}
 use Rattle.records.specs.Context.{headerOf}
-use Rattle.records.specs.Kinds.{heads, closes}
+use Rattle.records.specs.Kinds.{heads}
 use Rattle.records.specs.declared.kind.Kind.{Kind}
-use Rattle.records.specs.declared.kind.Kind.the-variants.{Im, R14, R16, R20, R30, R40, R50, R59, R51, R70, Ef}
+use Rattle.records.specs.declared.kind.Kind.the-variants.{Im}
 use Rattle.flow.specs.Records.{recordsOf}
 use Rattle.flow.specs.Steps.{opened}
-use Rattle.flow.proofs.Cut.{flatten-length}
 use Rattle.grammar.specs.Grammar.{Typed, kindsOf, recordsIn, Numbered, RightDisposition, Grammar}
-use Rattle.grammar.proofs.Dispositions.{Detail, detail-opens, Opened, opened-by, opened-so, Member, InShape, numbered-shape}
+use Rattle.grammar.proofs.Dispositions.{Detail, each-detail, detail-opens, Opened, opened-by, opened-so, Member, InShape}
 use Rattle.grammar.proofs.Grammar.{grammar-shape}
 use Rattle.grammar.proofs.Parts.{between}
 use Rattle.list.specs.Encode.{encodeItem, encodeFrom, encodeTrailer, headerBehind, recordsFor, trailerFor, encode}
@@ -26,7 +26,7 @@ use Rattle.list.specs.Table.{carried, hasItem}
 use Rattle.list.proofs.AllRecords.{encoded-count, encode-records}
 use Rattle.list.proofs.Gathering.{body-gathered}
 use Rattle.list.proofs.RecordsAgain.{ownItem}
-use Rattle.list.proofs.Rewritten.{own-list-items, own-proper-all, trailer-so, items-so}
+use Rattle.list.proofs.Rewritten.{own-list-items, own-proper-all, trailer-so}
 use Rattle.amend.specs.Change.{changed}
 use Rattle.amend.specs.Withdraw.{renumbered, recounted, recordsLeft}
 use Rattle.amend.proofs.Among.{Among, restOf, changedOf}
@@ -35,53 +35,21 @@ use Rattle.amend.proofs.Kept.{repriced as Kept·repriced}
 use Rattle.amend.proofs.Left.{amounts, sizes, left-bytes, retyped, typedFrom, retold, here, behind}
 use Rattle.claims.specs.Ledger.{firstRepriced}
 use Rattle.claims.proofs.Encoded.{trailer-recounted, detail-renumbered, opening-renumbered, opening-repriced}
-use Rattle.claims.proofs.Listed.{itemsBy, headItem, listed-so, items-retyped, items-retold}
+use Rattle.claims.proofs.Listed.{itemsBy, itemOfHeader, listed-so, items-retyped, items-retold}
 
 detail-heads : (k : Kind) → Detail k → heads k ≡ false
-detail-heads Im d = absurd d
-detail-heads R14 d = absurd d
-detail-heads R16 d = refl
-detail-heads R20 d = refl
-detail-heads R30 d = refl
-detail-heads R40 d = refl
-detail-heads R50 d = refl
-detail-heads R59 d = refl
-detail-heads R51 d = refl
-detail-heads R70 d = refl
-detail-heads Ef d = absurd d
+detail-heads = each-detail (λ (k : Kind). heads k ≡ false) (refl, (refl, (refl, (refl, (refl, (refl, (refl, (refl, tt))))))))
 
 detail-listed : (k : Kind) → Detail k → hasItem k ≡ true
-detail-listed Im d = absurd d
-detail-listed R14 d = absurd d
-detail-listed R16 d = refl
-detail-listed R20 d = refl
-detail-listed R30 d = refl
-detail-listed R40 d = refl
-detail-listed R50 d = refl
-detail-listed R59 d = refl
-detail-listed R51 d = refl
-detail-listed R70 d = refl
-detail-listed Ef d = absurd d
+detail-listed = each-detail (λ (k : Kind). hasItem k ≡ true) (refl, (refl, (refl, (refl, (refl, (refl, (refl, (refl, tt))))))))
 
--- dispositions behind i others, each record of which is what its item encodes
+-- a disposition behind i others, each record of which is what its item encodes; and dispositions
+abbrev pub AsItems : List ℕ → ℕ → List Typed → Type 0
+AsItems header i d = recordsIn d ≡ map (encodeItem (suc i) header) (map ownItem d)
+
 module _ (header : List ℕ) where
   abbrev pub Encoded : ℕ → List (List Typed) → Type 0
-  Encoded i [] = Unit
-  Encoded i (d ∷ ds) = (recordsIn d ≡ map (encodeItem (suc i) header) (map ownItem d)) × Encoded (suc i) ds
-
-  encoded-before : (i : ℕ) (xs ys : List (List Typed)) → Encoded i (xs ++ ys) → Encoded i xs
-  encoded-before i [] ys e = tt
-  encoded-before i (x ∷ xs) ys e = (e .0, encoded-before (suc i) xs ys (e .1))
-
-  encoded-behind : (i : ℕ) (xs ys : List (List Typed)) → Encoded i (xs ++ ys) → Encoded (i + length xs) ys
-  encoded-behind i [] ys e = let same : i ≡ i + 0 = omega arith in subst (λ (m : ℕ). Encoded m ys) same e
-  encoded-behind i (x ∷ xs) ys e = let same : suc i + length xs ≡ i + suc (length xs) = omega arith in subst (λ (m : ℕ). Encoded m ys) same (encoded-behind (suc i) xs ys (e .1))
-
-  encoded-append : (i : ℕ) (xs ys : List (List Typed)) → Encoded i xs → Encoded (i + length xs) ys → Encoded i (xs ++ ys)
-  encoded-append i [] ys front back = let same : i + 0 ≡ i = omega arith in subst (λ (m : ℕ). Encoded m ys) same back
-  encoded-append i (x ∷ xs) ys front back =
-      let same : i + suc (length xs) ≡ suc i + length xs = omega arith in
-      (front .0, encoded-append (suc i) xs ys (front .1) (subst (λ (m : ℕ). Encoded m ys) same back))
+  Encoded i ds = Counted (AsItems header) i ds
 
   -- the items of one disposition all get its number
   details-encoded : (i : ℕ) (rs : List Typed) (is : List Item) → All Detail (kindsOf rs) → encodeFrom i header (map ownItem rs ++ is) ≡ map (encodeItem i header) (map ownItem rs) ++ encodeFrom i header is
@@ -125,7 +93,7 @@ bodyOf im = gather (carried Im) im
 
 -- the three parts of a canonical flow
 pub record AsEncoded (f : List ℕ) (d c n : ℕ) (g : Grammar f d c n) : Type 0 where
-  pub header : g .parts .header ≡ encodeItem 0 [] (headItem (g .parts .header))
+  pub header : g .parts .header ≡ encodeItem 0 [] (itemOfHeader (g .parts .header))
   pub dispositions : Encoded (bodyOf (g .parts .header)) 0 (g .parts .dispositions)
   pub trailer : g .parts .trailer ≡ encodeTrailer (bodyOf (g .parts .header)) d c n
 
@@ -137,12 +105,12 @@ module _ (f : List ℕ) (d c n : ℕ) (g : Grammar f d c n) where
   ds = g .parts .dispositions
 
   abbrev own : List Item
-  own = headItem im ∷ flatten (itemsBy ds)
+  own = itemOfHeader im ∷ flatten (itemsBy ds)
 
   own-so : itemsOf f ≡ own
   own-so = listed-so f d c n g
 
-  records-so : recordsFor own ≡ encodeItem 0 [] (headItem im) ∷ encodeFrom 0 (bodyOf im) (flatten (itemsBy ds))
+  records-so : recordsFor own ≡ encodeItem 0 [] (itemOfHeader im) ∷ encodeFrom 0 (bodyOf im) (flatten (itemsBy ds))
   unfolding encodeFrom
   records-so = refl
 
@@ -236,10 +204,10 @@ module _ (f : List ℕ) (k d c n first m a : ℕ) (w : Among f k d c n first m a
   count = 0 + length (w .pre)
 
   front : Encoded header 0 (w .pre)
-  front = encoded-before header 0 (w .pre) (w .this ∷ w .post) each
+  front = counted-before (AsItems header) 0 (w .pre) (w .this ∷ w .post) each
 
   back : Encoded header count (w .this ∷ w .post)
-  back = encoded-behind header 0 (w .pre) (w .this ∷ w .post) each
+  back = counted-behind (AsItems header) 0 (w .pre) (w .this ∷ w .post) each
 
   recounted-trailer :
       (ds : List (List Typed)) {d′ c′ n′ : ℕ} → length ds ≡ d′ → amounts ds ≡ c′ → 2 + sizes ds ≡ n′
@@ -256,7 +224,7 @@ module _ (f : List ℕ) (k d c n first m a : ℕ) (w : Among f k d c n first m a
       encoded-canonical (flatten (recordsLeft f k (n - 1) (d - 1) (c - a) (n - m))) (d - 1) (c - a) (n - m) left
       (record {
         header = was .header;
-        dispositions = encoded-append header 0 (w .pre) (typedFrom (1 + length (w .pre)) (w .post)) front rest;
+        dispositions = counted-append (AsItems header) 0 (w .pre) (typedFrom (1 + length (w .pre)) (w .post)) front rest;
         trailer = recounted-trailer ds (left .dispositions) (left .cents) (left .records);
       })
 
@@ -268,6 +236,6 @@ module _ (f : List ℕ) (k d c n first m a : ℕ) (w : Among f k d c n first m a
       encoded-canonical (changed first new n (c - a + new) f) d (c - a + new) n left
       (record {
         header = was .header;
-        dispositions = encoded-append header 0 (w .pre) (retold new (w .this) ∷ w .post) front (this, back .1);
+        dispositions = counted-append (AsItems header) 0 (w .pre) (retold new (w .this) ∷ w .post) front (this, back .1);
         trailer = recounted-trailer ds (left .dispositions) (left .cents) (left .records);
       })

@@ -10,16 +10,19 @@ use Rattle.grammar.proofs.AtPlace.{place-fault-exact}
 use Rattle.grammar.proofs.FirstFault.{first-fault-exact}
 use Rattle.grammar.proofs.Grammar.{right-or-faulty}
 use Rattle.grammar.proofs.Parts.{part-empty}
-use Rattle.list.proofs.Answered.{write-leaves, read-back-refused, read-back-leaves}
+use Rattle.list.proofs.Answered.{write-answers, write-leaves, read-back-refused, read-back-answers, read-back-leaves}
 use Rattle.list.proofs.ListItems.{faulty-exact}
 use Rattle.list.proofs.WriteRefused.{write-refused}
 use Rattle.amend.proofs.Answered.{change-refused, withdraw-refused, refused-untouched}
 use Rattle.claims.specs.Demand1.{Demand1}
+use Rattle.claims.proofs.EntryPoints.{entry-points, ask-nothing}
 use Rattle.claims.proofs.Numbers.{numbers-given}
 
 pub demand1 : Demand1
 demand1 =
     record {
+      answers = entry-points;
+      asks-nothing = ask-nothing;
       numbers = numbers-given;
       digits = field-refused;
       amount = amount-refused;
@@ -36,7 +39,9 @@ demand1 =
       seek-exact = seek-exact;
       faulty = faulty-exact;
       write = write-refused;
+      write-answers = write-answers;
       read-back = read-back-refused;
+      read-back-answers = read-back-answers;
       change-refused = change-refused;
       withdraw-refused = withdraw-refused;
       written-none = write-leaves;

@@ -3,7 +3,7 @@ use Prim.Native.Nat.{ℕ, suc, _+_, _-_, _≤_}
 use mathlib.Core.List.{List, [], _∷_, _++_, append-nil, append-assoc}
 use mathlib.Core.Path.{_≡_, refl, sym, _∙_, ap, ap₂, subst}
 use native.Mathlib.Omega.{arith}
-use lib.ListN.{length, take, drop, replicate, length-append, length-replicate, replicate-append-replicate}
+use lib.ListN.{length, replicate, length-append, length-replicate, replicate-append-replicate}
 use lib.Seq.{take-at}
 use Rattle.sequences.specs.Part.{put}
 use Rattle.sequences.proofs.Part.{put-at}
@@ -12,19 +12,18 @@ use Rattle.flow.specs.Verdict.{accepted}
 use Rattle.list.specs.Encode.{dispositionsOf, centsOf, encode}
 use Rattle.list.specs.Items.{Item, listBytes}
 use Rattle.list.specs.ReadBack.{itemsOf, Canonical}
-use Rattle.amend.specs.Amended.{Amended}
 use Rattle.amend.specs.Laws.{flowLeft}
-use Rattle.claims.specs.Demand3.{Agrees, Touched, Demand3}
+use Rattle.claims.specs.Demand3.{Touched, Demand3}
 use Rattle.claims.specs.Ledger.{Call, Reply, Entry, entry, listAfter, repliesOn}
-use Rattle.claims.specs.Run.{Memory, holding, lent, amend, replyOf, behind, run, replies, EachCall}
+use Rattle.claims.specs.Run.{Memory, holding, flowIn, amend, replyOf, behind, run, replies, EachCall}
 use Rattle.claims.proofs.OneCall.{Step, one-step, call-touched, list-numbers}
 
 -- memory that holds a flow, and blanks behind it
 abbrev blanksBehind : List ℕ → ℕ → Memory
 blanksBehind g room = record { bytes = g ++ replicate room 32; size = length g }
 
-lent-so : (g : List ℕ) (room : ℕ) → lent (blanksBehind g room) ≡ g
-lent-so g room = take-at g (replicate room 32) (length g) refl
+held-so : (g : List ℕ) (room : ℕ) → flowIn (blanksBehind g room) ≡ g
+held-so g room = take-at g (replicate room 32) (length g) refl
 
 -- behind a call it holds the flow left, and blanks
 behind-so :
@@ -39,25 +38,25 @@ behind-so call g room e s =
     let over : put 0 (a .bytes) (g ++ rest) ≡ a .bytes ++ rest = put-at 0 [] g rest (a .bytes) refl size in
     let apart : a .bytes ++ rest ≡ flowLeft a ++ replicate (length g - a .size + room) 32 =
     ap (λ (l : List ℕ). l ++ rest) (s .memory) ∙ append-assoc (flowLeft a) freed rest ∙ ap (λ (l : List ℕ). flowLeft a ++ l) (replicate-append-replicate (length g - a .size) room 32) in
-    (λ i. record { bytes = put 0 (amend call (lent-so g room i) .bytes) (g ++ rest); size = amend call (lent-so g room i) .size })
+    (λ i. record { bytes = put 0 (amend call (held-so g room i) .bytes) (g ++ rest); size = amend call (held-so g room i) .size })
     ∙ (λ i. record { bytes = (over ∙ apart) i; size = sym (s .sized) i })
 
 -- what is left behind a list of calls on an accepted flow, with blanks behind it up to a length
 record After (g : List ℕ) (all : ℕ) (m : Memory) (answers : List Reply) (list : List Item) (due : List Reply) : Type 0 where
-  read : judge (lent m) ≡ accepted (dispositionsOf list) (centsOf list) (suc (length list))
-  items : itemsOf (lent m) ≡ list
+  read : judge (flowIn m) ≡ accepted (dispositionsOf list) (centsOf list) (suc (length list))
+  items : itemsOf (flowIn m) ≡ list
   answered : answers ≡ due
-  canonical : Canonical g → Canonical (lent m)
-  sized : length (lent m) ≡ m .size
+  canonical : Canonical g → Canonical (flowIn m)
+  sized : length (flowIn m) ≡ m .size
   within : m .size ≤ all
-  memory : m .bytes ≡ lent m ++ replicate (all - m .size) 32
+  memory : m .bytes ≡ flowIn m ++ replicate (all - m .size) 32
 
 after-calls :
     (calls : List Call) (g : List ℕ) (room d c n : ℕ) → judge g ≡ accepted d c n → let m = blanksBehind g room in
     After g (length g + room) (run calls m) (replies calls m) (listAfter calls (itemsOf g)) (repliesOn calls (itemsOf g))
 unfolding run replies listAfter repliesOn
 after-calls [] g room d c n read =
-    let own = lent-so g room in
+    let own = held-so g room in
     let blank : room ≡ length g + room - length g = omega arith in
     record {
       read = ap judge own ∙ list-numbers g read;
@@ -76,7 +75,7 @@ after-calls (call ∷ calls) g room d c n read =
     let within = s .within in
     let all : length left + more ≡ length g + room = omega (arith, s .sized) in
     let rest = after-calls calls left more _ _ _ (s .read) in
-    let reply : replyOf call (amend call (lent (blanksBehind g room))) ≡ entry call (itemsOf g) .reply = ap (λ (l : List ℕ). replyOf call (amend call l)) (lent-so g room) ∙ s .reply in
+    let reply : replyOf call (amend call (flowIn (blanksBehind g room))) ≡ entry call (itemsOf g) .reply = ap (λ (l : List ℕ). replyOf call (amend call l)) (held-so g room) ∙ s .reply in
     let next = sym (behind-so call g room (entry call (itemsOf g)) s) in
     let moved = subst (λ (A : Type 0). A) (λ i. After left (all i) (run calls (next i)) (replies calls (next i)) (listAfter calls (s .items i)) (repliesOn calls (s .items i))) rest in
     record {
@@ -92,7 +91,7 @@ after-calls (call ∷ calls) g room d c n read =
 touched-all : (calls : List Call) (m : Memory) → EachCall Touched calls m
 unfolding EachCall
 touched-all [] m = tt
-touched-all (call ∷ calls) m = (call-touched call (lent m), touched-all calls (behind call m))
+touched-all (call ∷ calls) m = (call-touched call (flowIn m), touched-all calls (behind call m))
 
 pub demand3 : Demand3
 demand3 f d c n read calls =

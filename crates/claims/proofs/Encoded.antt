@@ -1,27 +1,27 @@
 -- Records that items encode, with another number, another amount or other counts written over: what the items encode then. Assumes
 -- nothing.
-use Prim.Native.Nat.{ℕ, suc, _+_, _-_, _≤_}
+use Prim.Native.Nat.{ℕ, _+_, _-_, _≤_}
 use mathlib.Core.List.{List, [], _∷_, _++_}
-use mathlib.Core.Logic.{inl, inr}
+use mathlib.Core.Logic.{inl}
 use mathlib.Core.Path.{_≡_, refl, sym, _∙_, ap, subst}
 use native.Mathlib.Omega.{arith}
 use lib.ListN.{length, take, drop, length-drop}
 use lib.Seq.{length-take-le, drop-drop}
 use Rattle.sequences.specs.All.{All}
-use Rattle.sequences.specs.Part.{part, put}
+use Rattle.sequences.specs.Part.{put}
 use Rattle.sequences.proofs.All.{all-append}
 use Rattle.sequences.proofs.Part.{part-at-most, part-put, take-put, drop-put}
 use Rattle.fields.specs.Digits.{digits}
 use Rattle.fields.proofs.Decimal.{written-length}
 use Rattle.records.specs.Constants.{causale, sign, currency}
-use Rattle.records.specs.Field.{Span, _to_, width}
+use Rattle.records.specs.Field.{Span, _to_}
 use Rattle.records.specs.Kinds.{typeOf}
 use Rattle.records.specs.declared.kind.Kind.{Kind}
-use Rattle.records.specs.declared.kind.Kind.the-variants.{Im, R14, R16, R20, R30, R40, R50, R59, R51, R70, Ef}
+use Rattle.records.specs.declared.kind.Kind.the-variants.{Im, R14, Ef}
 use Rattle.records.proofs.EachKind.{each-kind}
-use Rattle.grammar.proofs.Dispositions.{Detail}
-use Rattle.list.specs.Encode.{Placed, place, fill, blanks, carriedAt, supplied, bodyPlaced, encodeItem, trailerPlaced, encodeTrailer}
-use Rattle.list.specs.Items.{Item, item, Proper}
+use Rattle.grammar.proofs.Dispositions.{Detail, each-detail}
+use Rattle.list.specs.Encode.{Placed, place, fill, blanks, carriedAt, supplied, bodyPlaced, encodeItem, encodeTrailer}
+use Rattle.list.specs.Items.{Item, Proper}
 use Rattle.list.specs.Table.{carried, bodyLength}
 use Rattle.list.proofs.Carried.{body-fits, body-outside}
 use Rattle.list.proofs.OneRecord.{abi-short}
@@ -73,31 +73,13 @@ module _ (header : List ℕ) (d c n d′ c′ n′ : ℕ) where
 
 -- what a record that is neither a 14 nor header nor trailer has beside its type and its body
 detail-supplied : (k : Kind) (n : ℕ) (abi : List ℕ) → Detail k → supplied k n abi ≡ place 4 (digits 7 n) ∷ []
-detail-supplied Im n abi d = absurd d
-detail-supplied R14 n abi d = absurd d
-detail-supplied R16 n abi d = refl
-detail-supplied R20 n abi d = refl
-detail-supplied R30 n abi d = refl
-detail-supplied R40 n abi d = refl
-detail-supplied R50 n abi d = refl
-detail-supplied R59 n abi d = refl
-detail-supplied R51 n abi d = refl
-detail-supplied R70 n abi d = refl
-detail-supplied Ef n abi d = absurd d
+detail-supplied k n abi = each-detail (λ (l : Kind). supplied l n abi ≡ place 4 (digits 7 n) ∷ []) (refl, (refl, (refl, (refl, (refl, (refl, (refl, (refl, tt)))))))) k
 
 -- no record of a disposition carries a position of its number
 pub detail-behind : (k : Kind) → Detail k → All (λ (t : Span). 10 ≤ first t - 1) (carried k)
-detail-behind Im d = absurd d
-detail-behind R14 d = absurd d
-detail-behind R16 d = (omega arith, tt)
-detail-behind R20 d = (omega arith, tt)
-detail-behind R30 d = (omega arith, tt)
-detail-behind R40 d = (omega arith, tt)
-detail-behind R50 d = (omega arith, tt)
-detail-behind R59 d = (omega arith, tt)
-detail-behind R51 d = (omega arith, tt)
-detail-behind R70 d = (omega arith, (omega arith, tt))
-detail-behind Ef d = absurd d
+detail-behind =
+    let one : All (λ (t : Span). 10 ≤ first t - 1) ((11 to 120) ∷ []) = (omega arith, tt) in
+    each-detail (λ (k : Kind). All (λ (t : Span). 10 ≤ first t - 1) (carried k)) (one, (one, (one, (one, (one, (one, (one, ((omega arith, (omega arith, tt)), tt))))))))
 
 type-fits : (k : Kind) → Fits (place 2 (typeOf k))
 type-fits = each-kind (λ (k : Kind). Fits (place 2 (typeOf k))) (omega arith, (omega arith, (omega arith, (omega arith, (omega arith, (omega arith, (omega arith, (omega arith, (omega arith, (omega arith, (omega arith, tt)))))))))))

@@ -1,5 +1,5 @@
 -- What the demands shut out, by the two-rent flow and the empty one. Assumes nothing.
-use Prim.Native.Nat.{ℕ, suc, _*_, _≤_}
+use Prim.Native.Nat.{ℕ, suc, _≤_}
 use mathlib.Core.Bool.{Bool, true, false, cond}
 use mathlib.Core.List.{List, [], _∷_, _++_, flatten}
 use mathlib.Core.Path.{_≡_, refl, sym, _∙_, ap}
@@ -40,7 +40,7 @@ use Rattle.amend.proofs.Answered.{change-refused, withdraw-refused}
 use Rattle.claims.specs.Demand3.{Kept}
 use Rattle.claims.specs.Excludes.{Reader, AcceptsExactly, RefusesFirst, Refusal, LowestNumber, lastWrong, ChangesFaithfully, WithdrawsFaithfully, Service, Serves, LibraryMeets, Excludes}
 use Rattle.claims.specs.Ledger.{Call, change, withdraw, withAmount, withoutDisposition, changeOn, withdrawOn, listAfter}
-use Rattle.claims.specs.Run.{Memory, holding, lent}
+use Rattle.claims.specs.Run.{Memory, holding, flowIn}
 use Rattle.claims.proofs.Demand3.{demand3}
 use Rattle.claims.proofs.Examples.{examples}
 
@@ -96,7 +96,7 @@ list-left = refl
 -- what a service that meets demand 3 leaves of the two-rent flow
 module _ (serve : Service) (serves : Serves serve) where
   abbrev left : List Call → List ℕ
-  left calls = lent (serve calls twoRents .after)
+  left calls = flowIn (serve calls twoRents .after)
 
   kept : (calls : List Call) → Kept twoRents calls (serve calls twoRents .after) (serve calls twoRents .answers)
   kept = serves twoRents 2 83050 16 (flow .two-rents)
@@ -109,12 +109,12 @@ module _ (serve : Service) (serves : Serves serve) where
 
   changed : ¬ (serve (first ∷ []) twoRents .after ≡ holding twoRents)
   changed same =
-      let none : _≡_ {A = ℕ} 83050 85000 = first-left 2 83050 16 (ap (λ (m : Memory). judge (lent m)) same ∙ flow .two-rents) in
+      let none : _≡_ {A = ℕ} 83050 85000 = first-left 2 83050 16 (ap (λ (m : Memory). judge (flowIn m)) same ∙ flow .two-rents) in
       omega arith
 
   changed-again : ¬ (serve both twoRents .after ≡ serve (first ∷ []) twoRents .after)
   changed-again same =
-      let again = both-left _ _ _ (ap (λ (m : Memory). judge (lent m)) same ∙ kept (first ∷ []) .read) in
+      let again = both-left _ _ _ (ap (λ (m : Memory). judge (flowIn m)) same ∙ kept (first ∷ []) .read) in
       omega (arith, first-total)
 
   withdrawn : (d c n : ℕ) → judge (left (withdraw 1 ∷ [])) ≡ accepted d c n → d ≡ 1
@@ -186,7 +186,7 @@ excludes =
       copied-twice = λ serve serves (c, n, e). let none : _≡_ {A = ℕ} 2 1 = withdrawn serve serves 2 c n e in omega arith;
       moved-up = moved;
       further-mixed = λ read exact. (refuses-so read exact _ 3 7 2 (mixed-judged .0), refuses-so read exact _ 3 7 2 (mixed-judged .1));
-      written-early = λ writer untouched out. let (n, r, p, e) = last-refused (length out) in untouched lastWrong out n r p e;
+      written-early = (last-judged, λ writer untouched out. let (n, r, p, e) = last-refused (length out) in untouched lastWrong out n r p e);
       lowest-number = not-lowest;
     }
 

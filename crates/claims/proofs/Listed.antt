@@ -1,15 +1,15 @@
 -- The list of a flow, disposition by disposition, and what the ledger makes of it. Assumes nothing.
-use Prim.Native.Nat.{ℕ, suc, _+_, _-_, _≤_, _<_}
-use mathlib.Core.Bool.{Bool, true, false, cond}
-use mathlib.Core.List.{List, [], _∷_, _++_, append-assoc, map, map-map, map-append, flatten}
+use Prim.Native.Nat.{ℕ, suc, _+_, _-_, _≤_}
+use mathlib.Core.Bool.{Bool, false, cond}
+use mathlib.Core.List.{List, [], _∷_, _++_, map, map-append, flatten}
 use mathlib.Core.Logic.{_⊎_, inl, inr}
 use mathlib.Core.Path.{_≡_, refl, sym, _∙_, ap, ap₂, subst}
 use native.Mathlib.Omega.{arith}
-use lib.ListN.{length, take, drop, getD, length-append, length-map}
-use lib.Seq.{take-at, drop-at, getD-at}
+use lib.ListN.{length, take, drop, getD, length-map}
 use Rattle.sequences.specs.All.{All}
 use Rattle.sequences.specs.Groups.{lead, groups}
 use Rattle.sequences.specs.Part.{part, put}
+use Rattle.sequences.proofs.Append.{parted}
 use Rattle.sequences.proofs.Flatten.{map-flatten}
 use Rattle.sequences.proofs.Groups.{Opens, lead-joined, groups-joined}
 use Rattle.sequences.proofs.Part.{part-length, part-put, put-at}
@@ -19,9 +19,8 @@ use Rattle.records.specs.Field.{Span, _to_, field}
 use Rattle.records.specs.Kinds.{opens}
 use Rattle.records.specs.declared.kind.Kind.{Kind}
 use Rattle.records.specs.declared.kind.Kind.the-variants.{Im, R14}
-use Rattle.grammar.specs.Grammar.{Typed, kindsOf, recordsIn, Numbered, RightDisposition, Grammar}
+use Rattle.grammar.specs.Grammar.{Typed, kindsOf, Numbered, RightDisposition, Grammar}
 use Rattle.grammar.specs.Grammar.{amountOf as Grammar·amountOf}
-use Rattle.grammar.specs.Rules.{Formed}
 use Rattle.grammar.proofs.Dispositions.{Detail, detail-opens, Opened, opened-by, opened-so, Member, InShape}
 use Rattle.grammar.proofs.Grammar.{grammar-shape}
 use Rattle.list.specs.Encode.{carriedAt, amountOf, centsOf}
@@ -34,10 +33,10 @@ use Rattle.list.proofs.Rewritten.{own-list-items}
 use Rattle.list.proofs.TableSpans.{first, carried-within}
 use Rattle.amend.specs.Withdraw.{renumbered}
 use Rattle.amend.proofs.Among.{Among}
-use Rattle.amend.proofs.Kept.{over-kept, over-length}
+use Rattle.amend.proofs.Kept.{over-kept}
 use Rattle.amend.proofs.Kept.{repriced as Kept·repriced}
 use Rattle.amend.proofs.Left.{amounts, retyped, typedFrom, retold}
-use Rattle.claims.specs.Ledger.{isD, headOf, dispositions, repriced, firstRepriced, withAmount, withoutDisposition}
+use Rattle.claims.specs.Ledger.{isD, leading, dispositions, repriced, firstRepriced, withAmount, withoutDisposition}
 use Rattle.claims.proofs.Encoded.{detail-behind}
 
 -- the items of dispositions
@@ -45,8 +44,8 @@ abbrev pub itemsBy : List (List Typed) → List (List Item)
 itemsBy ds = map (map ownItem) ds
 
 -- the item of a header
-abbrev pub headItem : List ℕ → Item
-headItem header = ownItem (record { kind = Im; bytes = header })
+abbrev pub itemOfHeader : List ℕ → Item
+itemOfHeader header = ownItem (record { kind = Im; bytes = header })
 
 -- a disposition's items: a D, and others that are none
 details-shut : (rs : List Typed) → All Detail (kindsOf rs) → All (λ (it : Item). isD it ≡ false) (map ownItem rs)
@@ -63,7 +62,7 @@ items-open (d ∷ ds) shape = (go d (opened-so d (shape .0)), items-open ds (sha
 -- so the list of a flow is its header's item and its dispositions', and the ledger finds them there
 module _ (f : List ℕ) (d c n : ℕ) (g : Grammar f d c n) where
   abbrev head : Item
-  head = headItem (g .parts .header)
+  head = itemOfHeader (g .parts .header)
 
   abbrev ds : List (List Typed)
   ds = g .parts .dispositions
@@ -71,9 +70,9 @@ module _ (f : List ℕ) (d c n : ℕ) (g : Grammar f d c n) where
   pub listed-so : itemsOf f ≡ head ∷ flatten (itemsBy ds)
   listed-so = own-list-items f d c n g ∙ ap (λ (l : List Item). head ∷ l) (map-flatten ownItem ds)
 
-  head-so : headOf (itemsOf f) ≡ head ∷ []
+  head-so : leading (itemsOf f) ≡ head ∷ []
   unfolding lead
-  head-so = ap headOf listed-so ∙ ap (λ (l : List Item). head ∷ l) (lead-joined isD (itemsBy ds) (items-open ds (grammar-shape f d c n g)))
+  head-so = ap leading listed-so ∙ ap (λ (l : List Item). head ∷ l) (lead-joined isD (itemsBy ds) (items-open ds (grammar-shape f d c n g)))
 
   dispositions-so : dispositions (itemsOf f) ≡ itemsBy ds
   unfolding groups
@@ -82,7 +81,7 @@ module _ (f : List ℕ) (d c n : ℕ) (g : Grammar f d c n) where
 -- disposition k among them
 module _ (f : List ℕ) (k d c n first m a : ℕ) (w : Among f k d c n first m a) where
   abbrev own : Item
-  own = headItem (w .grammar .parts .header)
+  own = itemOfHeader (w .grammar .parts .header)
 
   abbrev before : List (List Item)
   before = itemsBy (w .pre)
@@ -96,27 +95,16 @@ module _ (f : List ℕ) (k d c n first m a : ℕ) (w : Among f k d c n first m a
   found-so : dispositions (itemsOf f) ≡ before ++ (here ∷ behind)
   found-so = dispositions-so f d c n (w .grammar) ∙ ap itemsBy (w .split) ∙ map-append (map ownItem) (w .pre) (w .this ∷ w .post)
 
-  before-count : length before ≡ k - 1
-  before-count = length-map (w .pre) (map ownItem) ∙ omega (arith, w .numbered)
-
-  taken : take (k - 1) (dispositions (itemsOf f)) ≡ before
-  taken = ap (take (k - 1)) found-so ∙ take-at before (here ∷ behind) (k - 1) before-count
-
-  dropped : drop k (dispositions (itemsOf f)) ≡ behind
-  dropped =
-      let ends : length (before ++ (here ∷ [])) ≡ k = length-append before (here ∷ []) ∙ omega (arith, before-count, w .numbered) in
-      ap (drop k) (found-so ∙ sym (append-assoc before (here ∷ []) behind)) ∙ drop-at (before ++ (here ∷ [])) behind k ends
-
-  picked : getD (dispositions (itemsOf f)) (k - 1) [] ≡ here
-  picked = ap (λ (l : List (List Item)). getD l (k - 1) []) found-so ∙ getD-at before here behind [] (k - 1) before-count
+  parts : (take (k - 1) (dispositions (itemsOf f)) ≡ before) × (getD (dispositions (itemsOf f)) (k - 1) [] ≡ here) × (drop k (dispositions (itemsOf f)) ≡ behind)
+  parts = parted k [] (dispositions (itemsOf f)) before here behind found-so (w .numbered ∙ ap (λ (i : ℕ). 1 + i) (sym (length-map (w .pre) (map ownItem))))
 
   pub without-listed : withoutDisposition k (itemsOf f) ≡ own ∷ flatten (before ++ behind)
   unfolding withoutDisposition
-  without-listed = λ i. head-so f d c n (w .grammar) i ++ flatten (taken i ++ dropped i)
+  without-listed = λ i. head-so f d c n (w .grammar) i ++ flatten (parts .0 i ++ parts .2 i)
 
   pub amount-listed : (new : ℕ) → withAmount k new (itemsOf f) ≡ own ∷ flatten (before ++ (firstRepriced new here ∷ behind))
   unfolding withAmount
-  amount-listed new = λ i. head-so f d c n (w .grammar) i ++ flatten (taken i ++ (firstRepriced new (picked i) ∷ dropped i))
+  amount-listed new = λ i. head-so f d c n (w .grammar) i ++ flatten (parts .0 i ++ (firstRepriced new (parts .1 i) ∷ parts .2 i))
 
 -- bytes carried from behind the number are not touched by another number
 gather-kept :

@@ -30,7 +30,7 @@ use Rattle.records.proofs.ByKind.{types-differ}
 use Rattle.records.proofs.EachKind.{each-kind}
 use Rattle.records.proofs.FirstFault.{right-not-refused}
 use Rattle.records.proofs.Numbers.{numbersOf, refused-by}
-use Rattle.flow.specs.Find.{find}
+use Rattle.flow.specs.Find.{IsNumber, find}
 use Rattle.flow.specs.Find.{refused as Located·refused}
 use Rattle.flow.specs.Judge.{judge}
 use Rattle.flow.specs.Records.{recordsOf}
@@ -142,7 +142,7 @@ finding : (f : List ℕ) (k n r p : ℕ) → find f k ≡ Located·refused n r p
 unfolding every isListed
 finding f k n r p e = by (find-refused f k n r p .0 e)
   where
-    by : (judge f ≡ refused n r p) ⊎ ((d c m : ℕ) × (judge f ≡ accepted d c m) × ¬ ((1 ≤ k) × (k ≤ d)) × (n ≡ 15) × (r ≡ 0) × (p ≡ 0)) → OneOf findingNumbers n
+    by : (judge f ≡ refused n r p) ⊎ ((d c m : ℕ) × (judge f ≡ accepted d c m) × ¬ IsNumber k d × (n ≡ 15) × (r ≡ 0) × (p ≡ 0)) → OneOf findingNumbers n
     by (inl wrong) = among findingNumbers readingNumbers n refl (reading f n r p wrong)
     by (inr (d, c, m, read, none, number, none-of, position)) = rw number
 

@@ -1,23 +1,20 @@
 -- One call on an accepted flow, beside one entry of the ledger. Assumes nothing.
 use Prim.Native.Nat.{ℕ, suc, _+_, _-_, _*_, _≤_, _<_}
-use mathlib.Core.Bool.{Bool, true, false, cond, _&&_}
-use mathlib.Core.List.{List, [], _∷_, _++_, append-nil, map, map-append, flatten}
-use mathlib.Core.Logic.{_⊎_, inl, inr}
+use mathlib.Core.Bool.{Bool, true, false, _&&_}
+use mathlib.Core.List.{List, _∷_, _++_, append-nil, map, map-append, flatten}
 use mathlib.Core.Path.{_≡_, refl, sym, _∙_, ap, ap₂, subst}
 use native.Mathlib.Omega.{arith}
 use lib.Dec.{leb, ltb}
 use lib.ListN.{length, take, replicate}
 use lib.Seq.{take-length}
-use borrow.Author.Tests.{leb-true, leb-false, le-leb, lt-leb, lt-ltb, le-ltb}
-use Rattle.records.specs.Context.{headerOf}
-use Rattle.flow.specs.Find.{standing, find}
+use borrow.Author.Tests.{leb-true, le-leb, lt-leb, lt-ltb, le-ltb}
+use Rattle.flow.specs.Find.{IsNumber}
 use Rattle.flow.specs.Judge.{judge}
 use Rattle.flow.specs.Seek.{Target, target, seek}
-use Rattle.flow.specs.Verdict.{Verdict, accepted}
-use Rattle.flow.specs.Verdict.{refused as Verdict·refused}
+use Rattle.flow.specs.Verdict.{accepted}
 use Rattle.flow.proofs.Accepted.{accepted-not-refused}
 use Rattle.flow.proofs.Sought.{apart, read-found, sought-read}
-use Rattle.grammar.specs.Grammar.{Typed, amountOf, Grammar}
+use Rattle.grammar.specs.Grammar.{Typed, amountOf}
 use Rattle.grammar.proofs.Grammar.{grammar-exact}
 use Rattle.list.specs.Encode.{dispositionsOf, centsOf}
 use Rattle.list.specs.Items.{Item}
@@ -27,17 +24,17 @@ use Rattle.list.proofs.Rewritten.{own-list-items, own-sums, items-so}
 use Rattle.amend.specs.Amended.{Amended, unchanged}
 use Rattle.amend.specs.Change.{changed as Change·changed}
 use Rattle.amend.specs.Change.{change as Change·change}
-use Rattle.amend.specs.Laws.{Numbers, ChangeFault, not-read, no-disposition, amount-too-large, total-too-large, WithdrawFault, only-one, flowLeft}
+use Rattle.amend.specs.Laws.{ChangeFault, not-read, no-disposition, amount-too-large, total-too-large, WithdrawFault, only-one, flowLeft}
 use Rattle.amend.specs.Withdraw.{withdraw as Withdraw·withdraw, withdrawn as Withdraw·withdrawn}
 use Rattle.amend.proofs.Among.{Among, among-so, restOf, changedOf}
 use Rattle.amend.proofs.Answered.{Changing, changing, changes, Withdrawing, withdrawing, withdraws, refuses, changed-grammar, withdrawn-grammar, refused-untouched, seeking, Seeking, stands, unread, none}
 use Rattle.amend.proofs.Leaving.{change-touches, withdraw-touches, changedFlow, changed-read, changed-size, changed-whole, withdrawnFlow, withdrawn-read, withdrawn-length, withdrawn-size, withdrawn-front}
-use Rattle.amend.proofs.Left.{amounts, typedFrom, retold, here, behind, changed-cents, changed-numbered}
+use Rattle.amend.proofs.Left.{typedFrom, retold, here, behind, changed-cents, changed-numbered}
 use Rattle.claims.specs.Demand3.{Touched}
-use Rattle.claims.specs.Ledger.{Call, change, withdraw, Reply, changed, withdrawn, refused, Entry, refusal, has, withAmount, withoutDisposition, changeLeaving, changeOn, withdrawLeaving, withdrawOn, entry, firstRepriced}
+use Rattle.claims.specs.Ledger.{Call, change, withdraw, change-accepted, withdrawal-accepted, refused, Entry, refusal, has, withAmount, withoutDisposition, changeOn, withdrawLeaving, withdrawOn, entry, firstRepriced}
 use Rattle.claims.specs.Run.{amend, replyOf}
 use Rattle.claims.proofs.Canonical.{changed-canonical, withdrawn-canonical}
-use Rattle.claims.proofs.Listed.{itemsBy, headItem, listed-so, without-listed, amount-listed, typed-items, items-retold, items-cents}
+use Rattle.claims.proofs.Listed.{itemsBy, itemOfHeader, listed-so, without-listed, amount-listed, typed-items, items-retold, items-cents}
 
 -- what a call leaves of the flow f, beside the ledger's entry
 pub record Step (f : List ℕ) (call : Call) (a : Amended) (e : Entry) : Type 0 where
@@ -82,13 +79,13 @@ whole-memory : (f left : List ℕ) → left ≡ left ++ replicate (length f - le
 whole-memory f left = let none-left : length f - length f ≡ 0 = omega arith in sym (append-nil left) ∙ ap (λ (m : ℕ). left ++ replicate m 32) (sym none-left)
 
 -- whether the ledger has a disposition k
-has-number : (k d : ℕ) (is : List Item) → dispositionsOf is ≡ d → Numbers k d → has k is ≡ true
+has-number : (k d : ℕ) (is : List Item) → dispositionsOf is ≡ d → IsNumber k d → has k is ≡ true
 has-number k d is count numbers =
     let low : leb 1 k ≡ true = le-leb 1 k (numbers .0) in
     let high : leb k (dispositionsOf is) ≡ true = ap (leb k) count ∙ le-leb k d (numbers .1) in
     ap₂ (λ (a b : Bool). a && b) low high
 
-has-none : (k d : ℕ) (is : List Item) → dispositionsOf is ≡ d → ¬ Numbers k d → has k is ≡ false
+has-none : (k d : ℕ) (is : List Item) → dispositionsOf is ≡ d → ¬ IsNumber k d → has k is ≡ false
 has-none k d is count absent = by (leb 1 k) (leb k d) refl refl
   where
     by : (a b : Bool) → leb 1 k ≡ a → leb k d ≡ b → has k is ≡ false
@@ -113,16 +110,16 @@ module _ (f : List ℕ) (d c n : ℕ) (read : judge f ≡ accepted d c n) where
   count : dispositionsOf is ≡ d
   count = numbers-listed f d c n read .0
 
-  numbers-same : (k d′ c′ n′ : ℕ) → judge f ≡ accepted d′ c′ n′ → (Numbers k d′ → Numbers k d) × (Numbers k d → Numbers k d′)
+  numbers-same : (k d′ c′ n′ : ℕ) → judge f ≡ accepted d′ c′ n′ → (IsNumber k d′ → IsNumber k d) × (IsNumber k d → IsNumber k d′)
   numbers-same k d′ c′ n′ other =
       let same : accepted d′ c′ n′ ≡ accepted d c n = sym other ∙ read in
       let equal : d′ ≡ d = cc in
-      (subst (Numbers k) equal, subst (Numbers k) (sym equal))
+      (subst (IsNumber k) equal, subst (IsNumber k) (sym equal))
 
-  found-number : (k d′ c′ n′ first m a : ℕ) → seek f k ≡ target d′ c′ n′ first m a → Numbers k d
+  found-number : (k d′ c′ n′ first m a : ℕ) → seek f k ≡ target d′ c′ n′ first m a → IsNumber k d
   found-number k d′ c′ n′ first m a found = go (seek f k) (seeking f k) found
     where
-      go : (t : Target) → Seeking f k t → t ≡ target d′ c′ n′ first m a → Numbers k d
+      go : (t : Target) → Seeking f k t → t ≡ target d′ c′ n′ first m a → IsNumber k d
       go t (unread wrong) e = absurd (apart e)
       go t (none other absent) e = absurd (apart e)
       go t (stands {d = d₀} {c = c₀} {n = n₀} other place numbers) e = numbers-same k d₀ c₀ n₀ other .0 numbers
@@ -138,11 +135,11 @@ module _ (f : List ℕ) (d c n : ℕ) (read : judge f ≡ accepted d c n) where
     abbrev ds : List (List Typed)
     ds = changedOf f k d′ c′ n′ first m a w new below
 
-    amount-so : withAmount k new is ≡ headItem (w .grammar .parts .header) ∷ flatten (itemsBy ds)
+    amount-so : withAmount k new is ≡ itemOfHeader (w .grammar .parts .header) ∷ flatten (itemsBy ds)
     amount-so =
         let right = here f d′ c′ n′ (w .grammar) (w .pre) (w .this) (w .post) (w .split) in
         let same : itemsBy ds ≡ itemsBy (w .pre) ++ (firstRepriced new (map ownItem (w .this)) ∷ itemsBy (w .post)) = map-append (map ownItem) (w .pre) (retold new (w .this) ∷ w .post) ∙ ap (λ (l : List Item). itemsBy (w .pre) ++ (l ∷ itemsBy (w .post))) (items-retold new _ _ (w .this) right) in
-        amount-listed f k d′ c′ n′ first m a w new ∙ ap (λ (l : List (List Item)). headItem (w .grammar .parts .header) ∷ flatten l) (sym same)
+        amount-listed f k d′ c′ n′ first m a w new ∙ ap (λ (l : List (List Item)). itemOfHeader (w .grammar .parts .header) ∷ flatten l) (sym same)
 
     amount-cents : centsOf (withAmount k new is) ≡ c′ - a + new
     unfolding centsOf
@@ -184,9 +181,9 @@ module _ (f : List ℕ) (d c n : ℕ) (read : judge f ≡ accepted d c n) where
         let there : has k is ≡ true = has-number k d is count (found-number k d′ c′ n′ first m a found) in
         let within : leb new 9999999999999 ≡ true = le-leb new 9999999999999 small in
         let low : leb (centsOf (withAmount k new is)) 999999999999999 ≡ true = ap (λ (x : ℕ). leb x 999999999999999) (amount-cents k new d′ c′ n′ first m a found small) ∙ le-leb (c′ - a + new) 999999999999999 fits in
-        let own : changeOn k new is ≡ record { reply = changed (dispositionsOf (withAmount k new is)) (centsOf (withAmount k new is)) (suc (length (withAmount k new is))); items = withAmount k new is } = rw (there, within, low) in
+        let own : changeOn k new is ≡ record { reply = change-accepted (dispositionsOf (withAmount k new is)) (centsOf (withAmount k new is)) (suc (length (withAmount k new is))); items = withAmount k new is } = rw (there, within, low) in
         let numbers = numbers-listed left d′ (c′ - a + new) n′ told in
-        let reply = (λ i. changed (sym (numbers .0) i) (sym (numbers .1) i) (sym (numbers .2) i)) ∙ ap (λ (l : List Item). changed (dispositionsOf l) (centsOf l) (suc (length l))) listed in
+        let reply = (λ i. change-accepted (sym (numbers .0) i) (sym (numbers .1) i) (sym (numbers .2) i)) ∙ ap (λ (l : List Item). change-accepted (dispositionsOf l) (centsOf l) (suc (length l))) listed in
         let canonical : Canonical f → Canonical left = λ c. changed-canonical f k d′ c′ n′ first m a w′ c new (below k new d′ c′ n′ first m a found small) fits in
         subst (Step f (change k new) _) (sym own) (left-step f (change k new) _ _ left whole told listed reply canonical (changed-size f k d′ c′ n′ first m a found new small fits) (omega arith) (whole-memory f left))
 
@@ -225,13 +222,13 @@ module _ (f : List ℕ) (d c n : ℕ) (read : judge f ≡ accepted d c n) where
         let g = withdrawn-grammar f k d′ c′ n′ first m a w′ some in
         let later = behind f d′ c′ n′ (w′ .grammar) (w′ .pre) (w′ .this) (w′ .post) (w′ .split) in
         let same : itemsBy (restOf f k d′ c′ n′ first m a w′) ≡ itemsBy (w′ .pre) ++ itemsBy (w′ .post) = map-append (map ownItem) (w′ .pre) (typedFrom (1 + length (w′ .pre)) (w′ .post)) ∙ ap (λ (l : List (List Item)). itemsBy (w′ .pre) ++ l) (typed-items _ _ _ (w′ .post) later) in
-        let listed : itemsOf left ≡ list = listed-so left (d′ - 1) (c′ - a) (n′ - m) g ∙ ap (λ (l : List (List Item)). headItem (w′ .grammar .parts .header) ∷ flatten l) same ∙ sym (without-listed f k d′ c′ n′ first m a w′) in
+        let listed : itemsOf left ≡ list = listed-so left (d′ - 1) (c′ - a) (n′ - m) g ∙ ap (λ (l : List (List Item)). itemOfHeader (w′ .grammar .parts .header) ∷ flatten l) same ∙ sym (without-listed f k d′ c′ n′ first m a w′) in
         let there : has k is ≡ true = has-number k d is count (found-number k d′ c′ n′ first m a found) in
         let equal = numbers-listed f d′ c′ n′ (sought-read f k found .0) .0 in
         let more : ltb 1 (dispositionsOf is) ≡ true = lt-ltb 1 (dispositionsOf is) (omega arith) in
         let own : withdrawOn k is ≡ withdrawLeaving list = rw (there, more) in
         let numbers = numbers-listed left (d′ - 1) (c′ - a) (n′ - m) told in
-        let reply = (λ i. withdrawn (sym (numbers .0) i) (sym (numbers .1) i) (sym (numbers .2) i) (120 * sym (numbers .2) i)) ∙ ap (λ (l : List Item). withdrawn (dispositionsOf l) (centsOf l) (suc (length l)) (120 * suc (length l))) listed in
+        let reply = (λ i. withdrawal-accepted (sym (numbers .0) i) (sym (numbers .1) i) (sym (numbers .2) i) (120 * sym (numbers .2) i)) ∙ ap (λ (l : List Item). withdrawal-accepted (dispositionsOf l) (centsOf l) (suc (length l)) (120 * suc (length l))) listed in
         let canonical : Canonical f → Canonical left = λ c. withdrawn-canonical f k d′ c′ n′ first m a w′ c some in
         subst (Step f (withdraw k) _) (sym own) (left-step f (withdraw k) _ (withdrawLeaving list) left front told listed reply canonical (withdrawn-length f k d′ c′ n′ first m a found some) (withdrawn-size f k d′ c′ n′ first m a found some) refl)
 

@@ -24,12 +24,13 @@ use Rattle.flow.specs.Steps.{judgeRecord}
 use Rattle.flow.specs.Verdict.{refused}
 use Rattle.flow.specs.declared.walk.Walk.{Walk}
 use Rattle.grammar.specs.Laws.{FirstFaultExact, RightOrFaulty, PlaceFaultExact, PartEmpty}
-use Rattle.list.specs.Laws.{FaultyExact, WriteRefused, WriteLeaves, ReadBackRefused, ReadBackLeaves}
+use Rattle.list.specs.Laws.{FaultyExact, WriteRefused, WriteAnswers, WriteLeaves, ReadBackRefused, ReadBackAnswers, ReadBackLeaves}
 use Rattle.list.specs.ReadBack.{judgeRoom}
 use Rattle.list.specs.Write.{judgeList}
 use Rattle.amend.specs.Change.{change}
 use Rattle.amend.specs.Laws.{ChangeRefused, WithdrawRefused, RefusedUntouched}
 use Rattle.amend.specs.Withdraw.{withdraw}
+use Rattle.claims.specs.EntryPoints.{EntryPoints, AskNothing}
 
 -- the numbers that document 01 gives to each call; 19 is given to none
 abbrev pub readingNumbers : List ℕ
@@ -45,7 +46,7 @@ recordNumbers = 1 ∷ 5 ∷ 6 ∷ 7 ∷ 8 ∷ 9 ∷ 10 ∷ 11 ∷ 12 ∷ 13 ∷ 
 abbrev pub placeNumbers : List ℕ
 placeNumbers = 2 ∷ 3 ∷ recordNumbers
 
--- EF is not judged in writing: neither 4 nor what its row of the table gives
+-- writing gives none of 4, 12, 13 and 14: the flow always ends with EF, which is not judged
 abbrev pub writingNumbers : List ℕ
 writingNumbers = 20 ∷ 1 ∷ 21 ∷ 2 ∷ 3 ∷ 5 ∷ 6 ∷ 7 ∷ 8 ∷ 9 ∷ 10 ∷ 11 ∷ 17 ∷ []
 
@@ -76,15 +77,18 @@ pub record NumbersGiven : Type 0 where
   pub changing : (f : List ℕ) (k new n r p : ℕ) → change f k new .answer ≡ refused n r p → OneOf changeNumbers n
   pub withdrawing : (f : List ℕ) (k n r p : ℕ) → withdraw f k .answer ≡ refused n r p → OneOf withdrawalNumbers n
 
--- "whatever bytes we lend, every entry point ends with an answer and asks nothing of us first": `EntryPoints` and `AskNothing`. "A refusal
--- gives one number, one record and one position from the table, always the first fault in the stated order, and no lent byte has changed":
-pub record Demand1 : Type 0 where
+pub record Demand1 : Type 2 where
+  -- "whatever bytes we lend, every entry point ends with an answer and asks nothing of us first"
+  pub answers : EntryPoints
+  pub asks-nothing : AskNothing
+  -- "a refusal gives one number, one record and one position from the table, always the first fault in the stated order, and no lent byte
+  -- has changed"
   pub numbers : NumbersGiven
   -- the field rules: what is refused, and by which number
   pub digits : FieldRefused
   pub amount : AmountRefused
   pub date : DateRefused
-  -- one record: the checks stand in the stated order, a record is refused exactly by the first that fails, and by 1 for its length alone
+  -- one record: the checks stand in the stated order, a record is refused exactly by the first that fails, and by 1 exactly for its length
   pub checks-in-order : ChecksInOrder
   pub broken : BrokenExact
   pub one-for-length : OneForLength
@@ -102,7 +106,9 @@ pub record Demand1 : Type 0 where
   -- a list: which item is none, and each refusal of writing where those before it do not apply
   pub faulty : FaultyExact
   pub write : WriteRefused
+  pub write-answers : WriteAnswers
   pub read-back : ReadBackRefused
+  pub read-back-answers : ReadBackAnswers
   -- the amendments: the reader's refusals, then each of their own where those before it do not apply
   pub change-refused : ChangeRefused
   pub withdraw-refused : WithdrawRefused

@@ -2,7 +2,7 @@
 use Prim.Native.Nat.{ℕ, suc, _-_, _≤_}
 use mathlib.Core.List.{List, _++_}
 use mathlib.Core.Path.{_≡_}
-use lib.ListN.{length, getD, replicate}
+use lib.ListN.{length, replicate}
 use Rattle.flow.specs.Find.{standing, find}
 use Rattle.flow.specs.Judge.{judge}
 use Rattle.flow.specs.Verdict.{accepted, refused}
@@ -10,25 +10,25 @@ use Rattle.list.specs.Encode.{dispositionsOf, centsOf, encode}
 use Rattle.list.specs.Items.{Item, listBytes}
 use Rattle.list.specs.ReadBack.{itemsOf, listOf, Canonical}
 use Rattle.amend.specs.Amended.{Amended}
-use Rattle.amend.specs.Laws.{Untouched, flowLeft, Lies, Moved}
+use Rattle.amend.specs.Laws.{Untouched, flowLeft, AmountOnly, Moved}
 use Rattle.claims.specs.Ledger.{Call, change, withdraw, Reply, listAfter, repliesOn}
-use Rattle.claims.specs.Run.{Memory, holding, lent, run, replies, EachCall}
+use Rattle.claims.specs.Run.{Memory, holding, flowIn, run, replies, EachCall}
 
 -- what is left of the flow f in the memory, and what was answered, beside the list on the ledger and its replies
 pub record Agrees (f : List ℕ) (after : Memory) (answers : List Reply) (list : List Item) (due : List Reply) : Type 0 where
   -- "the flow left is accepted": with the count, the total and the records of the list on the ledger
-  pub read : judge (lent after) ≡ accepted (dispositionsOf list) (centsOf list) (suc (length list))
+  pub read : judge (flowIn after) ≡ accepted (dispositionsOf list) (centsOf list) (suc (length list))
   -- "its request list is exactly the one on the sheet": as items, and as bytes
-  pub items : itemsOf (lent after) ≡ list
-  pub bytes : listOf (lent after) ≡ listBytes list
+  pub items : itemsOf (flowIn after) ≡ list
+  pub bytes : listOf (flowIn after) ≡ listBytes list
   -- "every call has answered exactly as the sheet does, refusals too"
   pub answered : answers ≡ due
   -- "if the first flow was clean, the flow left is byte for byte what its request list spells"
-  pub canonical : Canonical f → lent after ≡ encode list
+  pub canonical : Canonical f → flowIn after ≡ encode list
   -- "at the end the first flow's memory holds the flow left, then blanks": at the length that the next call is lent
-  pub sized : length (lent after) ≡ after .size
+  pub sized : length (flowIn after) ≡ after .size
   pub within : after .size ≤ length f
-  pub memory : after .bytes ≡ lent after ++ replicate (length f - after .size) 32
+  pub memory : after .bytes ≡ flowIn after ++ replicate (length f - after .size) 32
 
 -- what holds behind a list of calls on the flow f, with the ledger that "starts as the first flow's list and is kept from the calls alone"
 abbrev pub Kept : List ℕ → List Call → Memory → List Reply → Type 0
@@ -37,7 +37,7 @@ Kept f calls after answers = Agrees f after answers (listAfter calls (itemsOf f)
 -- the positions that document 01 names for an accepted call, where disposition k stands from record `first` on and has m records, and the
 -- trailer is record n: of a change by byte index; of a withdrawal by comparing each record that is kept with the one that it came from
 abbrev pub TouchesOnly : Call → List ℕ → Amended → ℕ → ℕ → ℕ → Type 0
-TouchesOnly (change k new) f a first m n = (length (a .bytes) ≡ length f) × ((i : ℕ) → ¬ Lies i first 34 46 → ¬ Lies i n 53 67 → getD (a .bytes) i 0 ≡ getD f i 0)
+TouchesOnly (change k new) f a first m n = AmountOnly f (a .bytes) n first
 TouchesOnly (withdraw k) f a first m n = Moved f (flowLeft a) n first m
 
 abbrev pub numberOf : Call → ℕ

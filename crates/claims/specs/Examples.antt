@@ -19,7 +19,7 @@ use Rattle.list.specs.Items.{listBytes, itemsIn}
 use Rattle.amend.specs.Change.{change}
 use Rattle.amend.specs.Laws.{Untouched, flowLeft}
 use Rattle.amend.specs.Withdraw.{withdraw}
-use Rattle.claims.specs.Ledger.{Call, changed, withdrawn, listAfter, repliesOn}
+use Rattle.claims.specs.Ledger.{Call, change-accepted, withdrawal-accepted, listAfter, repliesOn}
 use Rattle.claims.specs.Ledger.{change as Ledger·change, withdraw as Ledger·withdraw, refused as Reply·refused}
 
 -- the flow of the first rent alone
@@ -73,7 +73,7 @@ someCalls =
 pub record LedgerExample : Type 0 where
   pub answered :
       repliesOn someCalls (itemsIn twoRentList)
-      ≡ changed 2 85000 16 ∷ Reply·refused 15 0 0 ∷ Reply·refused 16 0 0 ∷ withdrawn 1 40000 9 1080 ∷ Reply·refused 18 0 0 ∷ changed 1 39000 9 ∷ []
+      ≡ change-accepted 2 85000 16 ∷ Reply·refused 15 0 0 ∷ Reply·refused 16 0 0 ∷ withdrawal-accepted 1 40000 9 1080 ∷ Reply·refused 18 0 0 ∷ change-accepted 1 39000 9 ∷ []
   -- the header's item, and the second rent's with the new amount
   pub left :
       listBytes (listAfter someCalls (itemsIn twoRentList))

@@ -20,7 +20,7 @@ use Rattle.list.specs.Examples.{headerItem, secondItems, twoRentList}
 use Rattle.list.specs.Items.{itemsIn}
 use Rattle.list.specs.Laws.{LeavesAlone}
 use Rattle.list.specs.Output.{Output}
-use Rattle.list.specs.Write.{judgeList, write}
+use Rattle.list.specs.Write.{judgeItems, judgeList, write}
 use Rattle.amend.specs.Amended.{Amended}
 use Rattle.amend.specs.Change.{change}
 use Rattle.amend.specs.Laws.{ChangeFault, WithdrawFault}
@@ -28,7 +28,7 @@ use Rattle.amend.specs.Withdraw.{withdraw}
 use Rattle.claims.specs.Demand3.{Kept}
 use Rattle.claims.specs.Ledger.{Call, Reply}
 use Rattle.claims.specs.Ledger.{withdraw as Call·withdraw}
-use Rattle.claims.specs.Run.{Memory, holding, lent, run, replies}
+use Rattle.claims.specs.Run.{Memory, holding, flowIn, run, replies}
 
 -- a reader, and that it meets demand 2, or demand 1
 abbrev pub Reader : Type 0
@@ -110,15 +110,16 @@ pub record Excludes : Type 0 where
       → (d ≡ dispositionsOf (recordsOf f)) × (c ≡ centsOf (recordsOf f)) × (n * 120 ≡ length f)
   -- The rest are the "errors that look right", in document 01's order. "Summing the trailer from the bytes as moved, so that a block copied
   -- twice agrees with itself": whatever its trailer says, the flow left by the withdrawal of the first rent never has two dispositions
-  pub copied-twice : (serve : Service) → Serves serve → ¬ ((c n : ℕ) × (judge (lent (serve (Call·withdraw 1 ∷ []) twoRents .after)) ≡ accepted 2 c n))
+  pub copied-twice : (serve : Service) → Serves serve → ¬ ((c n : ℕ) × (judge (flowIn (serve (Call·withdraw 1 ∷ []) twoRents .after)) ≡ accepted 2 c n))
   -- "moving records up from the wrong end, so that later records are overwritten before they are read": what is left is, byte for byte, what
   -- the header and the second rent encode
-  pub moved-up : (serve : Service) → Serves serve → lent (serve (Call·withdraw 1 ∷ []) twoRents .after) ≡ encode (itemsIn (flowOf (headerItem ++ secondItems)))
+  pub moved-up : (serve : Service) → Serves serve → flowIn (serve (Call·withdraw 1 ∷ []) twoRents .after) ≡ encode (itemsIn (flowOf (headerItem ++ secondItems)))
   -- "comparing 59 after 50 as a further 50: either kind excludes the other": 3 at the second of them
   pub further-mixed :
       (read : Reader) → RefusesFirst read
       → (read (withFurther (take 1 firstClosed ++ (further59 ∷ []))) ≡ refused 3 7 2) × (read (withFurther (further59 ∷ take 1 firstClosed)) ≡ refused 3 7 2)
   -- "writing output before the last item has been judged, then refusing": the two-rent list whose last item alone breaks a rule
-  pub written-early : (writer : Writer) → RefusesUntouched writer → (out : List ℕ) → LeavesAlone (writer lastWrong out) out
+  pub written-early :
+      (judgeItems (itemsIn lastWrong) ≡ refused 6 15 94) × ((writer : Writer) → RefusesUntouched writer → (out : List ℕ) → LeavesAlone (writer lastWrong out) out)
   -- "reporting the lowest refusal number, where the lowest record is wanted"
   pub lowest-number : (read : Reader) → RefusesFirst read → ¬ LowestNumber read

@@ -22,16 +22,16 @@ pub data Call : Type 0 where
 -- what a call is answered: accepted, with dispositions, cents and records, and a withdrawal with the new length too; or refused, with
 -- number, record and position
 pub data Reply : Type 0 where
-  changed : ℕ → ℕ → ℕ → Reply
-  withdrawn : ℕ → ℕ → ℕ → ℕ → Reply
+  change-accepted : ℕ → ℕ → ℕ → Reply
+  withdrawal-accepted : ℕ → ℕ → ℕ → ℕ → Reply
   refused : ℕ → ℕ → ℕ → Reply
 
--- "disposition k is the k-th D with the items after it, up to the next D or the end"; before the first D stands the head
+-- "disposition k is the k-th D with the items after it, up to the next D or the end"; before the first D stands the item of the header
 abbrev pub isD : Item → Bool
 isD it = opens (it .kind)
 
-abbrev pub headOf : List Item → List Item
-headOf is = lead isD is
+abbrev pub leading : List Item → List Item
+leading is = lead isD is
 
 abbrev pub dispositions : List Item → List (List Item)
 dispositions is = groups isD is
@@ -47,13 +47,13 @@ firstRepriced new (it ∷ is) = repriced new it ∷ is
 unfoldable pub withAmount : ℕ → ℕ → List Item → List Item
 withAmount k new is =
     let ds = dispositions is in
-    headOf is ++ flatten (take (k - 1) ds ++ (firstRepriced new (getD ds (k - 1) []) ∷ drop k ds))
+    leading is ++ flatten (take (k - 1) ds ++ (firstRepriced new (getD ds (k - 1) []) ∷ drop k ds))
 
 -- "the items of disposition k go"
 unfoldable pub withoutDisposition : ℕ → List Item → List Item
 withoutDisposition k is =
     let ds = dispositions is in
-    headOf is ++ flatten (take (k - 1) ds ++ drop k ds)
+    leading is ++ flatten (take (k - 1) ds ++ drop k ds)
 
 -- the ledger behind a call: what the call is answered, and the list that is left
 pub record Entry : Type 0 where
@@ -73,7 +73,7 @@ has k is = leb 1 k && leb k (dispositionsOf is)
 abbrev pub changeLeaving : List Item → List Item → Entry
 changeLeaving left is =
     cond (leb (centsOf left) 999999999999999)
-    (record { reply = changed (dispositionsOf left) (centsOf left) (suc (length left)); items = left })
+    (record { reply = change-accepted (dispositionsOf left) (centsOf left) (suc (length left)); items = left })
     (refusal 17 is)
 
 unfoldable pub changeOn : ℕ → ℕ → List Item → Entry
@@ -81,7 +81,7 @@ changeOn k new is = cond (has k is) (cond (leb new 9999999999999) (changeLeaving
 
 -- "refused by 15, 18 likewise"; "a withdrawal also 120 times that last number, the new length"
 abbrev pub withdrawLeaving : List Item → Entry
-withdrawLeaving left = record { reply = withdrawn (dispositionsOf left) (centsOf left) (suc (length left)) (120 * suc (length left)); items = left }
+withdrawLeaving left = record { reply = withdrawal-accepted (dispositionsOf left) (centsOf left) (suc (length left)) (120 * suc (length left)); items = left }
 
 unfoldable pub withdrawOn : ℕ → List Item → Entry
 withdrawOn k is = cond (has k is) (cond (ltb 1 (dispositionsOf is)) (withdrawLeaving (withoutDisposition k is)) (refusal 18 is)) (refusal 15 is)

@@ -9,7 +9,7 @@ use Rattle.flow.specs.Verdict.{refused as Verdict·refused}
 use Rattle.amend.specs.Amended.{Amended}
 use Rattle.amend.specs.Change.{change as Change·change}
 use Rattle.amend.specs.Withdraw.{withdraw as Withdraw·withdraw}
-use Rattle.claims.specs.Ledger.{Call, change, withdraw, Reply, changed, withdrawn, refused}
+use Rattle.claims.specs.Ledger.{Call, change, withdraw, Reply, change-accepted, withdrawal-accepted, refused}
 
 -- what a call leaves of the flow that it is lent: `amend::change` or `amend::withdraw`
 abbrev pub amend : Call → List ℕ → Amended
@@ -18,8 +18,8 @@ amend (withdraw k) f = Withdraw·withdraw f k
 
 -- what it is answered, with the length where it is a withdrawal that was accepted
 abbrev pub replied : Call → Verdict → ℕ → Reply
-replied (change k new) (accepted d c n) size = changed d c n
-replied (withdraw k) (accepted d c n) size = withdrawn d c n size
+replied (change k new) (accepted d c n) size = change-accepted d c n
+replied (withdraw k) (accepted d c n) size = withdrawal-accepted d c n size
 replied call (Verdict·refused e r p) size = refused e r p
 
 abbrev pub replyOf : Call → Amended → Reply
@@ -34,14 +34,14 @@ pub record Memory : Type 0 where
 abbrev pub holding : List ℕ → Memory
 holding f = record { bytes = f; size = length f }
 
--- what the next call is lent
-abbrev pub lent : Memory → List ℕ
-lent m = take (m .size) (m .bytes)
+-- the flow that it holds: what the next call is lent
+abbrev pub flowIn : Memory → List ℕ
+flowIn m = take (m .size) (m .bytes)
 
 -- the memory behind a call
 abbrev pub behind : Call → Memory → Memory
 behind call m =
-    let a = amend call (lent m) in
+    let a = amend call (flowIn m) in
     record { bytes = put 0 (a .bytes) (m .bytes); size = a .size }
 
 unfoldable pub run : List Call → Memory → Memory
@@ -50,9 +50,9 @@ run (c ∷ cs) m = run cs (behind c m)
 
 unfoldable pub replies : List Call → Memory → List Reply
 replies [] m = []
-replies (c ∷ cs) m = replyOf c (amend c (lent m)) ∷ replies cs (behind c m)
+replies (c ∷ cs) m = replyOf c (amend c (flowIn m)) ∷ replies cs (behind c m)
 
 -- what holds of every call, of the flow that it is lent and of what it leaves
 unfoldable pub EachCall : (Call → List ℕ → Amended → Type 0) → List Call → Memory → Type 0
 EachCall P [] m = Unit
-EachCall P (c ∷ cs) m = P c (lent m) (amend c (lent m)) × EachCall P cs (behind c m)
+EachCall P (c ∷ cs) m = P c (flowIn m) (amend c (flowIn m)) × EachCall P cs (behind c m)

@@ -93,7 +93,7 @@ record-not-one header w company n rec p whole e = bytes (eqb (badByte rec) 0) (a
   where
     bytes : (b : Bool) (x : Found) → ¬ (cond b (typed header w company n rec x) (Finding·refused 2 (badByte rec)) ≡ Finding·refused 1 p)
     bytes true Missing x = let z : _≡_ {A = ℕ} 3 1 = cc in omega arith
-    bytes true (Of k) x = one-for-length k (context header company (countsAt w n k)) rec p x whole
+    bytes true (Of k) x = one-for-length k (context header company (countsAt w n k)) rec p .0 x .1 whole
     bytes false found x = let z : _≡_ {A = ℕ} 2 1 = cc in omega arith
 
 -- so of whole records no refusal is by 1

@@ -1,17 +1,18 @@
 -- Reading and finding together: which of the two decides. Assumes nothing.
 use Prim.Native.Nat.{ℕ}
+use mathlib.Core.Bool.{true, false, _&&_}
 use mathlib.Core.List.{List}
 use mathlib.Core.Logic.{inl}
 use mathlib.Core.Path.{_≡_, refl, sym, _∙_, ap, ap₂}
 use native.Mathlib.Omega.{arith}
-use Rattle.flow.specs.Find.{Located, standing, find}
+use lib.Dec.{leb}
+use Rattle.flow.specs.Find.{Located, standing, dispositionsIn, standsAt, find}
 use Rattle.flow.specs.Find.{refused as Located·refused}
 use Rattle.flow.specs.Judge.{judge}
 use Rattle.flow.specs.Laws.{SoughtDetermined, SeekExact}
-use Rattle.flow.specs.Seek.{Target, target, refused, together, sought, seek}
+use Rattle.flow.specs.Seek.{target, refused, together, seek}
 use Rattle.flow.specs.Verdict.{Verdict, accepted}
 use Rattle.flow.specs.Verdict.{refused as Verdict·refused}
-use Rattle.flow.specs.declared.location.Sought.{Sought}
 use Rattle.flow.specs.declared.location.Sought.the-variants.{At, Refused}
 use Rattle.flow.proofs.Dispositions.{find-refused}
 
@@ -38,6 +39,16 @@ module _ (f : List ℕ) (k : ℕ) where
       by (Verdict·refused e′ r′ p′) wrong =
           let same : Located·refused e′ r′ p′ ≡ Located·refused e r p = rw wrong at none in
           not-read wrong ∙ cc
+
+  -- so it is decided by the number
+  module _ {d c n : ℕ} (read : judge f ≡ accepted d c n) where
+    pub no-number : (leb 1 k && leb k d) ≡ false → seek f k ≡ refused 15 0 0
+    unfolding find
+    no-number test = not-found (rw (read, test))
+
+    pub numbered : (leb 1 k && leb k d) ≡ true → {first m a : ℕ} → standing first m a ≡ standsAt (dispositionsIn f) k → seek f k ≡ target d c n first m a
+    unfolding find
+    numbered test place = read-found read (rw (read, test) (sym place))
 
   -- what was sought stands in an accepted flow
   pub sought-read : {d c n first m a : ℕ} → seek f k ≡ target d c n first m a → (judge f ≡ accepted d c n) × (find f k ≡ standing first m a)

@@ -38,6 +38,10 @@ dispositionsIn f = groups (hasType R14) (dropLast (recordsOf f))
 abbrev pub startsAt : List (List (List ℕ)) → ℕ → ℕ
 startsAt ds k = suc (length (flatten (take (k - 1) ds)))
 
+-- a number that one of d dispositions has
+abbrev pub IsNumber : ℕ → ℕ → Type 0
+IsNumber k d = (1 ≤ k) × (k ≤ d)
+
 -- the k-th of them
 abbrev pub standsAt : List (List (List ℕ)) → ℕ → Located
 standsAt ds k =

@@ -1,11 +1,11 @@
 -- What is proved of reading a flow and of asking where a disposition is. `proofs/` has its proof under the law's name in small letters.
 -- Assumes nothing.
-use Prim.Native.Nat.{ℕ, _*_, _≤_, _<_}
+use Prim.Native.Nat.{ℕ, _*_, _<_}
 use mathlib.Core.List.{List}
 use mathlib.Core.Logic.{_↔_, _⊎_}
 use mathlib.Core.Path.{_≡_}
 use lib.ListN.{length}
-use Rattle.flow.specs.Find.{standing, located, find}
+use Rattle.flow.specs.Find.{standing, located, IsNumber, find}
 use Rattle.flow.specs.Find.{refused as Located·refused}
 use Rattle.flow.specs.Judge.{judge}
 use Rattle.flow.specs.Records.{RightLength, recordsOf}
@@ -48,7 +48,7 @@ SoughtDetermined = (r s : Sought) → sought r ≡ sought s → r ≡ s
 abbrev pub FindRefused : Type 0
 FindRefused =
     (f : List ℕ) (k n r p : ℕ)
-    → (find f k ≡ Located·refused n r p) ↔ ((judge f ≡ refused n r p) ⊎ ((d c m : ℕ) × (judge f ≡ accepted d c m) × ¬ ((1 ≤ k) × (k ≤ d)) × (n ≡ 15) × (r ≡ 0) × (p ≡ 0)))
+    → (find f k ≡ Located·refused n r p) ↔ ((judge f ≡ refused n r p) ⊎ ((d c m : ℕ) × (judge f ≡ accepted d c m) × ¬ IsNumber k d × (n ≡ 15) × (r ≡ 0) × (p ≡ 0)))
 
 -- what is sought is found in an accepted flow, and refused exactly where the question is
 abbrev pub SeekExact : Type 0

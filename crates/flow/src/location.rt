@@ -7,12 +7,10 @@ ghost use lib.ListN.{length};
 ghost use Rattle.fields.specs.Digits.{isDigits};
 ghost use Rattle.fields.specs.Digits.{number as Digits·number};
 ghost use Rattle.records.specs.Field.{field as Field·field};
-ghost use Rattle.flow.specs.Find.{located, dispositionsIn, startsAt, standsAt, partOf, Stands, openingFrom};
+ghost use Rattle.flow.specs.Find.{standing, located, dispositionsIn, startsAt, standsAt, partOf, Stands, openingFrom};
 ghost use Rattle.flow.specs.Find.{find as Find·find};
-ghost use Rattle.flow.specs.Judge.{judge};
 ghost use Rattle.flow.specs.Seek.{sought};
 ghost use Rattle.flow.specs.Seek.{seek as Seek·seek};
-ghost use Rattle.flow.specs.Verdict.{verdict};
 use crate::answer::Answer;
 use crate::reader::count;
 use crate::reader::read;
@@ -38,7 +36,8 @@ pub enum Location {
 // Document 01, "Numbers a clerk may see".
 const NO_DISPOSITION: u64 = 15;
 
-// Where disposition k stands in a flow that is accepted, with the flow's three numbers; or refused.
+// The three numbers of a flow that is accepted, and where disposition k stands in it: its first
+// record, counted from 1, its number of records and its amount in cents; or refused.
 pub enum Sought {
     At {
         dispositions: u64,
@@ -55,66 +54,20 @@ pub enum Sought {
     },
 }
 
+// Where a disposition stands: its first record, its number of records, and its amount in cents.
+struct Stand {
+    first: u64,
+    records: u64,
+    cents: u64,
+}
+
 // Where disposition k of the flow stands, counted from 1. What the reader refuses is refused with its
 // three numbers, and then a k of 0 or above the count by 15.
 pub fn find(flow: &[u8], k: u64) -> Location
     ensures { λ r. ⌜ located r ≡ Find·find (now (flow .entry)) k ⌝ }
 {
-    find_behind(flow, k, read(flow))
-}
-
-// What `read` and `find` answer, from one reading: an amendment needs both.
-pub fn seek(flow: &[u8], k: u64) -> Sought
-    ensures { λ r. ⌜ sought r ≡ Seek·seek (now (flow .entry)) k ⌝ }
-{
-    let answer = read(flow);
-    match find_behind(flow, k, answer) {
-        Location::Refused {
-            number,
-            record,
-            position,
-        } => Sought::Refused {
-            number,
-            record,
-            position,
-        },
-        Location::At {
-            first,
-            records: size,
-            cents: amount,
-        } => match answer {
-            Answer::Refused {
-                number,
-                record,
-                position,
-            } => Sought::Refused {
-                number,
-                record,
-                position,
-            },
-            Answer::Accepted {
-                dispositions,
-                cents,
-                records,
-            } => Sought::At {
-                dispositions,
-                cents,
-                records,
-                first,
-                size,
-                amount,
-            },
-        },
-    }
-}
-
-// Where disposition k stands in a flow that the reader has answered so.
-fn find_behind(flow: &[u8], k: u64, answer: Answer) -> Location
-    requires { ⌜ verdict answer ≡ judge (now flow) ⌝ }
-    ensures { λ r. ⌜ located r ≡ Find·find (now (flow .entry)) k ⌝ }
-{
-    match answer {
-        Answer::Refused {
+    match seek(flow, k) {
+        Sought::Refused {
             number,
             record,
             position,
@@ -123,19 +76,56 @@ fn find_behind(flow: &[u8], k: u64, answer: Answer) -> Location
             record,
             position,
         },
-        Answer::Accepted {
-            dispositions,
+        Sought::At {
+            dispositions: _,
             cents: _,
             records: _,
+            first,
+            size,
+            amount,
+        } => Location::At {
+            first,
+            records: size,
+            cents: amount,
+        },
+    }
+}
+
+// What `read` and `find` answer, from one reading: an amendment needs both.
+pub fn seek(flow: &[u8], k: u64) -> Sought
+    ensures { λ r. ⌜ sought r ≡ Seek·seek (now (flow .entry)) k ⌝ }
+{
+    match read(flow) {
+        Answer::Refused {
+            number,
+            record,
+            position,
+        } => Sought::Refused {
+            number,
+            record,
+            position,
+        },
+        Answer::Accepted {
+            dispositions,
+            cents,
+            records,
         } => {
             if !is_number(k, dispositions) {
-                return Location::Refused {
+                return Sought::Refused {
                     number: NO_DISPOSITION,
                     record: 0,
                     position: 0,
                 };
             }
-            locate(flow, k)
+            let stand = locate(flow, k);
+            Sought::At {
+                dispositions,
+                cents,
+                records,
+                first: stand.first,
+                size: stand.records,
+                amount: stand.cents,
+            }
         }
     }
 }
@@ -174,14 +164,14 @@ fn is_number(k: u64, dispositions: u64) -> bool
 }
 
 // Where disposition k of an accepted flow stands: up to the next record 14 or the trailer.
-fn locate(flow: &[u8], k: u64) -> Location
+fn locate(flow: &[u8], k: u64) -> Stand
     requires { ⌜ Stands (now flow) k ⌝ }
-    ensures { λ r. ⌜ located r ≡ standsAt (dispositionsIn (now (flow .entry))) k ⌝ }
+    ensures { λ r. ⌜ standing (r .first) (r .records) (r .cents) ≡ standsAt (dispositionsIn (now (flow .entry))) k ⌝ }
 {
     let at = start_of(flow, k);
     let end = next_opening(flow, at + 1);
     let cents = amount(&flow[120 * at..120 * at + 120]);
-    Location::At {
+    Stand {
         first: count(at + 1),
         records: count(end - at),
         cents,

@@ -43,18 +43,22 @@ Detail R51 = Unit
 Detail R70 = Unit
 Detail Ef = ⊥
 
+-- what holds of each of these
+pub each-detail : (P : Kind → Type 0) → All P (R16 ∷ R20 ∷ R30 ∷ R40 ∷ R50 ∷ R59 ∷ R51 ∷ R70 ∷ []) → (k : Kind) → Detail k → P k
+each-detail P all Im d = absurd d
+each-detail P all R14 d = absurd d
+each-detail P all R16 d = all .0
+each-detail P all R20 d = all .1 .0
+each-detail P all R30 d = all .1 .1 .0
+each-detail P all R40 d = all .1 .1 .1 .0
+each-detail P all R50 d = all .1 .1 .1 .1 .0
+each-detail P all R59 d = all .1 .1 .1 .1 .1 .0
+each-detail P all R51 d = all .1 .1 .1 .1 .1 .1 .0
+each-detail P all R70 d = all .1 .1 .1 .1 .1 .1 .1 .0
+each-detail P all Ef d = absurd d
+
 pub detail-opens : (k : Kind) → Detail k → opens k ≡ false
-detail-opens Im d = absurd d
-detail-opens R14 d = absurd d
-detail-opens R16 d = refl
-detail-opens R20 d = refl
-detail-opens R30 d = refl
-detail-opens R40 d = refl
-detail-opens R50 d = refl
-detail-opens R59 d = refl
-detail-opens R51 d = refl
-detail-opens R70 d = refl
-detail-opens Ef d = absurd d
+detail-opens = each-detail (λ (k : Kind). opens k ≡ false) (refl, (refl, (refl, (refl, (refl, (refl, (refl, (refl, tt))))))))
 
 -- a disposition is a 14 and its details
 coordinates-details : {cs : List Kind} → Coordinates cs → All Detail cs
@@ -138,17 +142,7 @@ member-exact h w code i n r not-header not-trailer number-due =
     )
 
 detail-agrees : (k : Kind) (code rec : List ℕ) → Detail k → CodeAgrees k code rec
-detail-agrees Im code rec d = absurd d
-detail-agrees R14 code rec d = absurd d
-detail-agrees R16 code rec d = tt
-detail-agrees R20 code rec d = tt
-detail-agrees R30 code rec d = tt
-detail-agrees R40 code rec d = tt
-detail-agrees R50 code rec d = tt
-detail-agrees R59 code rec d = tt
-detail-agrees R51 code rec d = tt
-detail-agrees R70 code rec d = tt
-detail-agrees Ef code rec d = absurd d
+detail-agrees k code rec = each-detail (λ (l : Kind). CodeAgrees l code rec) (tt, (tt, (tt, (tt, (tt, (tt, (tt, (tt, tt)))))))) k
 
 details-exact :
     (h : Header) (w : Walk) (code : List ℕ) (i n : ℕ) (rs : List Typed) → All Detail (kindsOf rs) → w .dispositions ≡ n

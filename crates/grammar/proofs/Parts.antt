@@ -246,4 +246,4 @@ opening-exact f k first records cents e =
     let amount = ap (λ (r : List ℕ). number (field 34 46 r)) (sym here ∙ sym own) ∙ sym (told .2) in
     let number-said = subst (λ (r : List ℕ). Says (1 + (k - 1)) (field 4 10 r)) here (says .1) in
     let digits = subst (λ (r : List ℕ). Digits (field 34 46 r)) here (says .2) in
-    (ap (field 2 3) (sym here) ∙ says .0, subst (λ (m : ℕ). Says m (field 4 10 (recordAt (first - 1) f))) one number-said, (digits, amount))
+    (ap (field 2 3) (sym here) ∙ says .0, subst (λ (m : ℕ). Says m (field 4 10 (recordAt (first - 1) f))) one number-said, (digits, amount), ap (λ (l : Located). bytesAt l f) e)

@@ -1,10 +1,11 @@
 -- The grammar of a request flow: a header; one or more dispositions in the stated order, numbered 1, 2, 3 ..; a trailer with their exact
 -- count, sum and record count; and every field rule (document 01, "The flow as bytes"). Assumes nothing.
-use Prim.Native.Nat.{ℕ, suc, _+_, _≤_}
-use mathlib.Core.List.{List, [], _∷_, _++_, map, flatten, List·Memᴰ}
+use Prim.Native.Nat.{ℕ, _+_, _≤_}
+use mathlib.Core.List.{List, [], _++_, map, flatten, List·Memᴰ}
 use mathlib.Core.Path.{_≡_}
 use lib.ListN.{length, getD}
 use Rattle.sequences.specs.All.{All}
+use Rattle.sequences.specs.Counted.{Counted}
 use Rattle.sequences.specs.Sum.{sum}
 use Rattle.fields.specs.Digits.{number}
 use Rattle.records.specs.Context.{headerOf}
@@ -62,8 +63,7 @@ pub record RightDisposition (abi : List ℕ) (n : ℕ) (d : List Typed) : Type 0
 
 -- dispositions numbered from n on
 abbrev pub Numbered : List ℕ → ℕ → List (List Typed) → Type 0
-Numbered abi n [] = Unit
-Numbered abi n (d ∷ ds) = RightDisposition abi n d × Numbered abi (suc n) ds
+Numbered abi n ds = Counted (RightDisposition abi) n ds
 
 -- company codes: those that are present are all equal
 abbrev pub AllEqual : List (List ℕ) → Type 0

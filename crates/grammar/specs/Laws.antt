@@ -1,6 +1,6 @@
 -- What is proved of reading a flow and of finding a disposition, against statements that know neither the walk nor a search for the
 -- first fault. `proofs/` has its proof under the law's name in small letters. Assumes nothing.
-use Prim.Native.Nat.{ℕ, suc, _+_, _-_, _≤_, _<_}
+use Prim.Native.Nat.{ℕ, suc, _+_, _-_, _*_, _≤_, _<_}
 use mathlib.Core.List.{List, [], map, flatten}
 use mathlib.Core.Logic.{_↔_, _⊎_}
 use mathlib.Core.Path.{_≡_}
@@ -76,11 +76,11 @@ PlacesExact =
     (f : List ℕ) (d c n : ℕ) → judge f ≡ accepted d c n
     → (firstAt (find f 1) ≡ 2) × ((k : ℕ) → 1 ≤ k → k < d → firstAt (find f (suc k)) ≡ endAt (find f k)) × (endAt (find f d) ≡ n)
 
--- what is found of k starts with a 14 that says k and the amount
+-- what is found of k starts with a 14 that says k and the amount, and its part is those records
 abbrev pub OpeningExact : Type 0
 OpeningExact =
     (f : List ℕ) (k first records cents : ℕ) → find f k ≡ standing first records cents → let rec = recordAt (first - 1) f in
-    (field 2 3 rec ≡ typeOf R14) × Says k (field 4 10 rec) × Says cents (field 34 46 rec)
+    (field 2 3 rec ≡ typeOf R14) × Says k (field 4 10 rec) × Says cents (field 34 46 rec) × (partOf f k ≡ part (120 * (first - 1)) (120 * records) f)
 
 -- a part is empty exactly where the question is refused
 abbrev pub PartEmpty : Type 0

@@ -16,7 +16,7 @@ use Rattle.flow.specs.Verdict.{Verdict, accepted, refused, verdict}
 use Rattle.flow.proofs.Accepted.{accepted-not-refused, answer-determined}
 use Rattle.list.specs.Encode.{encode}
 use Rattle.list.specs.Items.{Parsed, items, faulty, itemsOr, itemsIn, counted}
-use Rattle.list.specs.Laws.{Leaves, LeavesAlone, WriteLeaves, ReadBackAccepted, ReadBackRefused, ReadBackLeaves, FilledDetermined}
+use Rattle.list.specs.Laws.{Leaves, LeavesAlone, WriteAnswers, WriteLeaves, ReadBackAnswers, ReadBackAccepted, ReadBackRefused, ReadBackLeaves, FilledDetermined}
 use Rattle.list.specs.Output.{Output, output, outputOf}
 use Rattle.list.specs.ReadBack.{listOf, withRoom, judgeRoom, readBack}
 use Rattle.list.specs.Write.{judgeList, write}
@@ -80,6 +80,19 @@ leaves : (bytes out : List ℕ) (d c n : ℕ) → length bytes ≤ length out �
 leaves bytes out d c n fits =
     let within : 0 + length bytes ≤ length out = omega arith in
     record { length-said = refl; front = part-put 0 bytes out within; behind = drop-put 0 bytes out within (length bytes) (omega arith) }
+
+-- what a call is answered
+output-answer : (v : Verdict) (bytes out : List ℕ) → output v bytes out .answer ≡ v
+output-answer (accepted d c n) bytes out = refl
+output-answer (refused n r p) bytes out = refl
+
+pub write-answers : WriteAnswers
+unfolding write
+write-answers list out = output-answer (judgeList list (length out)) (encode (itemsIn list)) out
+
+pub read-back-answers : ReadBackAnswers
+unfolding readBack
+read-back-answers f out = output-answer (judgeRoom f (length out)) (listOf f) out
 
 pub write-leaves : WriteLeaves
 unfolding write

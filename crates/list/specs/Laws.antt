@@ -98,6 +98,13 @@ pub record Leaves (o : Output) (bytes out : List ℕ) : Type 0 where
 abbrev pub LeavesAlone : Output → List ℕ → Type 0
 LeavesAlone o out = (o .written ≡ 0) × (o .bytes ≡ out)
 
+-- what is judged is what is answered
+abbrev pub WriteAnswers : Type 0
+WriteAnswers = (list out : List ℕ) → write list out .answer ≡ judgeList list (length out)
+
+abbrev pub ReadBackAnswers : Type 0
+ReadBackAnswers = (f out : List ℕ) → readBack f out .answer ≡ judgeRoom f (length out)
+
 -- an accepted writing leaves exactly the encoding, a refused one nothing
 abbrev pub WriteLeaves : Type 0
 WriteLeaves =

@@ -3,10 +3,10 @@ use Prim.Native.Nat.{ℕ}
 use mathlib.Core.Bool.{true, false, _||_, or-true, true≢false}
 use mathlib.Core.List.{List, [], _∷_}
 use mathlib.Core.Logic.{_⊎_, inl, inr}
-use mathlib.Core.Path.{_≡_, refl, sym, _∙_}
+use mathlib.Core.Path.{_≡_, refl, sym, _∙_, ap}
 use lib.Dec.{eqb}
 use lib.ListN.{length}
-use borrow.Author.Tests.{eq-eqb}
+use borrow.Author.Tests.{eq-eqb, ne-eqb}
 use Rattle.records.specs.Checks.{isListed, checks}
 use Rattle.records.specs.Context.{Context}
 use Rattle.records.specs.Finding.{Finding, right, refused, Check, check, firstFault}
@@ -51,8 +51,17 @@ no-one Ef ctx rec = refl
 
 pub one-for-length : OneForLength
 unfolding judge
-one-for-length k ctx rec p e whole = never (refused-by (checks k ctx rec) (right k (asked k rec)) 1 p (rw (eq-eqb (length rec) 120 whole) at e))
+one-for-length k ctx rec p = (λ e. (position e, never e), λ h. other (h .1) ∙ ap (refused 1) (sym (h .0)))
   where
-    never : (isListed 1 (numbersOf (checks k ctx rec)) ≡ true) ⊎ (right k (asked k rec) ≡ refused 1 p) → ⊥
-    never (inl h) = true≢false (sym h ∙ no-one k ctx rec)
-    never (inr h) = right-not-refused (sym h)
+    other : ¬ (length rec ≡ 120) → judge k ctx rec ≡ refused 1 0
+    other h = rw (ne-eqb (length rec) 120 h)
+
+    listed : (isListed 1 (numbersOf (checks k ctx rec)) ≡ true) ⊎ (right k (asked k rec) ≡ refused 1 p) → ⊥
+    listed (inl h) = true≢false (sym h ∙ no-one k ctx rec)
+    listed (inr h) = right-not-refused (sym h)
+
+    never : judge k ctx rec ≡ refused 1 p → ¬ (length rec ≡ 120)
+    never e whole = listed (refused-by (checks k ctx rec) (right k (asked k rec)) 1 p (rw (eq-eqb (length rec) 120 whole) at e))
+
+    position : judge k ctx rec ≡ refused 1 p → p ≡ 0
+    position e = let same : refused 1 0 ≡ refused 1 p = sym (other (never e)) ∙ e in cc

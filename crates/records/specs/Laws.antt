@@ -40,9 +40,9 @@ RightExact = (k : Kind) (ctx : Context) (rec : List ℕ) → length rec ≡ 120 
 abbrev pub BrokenExact : Type 0
 BrokenExact = (k : Kind) (ctx : Context) (rec : List ℕ) (n p : ℕ) → length rec ≡ 120 → (judge k ctx rec ≡ refused n p) ↔ FirstBroken (checks k ctx rec) n p
 
--- number 1 is given to a record for its length alone
+-- number 1 is given exactly to a record that is not 120 bytes long, at position 0
 abbrev pub OneForLength : Type 0
-OneForLength = (k : Kind) (ctx : Context) (rec : List ℕ) (p : ℕ) → judge k ctx rec ≡ refused 1 p → ¬ (length rec ≡ 120)
+OneForLength = (k : Kind) (ctx : Context) (rec : List ℕ) (p : ℕ) → (judge k ctx rec ≡ refused 1 p) ↔ ((p ≡ 0) × ¬ (length rec ≡ 120))
 
 -- counts that stop where the digits end are judged as the exact ones are
 abbrev pub LimitsUnseen : Type 0

@@ -1,6 +1,7 @@
 pub mod All
 pub mod Append
 pub mod Below
+pub mod Counted
 pub mod Drop
 pub mod DropLast
 pub mod Every

@@ -1,4 +1,5 @@
 pub mod All
+pub mod Counted
 pub mod Every
 pub mod Groups
 pub mod Pairs

@@ -1,16 +1,25 @@
 -- `flow::find` meets its contract. Assumes nothing.
+use mathlib.Core.Path.{sym, _∙_, ap}
 use borrow.Author.Needs.{needs}
+use Rattle.flow.specs.Seek.{sought}
+use Rattle.flow.proofs.Sought.{sought-read, seek-exact}
 use Rattle.flow.proofs.location.find.Statement.{statement}
 use Rattle.flow.proofs.location.find.Tie as tie
 
-read-requires : tie.Need-read-requires
-read-requires c κs = search needs
+seek-requires : tie.Need-seek-requires
+seek-requires c κs = search needs
 
-find-behind-requires : tie.Need-find-behind-requires
-find-behind-requires c κs = c .read .ensures
+enum-known-number : tie.Need-enum-known-number
+enum-known-number c = search needs
+
+enum-known-first : tie.Need-enum-known-first
+enum-known-first c = search needs
 
 returns : tie.Need-returns
-returns c = c .find-behind .ensures
+returns c = sym (seek-exact _ _ .1 _ _ _ .0 (sym (c .before .before .before .seek .ensures) ∙ ap sought (c .before .number .given .1)))
+
+returns-2 : tie.Need-returns-2
+returns-2 c = sym (sought-read _ _ (sym (c .before .before .before .seek .ensures) ∙ ap sought (c .before .first .given .1)) .1)
 
 pub find-spec : {M : Type 1} → statement M
-find-spec = tie.close (tie.spec read-requires find-behind-requires returns)
+find-spec = tie.close (tie.spec seek-requires enum-known-number enum-known-first returns returns-2)

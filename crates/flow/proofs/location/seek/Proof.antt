@@ -1,53 +1,68 @@
 -- `flow::seek` meets its contract. Assumes nothing.
+use Prim.Native.Nat.{ℕ}
+use mathlib.Core.Bool.{_&&_}
+use mathlib.Core.List.{List}
 use mathlib.Core.Path.{_≡_, sym, _∙_, ap}
+use lib.Dec.{leb}
 use borrow.Author.Needs.{needs}
-use Rattle.flow.specs.Find.{located}
-use Rattle.flow.specs.Verdict.{verdict}
-use Rattle.flow.proofs.Sought.{not-found, not-read, read-found}
+use borrow.Author.Tests.{not-true, not-false}
+use Rattle.flow.specs.Judge.{judge}
+use Rattle.flow.specs.Verdict.{accepted, verdict}
+use Rattle.flow.proofs.Dispositions.{stands}
+use Rattle.flow.proofs.Sought.{not-read, no-number, numbered}
 use Rattle.flow.proofs.location.seek.Statement.{statement}
 use Rattle.flow.proofs.location.seek.Tie as tie
 
 read-requires : tie.Need-read-requires
 read-requires c κs = search needs
 
-find-behind-requires : tie.Need-find-behind-requires
-find-behind-requires c κs = c .read .ensures
-
 enum-known-number : tie.Need-enum-known-number
 enum-known-number c = search needs
 
-enum-known-first : tie.Need-enum-known-first
-enum-known-first c = search needs
+enum-known-dispositions : tie.Need-enum-known-dispositions
+enum-known-dispositions c = search needs
 
-enum-known-answer : tie.Need-enum-known-answer
-enum-known-answer c = search needs
+is-number-requires : tie.Need-is-number-requires
+is-number-requires c κs = search needs
 
-enum-known-answer-2 : tie.Need-enum-known-answer-2
-enum-known-answer-2 c = search needs
+-- the flow is accepted with some count, and the test is whether k is a number up to it
+module _ (c : tie.After-is-number) where
+  abbrev flow : List ℕ
+  flow = c .before .before .before .before .before .before .args .flow .now
+
+  abbrev k : ℕ
+  k = c .before .before .before .before .before .before .args .k
+
+  abbrev count : ℕ
+  count = c .before .before .dispositions .given .0 .0
+
+  read : judge flow ≡ accepted count (c .before .before .dispositions .given .0 .1 .0) (c .before .before .dispositions .given .0 .1 .1 .0)
+  read = sym (c .before .before .before .before .read .ensures) ∙ ap verdict (c .before .before .dispositions .given .1)
+
+  tested : (leb 1 k && leb k count) ≡ c .is-number .result
+  tested = sym (c .is-number .ensures)
 
 returns : tie.Need-returns
-returns c = sym (not-found _ _ (sym (c .before .before .before .find-behind .ensures) ∙ ap located (c .before .number .given .1)))
+returns c = sym (no-number _ _ (read (c .before)) (tested (c .before) ∙ not-true _ (c .if1 .taken)))
+
+locate-requires : tie.Need-locate-requires
+locate-requires c κs = stands _ _ (read (c .before)) (tested (c .before) ∙ not-false _ (c .if1 .left))
 
 returns-2 : tie.Need-returns-2
-returns-2 c = sym (not-read _ _ (sym (c .before .before .before .before .before .before .before .read .ensures) ∙ ap verdict (c .before .answer .given .1)))
+returns-2 c = sym (not-read _ _ (sym (c .before .before .before .read .ensures) ∙ ap verdict (c .before .number .given .1)))
 
 returns-3 : tie.Need-returns-3
-returns-3 c =
-    sym
-    (read-found _ _
-    (sym (c .before .before .before .before .before .before .before .read .ensures) ∙ ap verdict (c .before .answer2 .given .1))
-    (sym (c .before .before .before .before .before .before .find-behind .ensures) ∙ ap located (c .before .before .before .before .first .given .1)))
+returns-3 c = sym (numbered _ _ (read (c .before .before)) (tested (c .before .before) ∙ not-false _ (c .before .if1 .left)) (c .locate .ensures))
 
 pub seek-spec : {M : Type 1} → statement M
 seek-spec =
     tie.close
     (tie.spec
     read-requires
-    find-behind-requires
     enum-known-number
-    enum-known-first
-    enum-known-answer
-    enum-known-answer-2
+    enum-known-dispositions
+    is-number-requires
     returns
+    locate-requires
     returns-2
     returns-3)
