@@ -19,7 +19,7 @@ pub data ChangeFault (f : List ℕ) (k new : ℕ) : ℕ → ℕ → ℕ → Type
   not-read : (e r p : ℕ) → judge f ≡ refused e r p → ChangeFault f k new e r p
   no-disposition : (d c n : ℕ) → judge f ≡ accepted d c n → ¬ IsNumber k d → ChangeFault f k new 15 0 0
   amount-too-large : (d c n : ℕ) → judge f ≡ accepted d c n → IsNumber k d → 9999999999999 < new → ChangeFault f k new 16 0 0
-  -- the new total is the old one less the old amount, and the new amount
+  -- the new total is the old one less the old amount, plus the new one
   total-too-large :
       (d c n first m a : ℕ) → judge f ≡ accepted d c n → find f k ≡ standing first m a → new ≤ 9999999999999 → 999999999999999 < c - a + new
       → ChangeFault f k new 17 0 0

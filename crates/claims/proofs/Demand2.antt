@@ -2,7 +2,7 @@
 use Rattle.flow.proofs.Accepted.{accepted-exact}
 use Rattle.grammar.proofs.Grammar.{grammar-exact}
 use Rattle.grammar.proofs.Parts.{parts-exact, places-exact, opening-exact}
-use Rattle.list.proofs.Answered.{write-leaves, read-back-accepted, read-back-leaves}
+use Rattle.list.proofs.Answered.{write-answers, write-leaves, read-back-accepted, read-back-answers, read-back-leaves}
 use Rattle.list.proofs.ListItems.{items-exact}
 use Rattle.list.proofs.Rewritten.{own-list, own-items, rewritten-exact, rewritten-same, unchecked-only}
 use Rattle.list.proofs.WriteRefused.{write-accepted}
@@ -19,11 +19,13 @@ demand2 =
       openings = opening-exact;
       items = items-exact;
       list-accepted = write-accepted;
+      list-answered = write-answers;
       list-written = write-leaves;
       flow-written = written-exact;
       own-list = own-list;
       own-items = own-items;
       flow-accepted = read-back-accepted;
+      flow-answered = read-back-answers;
       list-read-back = read-back-leaves;
       accepted-again = rewritten-exact;
       same-again = rewritten-same;

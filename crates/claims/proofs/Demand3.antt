@@ -1,5 +1,5 @@
 -- Demand 3: by induction over the calls, from one call beside one entry of the ledger. Assumes nothing.
-use Prim.Native.Nat.{ℕ, suc, _+_, _-_, _≤_}
+use Prim.Native.Nat.{ℕ, _+_, _-_}
 use mathlib.Core.List.{List, [], _∷_, _++_, append-nil, append-assoc}
 use mathlib.Core.Path.{_≡_, refl, sym, _∙_, ap, ap₂, subst}
 use native.Mathlib.Omega.{arith}
@@ -9,14 +9,14 @@ use Rattle.sequences.specs.Part.{put}
 use Rattle.sequences.proofs.Part.{put-at}
 use Rattle.flow.specs.Judge.{judge}
 use Rattle.flow.specs.Verdict.{accepted}
-use Rattle.list.specs.Encode.{dispositionsOf, centsOf, encode}
+use Rattle.list.specs.Encode.{encode}
 use Rattle.list.specs.Items.{Item, listBytes}
-use Rattle.list.specs.ReadBack.{itemsOf, Canonical}
+use Rattle.list.specs.ReadBack.{itemsOf}
 use Rattle.amend.specs.Laws.{flowLeft}
 use Rattle.claims.specs.Demand3.{Touched, Demand3}
 use Rattle.claims.specs.Ledger.{Call, Reply, Entry, entry, listAfter, repliesOn}
 use Rattle.claims.specs.Run.{Memory, holding, flowIn, amend, replyOf, behind, run, replies, EachCall}
-use Rattle.claims.proofs.OneCall.{Step, one-step, call-touched, list-numbers}
+use Rattle.claims.proofs.OneCall.{Held, held-as, Step, one-step, call-touched}
 
 -- memory that holds a flow, and blanks behind it
 abbrev blanksBehind : List ℕ → ℕ → Memory
@@ -33,59 +33,54 @@ behind-so call g room e s =
     let a = amend call g in
     let rest : List ℕ = replicate room 32 in
     let freed : List ℕ = replicate (length g - a .size) 32 in
-    let kept = s .within in
-    let size : length g ≡ length (a .bytes) = sym (ap (λ (l : List ℕ). length l) (s .memory) ∙ length-append (flowLeft a) freed ∙ omega (arith, s .sized, length-replicate {A = ℕ} (length g - a .size) 32)) in
+    let h = s .held in
+    let kept = h .within in
+    let size : length g ≡ length (a .bytes) = sym (ap (λ (l : List ℕ). length l) (h .memory) ∙ length-append (flowLeft a) freed ∙ omega (arith, h .sized, length-replicate {A = ℕ} (length g - a .size) 32)) in
     let over : put 0 (a .bytes) (g ++ rest) ≡ a .bytes ++ rest = put-at 0 [] g rest (a .bytes) refl size in
     let apart : a .bytes ++ rest ≡ flowLeft a ++ replicate (length g - a .size + room) 32 =
-    ap (λ (l : List ℕ). l ++ rest) (s .memory) ∙ append-assoc (flowLeft a) freed rest ∙ ap (λ (l : List ℕ). flowLeft a ++ l) (replicate-append-replicate (length g - a .size) room 32) in
+    ap (λ (l : List ℕ). l ++ rest) (h .memory) ∙ append-assoc (flowLeft a) freed rest ∙ ap (λ (l : List ℕ). flowLeft a ++ l) (replicate-append-replicate (length g - a .size) room 32) in
     (λ i. record { bytes = put 0 (amend call (held-so g room i) .bytes) (g ++ rest); size = amend call (held-so g room i) .size })
-    ∙ (λ i. record { bytes = (over ∙ apart) i; size = sym (s .sized) i })
+    ∙ (λ i. record { bytes = (over ∙ apart) i; size = sym (h .sized) i })
 
--- what is left behind a list of calls on an accepted flow, with blanks behind it up to a length
+-- what is held behind a list of calls on an accepted flow, and what was answered
 record After (g : List ℕ) (all : ℕ) (m : Memory) (answers : List Reply) (list : List Item) (due : List Reply) : Type 0 where
-  read : judge (flowIn m) ≡ accepted (dispositionsOf list) (centsOf list) (suc (length list))
-  items : itemsOf (flowIn m) ≡ list
+  held : Held g all m list
   answered : answers ≡ due
-  canonical : Canonical g → Canonical (flowIn m)
-  sized : length (flowIn m) ≡ m .size
-  within : m .size ≤ all
-  memory : m .bytes ≡ flowIn m ++ replicate (all - m .size) 32
 
 after-calls :
     (calls : List Call) (g : List ℕ) (room d c n : ℕ) → judge g ≡ accepted d c n → let m = blanksBehind g room in
     After g (length g + room) (run calls m) (replies calls m) (listAfter calls (itemsOf g)) (repliesOn calls (itemsOf g))
 unfolding run replies listAfter repliesOn
 after-calls [] g room d c n read =
-    let own = held-so g room in
     let blank : room ≡ length g + room - length g = omega arith in
     record {
-      read = ap judge own ∙ list-numbers g read;
-      items = ap itemsOf own;
+      held = held-as g (length g + room) (blanksBehind g room) (itemsOf g) g (held-so g room) read refl (λ x. x) refl (omega arith) (ap (λ (i : ℕ). g ++ replicate i 32) blank);
       answered = refl;
-      canonical = λ x. subst Canonical (sym own) x;
-      sized = ap (λ (l : List ℕ). length l) own;
-      within = omega arith;
-      memory = λ i. sym own i ++ replicate (blank i) 32;
     }
 after-calls (call ∷ calls) g room d c n read =
     let s = one-step g d c n read call in
+    let h = s .held in
     let a = amend call g in
     let left = flowLeft a in
     let more = length g - a .size + room in
-    let within = s .within in
-    let all : length left + more ≡ length g + room = omega (arith, s .sized) in
-    let rest = after-calls calls left more _ _ _ (s .read) in
+    let within = h .within in
+    let all : length left + more ≡ length g + room = omega (arith, h .sized) in
+    let rest = after-calls calls left more _ _ _ (h .read) in
     let reply : replyOf call (amend call (flowIn (blanksBehind g room))) ≡ entry call (itemsOf g) .reply = ap (λ (l : List ℕ). replyOf call (amend call l)) (held-so g room) ∙ s .reply in
     let next = sym (behind-so call g room (entry call (itemsOf g)) s) in
-    let moved = subst (λ (A : Type 0). A) (λ i. After left (all i) (run calls (next i)) (replies calls (next i)) (listAfter calls (s .items i)) (repliesOn calls (s .items i))) rest in
+    let moved = subst (λ (A : Type 0). A) (λ i. After left (all i) (run calls (next i)) (replies calls (next i)) (listAfter calls (h .items i)) (repliesOn calls (h .items i))) rest in
+    let kept = moved .held in
     record {
-      read = moved .read;
-      items = moved .items;
+      held =
+          record {
+            read = kept .read;
+            items = kept .items;
+            canonical = λ x. kept .canonical (h .canonical x);
+            sized = kept .sized;
+            within = kept .within;
+            memory = kept .memory;
+          };
       answered = ap₂ (λ (x : Reply) (xs : List Reply). x ∷ xs) reply (moved .answered);
-      canonical = λ x. moved .canonical (s .canonical x);
-      sized = moved .sized;
-      within = moved .within;
-      memory = moved .memory;
     }
 
 touched-all : (calls : List Call) (m : Memory) → EachCall Touched calls m
@@ -97,16 +92,17 @@ pub demand3 : Demand3
 demand3 f d c n read calls =
     let first : blanksBehind f 0 ≡ holding f = λ i. record { bytes = append-nil f i; size = length f } in
     let all : length f + 0 ≡ length f = omega arith in
-    let x = subst (λ (A : Type 0). A) (λ i. After f (all i) (run calls (first i)) (replies calls (first i)) (listAfter calls (itemsOf f)) (repliesOn calls (itemsOf f))) (after-calls calls f 0 d c n read) in (
+    let x = subst (λ (A : Type 0). A) (λ i. After f (all i) (run calls (first i)) (replies calls (first i)) (listAfter calls (itemsOf f)) (repliesOn calls (itemsOf f))) (after-calls calls f 0 d c n read) in
+    let h = x .held in (
       record {
-        read = x .read;
-        items = x .items;
-        bytes = ap listBytes (x .items);
+        read = h .read;
+        items = h .items;
+        bytes = ap listBytes (h .items);
         answered = x .answered;
-        canonical = λ canonical. sym (x .canonical canonical) ∙ ap encode (x .items);
-        sized = x .sized;
-        within = x .within;
-        memory = x .memory;
+        canonical = λ canonical. sym (h .canonical canonical) ∙ ap encode (h .items);
+        sized = h .sized;
+        within = h .within;
+        memory = h .memory;
       },
       touched-all calls (holding f),
     )

@@ -24,7 +24,7 @@ use Rattle.list.proofs.Rewritten.{own-list-items, own-sums, items-so}
 use Rattle.amend.specs.Amended.{Amended, unchanged}
 use Rattle.amend.specs.Change.{changed as Change·changed}
 use Rattle.amend.specs.Change.{change as Change·change}
-use Rattle.amend.specs.Laws.{ChangeFault, not-read, no-disposition, amount-too-large, total-too-large, WithdrawFault, only-one, flowLeft}
+use Rattle.amend.specs.Laws.{ChangeFault, not-read, no-disposition, amount-too-large, total-too-large, WithdrawFault, only-one}
 use Rattle.amend.specs.Withdraw.{withdraw as Withdraw·withdraw, withdrawn as Withdraw·withdrawn}
 use Rattle.amend.proofs.Among.{Among, among-so, restOf, changedOf}
 use Rattle.amend.proofs.Answered.{Changing, changing, changes, Withdrawing, withdrawing, withdraws, refuses, changed-grammar, withdrawn-grammar, refused-untouched, seeking, Seeking, stands, unread, none}
@@ -32,19 +32,26 @@ use Rattle.amend.proofs.Leaving.{change-touches, withdraw-touches, changedFlow,
 use Rattle.amend.proofs.Left.{typedFrom, retold, here, behind, changed-cents, changed-numbered}
 use Rattle.claims.specs.Demand3.{Touched}
 use Rattle.claims.specs.Ledger.{Call, change, withdraw, change-accepted, withdrawal-accepted, refused, Entry, refusal, has, withAmount, withoutDisposition, changeOn, withdrawLeaving, withdrawOn, entry, firstRepriced}
-use Rattle.claims.specs.Run.{amend, replyOf}
+use Rattle.claims.specs.Run.{Memory, flowIn, amend, replyOf}
 use Rattle.claims.proofs.Canonical.{changed-canonical, withdrawn-canonical}
 use Rattle.claims.proofs.Listed.{itemsBy, itemOfHeader, listed-so, without-listed, amount-listed, typed-items, items-retold, items-cents}
 
+-- memory that was made of the flow g, as long as `all`, beside a list: it holds a flow whose list this is, and blanks behind it
+pub record Held (g : List ℕ) (all : ℕ) (m : Memory) (list : List Item) : Type 0 where
+  pub read : judge (flowIn m) ≡ accepted (dispositionsOf list) (centsOf list) (suc (length list))
+  pub items : itemsOf (flowIn m) ≡ list
+  pub canonical : Canonical g → Canonical (flowIn m)
+  pub sized : length (flowIn m) ≡ m .size
+  pub within : m .size ≤ all
+  pub memory : m .bytes ≡ flowIn m ++ replicate (all - m .size) 32
+
 -- what a call leaves of the flow f, beside the ledger's entry
+abbrev pub memoryOf : Amended → Memory
+memoryOf a = record { bytes = a .bytes; size = a .size }
+
 pub record Step (f : List ℕ) (call : Call) (a : Amended) (e : Entry) : Type 0 where
-  pub read : judge (flowLeft a) ≡ accepted (dispositionsOf (e .items)) (centsOf (e .items)) (suc (length (e .items)))
-  pub items : itemsOf (flowLeft a) ≡ e .items
+  pub held : Held f (length f) (memoryOf a) (e .items)
   pub reply : replyOf call a ≡ e .reply
-  pub canonical : Canonical f → Canonical (flowLeft a)
-  pub sized : length (flowLeft a) ≡ a .size
-  pub within : a .size ≤ length f
-  pub memory : a .bytes ≡ flowLeft a ++ replicate (length f - a .size) 32
 
 -- the numbers of an accepted flow are those of its list
 pub numbers-listed : (f : List ℕ) (d c n : ℕ) → judge f ≡ accepted d c n → (dispositionsOf (itemsOf f) ≡ d) × (centsOf (itemsOf f) ≡ c) × (suc (length (itemsOf f)) ≡ n)
@@ -59,19 +66,18 @@ list-numbers f {d} {c} {n} read =
     let same = numbers-listed f d c n read in
     read ∙ (λ i. accepted (sym (same .0) i) (sym (same .1) i) (sym (same .2) i))
 
--- what is left is known as a flow and as a list
-left-step :
-    (f : List ℕ) (call : Call) (x : Amended) (e : Entry) (left : List ℕ) {d c n : ℕ} → flowLeft x ≡ left → judge left ≡ accepted d c n → itemsOf left ≡ e .items → replyOf call x ≡ e .reply
-    → (Canonical f → Canonical left) → length left ≡ x .size → x .size ≤ length f → x .bytes ≡ left ++ replicate (length f - x .size) 32 → Step f call x e
-left-step f call x e left own read listed reply canonical size within memory =
+-- what is held is known as a flow and as a list
+pub held-as :
+    (g : List ℕ) (all : ℕ) (m : Memory) (list : List Item) (left : List ℕ) {d c n : ℕ} → flowIn m ≡ left → judge left ≡ accepted d c n → itemsOf left ≡ list
+    → (Canonical g → Canonical left) → length left ≡ m .size → m .size ≤ all → m .bytes ≡ left ++ replicate (all - m .size) 32 → Held g all m list
+held-as g all m list left own read listed canonical size within memory =
     record {
       read = ap judge own ∙ list-numbers left read ∙ ap (λ (l : List Item). accepted (dispositionsOf l) (centsOf l) (suc (length l))) listed;
       items = ap itemsOf own ∙ listed;
-      reply = reply;
       canonical = λ c. subst Canonical (sym own) (canonical c);
       sized = ap (λ (l : List ℕ). length l) own ∙ size;
       within = within;
-      memory = memory ∙ ap (λ (l : List ℕ). l ++ replicate (length f - x .size) 32) (sym own);
+      memory = memory ∙ ap (λ (l : List ℕ). l ++ replicate (all - m .size) 32) (sym own);
     }
 
 -- a flow that is left at its length has no blanks behind it
@@ -101,7 +107,7 @@ module _ (f : List ℕ) (d c n : ℕ) (read : judge f ≡ accepted d c n) where
   kept-alone : (call : Call) (number : ℕ) → (e : Entry) → e ≡ refusal number is → Step f call (unchanged number 0 0 f) e
   kept-alone call number e same =
       subst (Step f call (unchanged number 0 0 f)) (sym same)
-      (left-step f call (unchanged number 0 0 f) (refusal number is) f (take-length f) read refl (told call) (λ canonical. canonical) refl (omega arith) (whole-memory f f))
+      (record { held = held-as f (length f) (memoryOf (unchanged number 0 0 f)) is f (take-length f) read refl (λ canonical. canonical) refl (omega arith) (whole-memory f f); reply = told call })
     where
       told : (call : Call) → replyOf call (unchanged number 0 0 f) ≡ refused number 0 0
       told (change k new) = refl
@@ -185,7 +191,7 @@ module _ (f : List ℕ) (d c n : ℕ) (read : judge f ≡ accepted d c n) where
         let numbers = numbers-listed left d′ (c′ - a + new) n′ told in
         let reply = (λ i. change-accepted (sym (numbers .0) i) (sym (numbers .1) i) (sym (numbers .2) i)) ∙ ap (λ (l : List Item). change-accepted (dispositionsOf l) (centsOf l) (suc (length l))) listed in
         let canonical : Canonical f → Canonical left = λ c. changed-canonical f k d′ c′ n′ first m a w′ c new (below k new d′ c′ n′ first m a found small) fits in
-        subst (Step f (change k new) _) (sym own) (left-step f (change k new) _ _ left whole told listed reply canonical (changed-size f k d′ c′ n′ first m a found new small fits) (omega arith) (whole-memory f left))
+        subst (Step f (change k new) _) (sym own) (record { held = held-as f (length f) _ (withAmount k new is) left whole told listed canonical (changed-size f k d′ c′ n′ first m a found new small fits) (omega arith) (whole-memory f left); reply = reply })
 
     pub change-step : Step f (change k new) (Change·change f k new) (changeOn k new is)
     change-step = go (Change·change f k new) (changing f k new)
@@ -230,7 +236,7 @@ module _ (f : List ℕ) (d c n : ℕ) (read : judge f ≡ accepted d c n) where
         let numbers = numbers-listed left (d′ - 1) (c′ - a) (n′ - m) told in
         let reply = (λ i. withdrawal-accepted (sym (numbers .0) i) (sym (numbers .1) i) (sym (numbers .2) i) (120 * sym (numbers .2) i)) ∙ ap (λ (l : List Item). withdrawal-accepted (dispositionsOf l) (centsOf l) (suc (length l)) (120 * suc (length l))) listed in
         let canonical : Canonical f → Canonical left = λ c. withdrawn-canonical f k d′ c′ n′ first m a w′ c some in
-        subst (Step f (withdraw k) _) (sym own) (left-step f (withdraw k) _ (withdrawLeaving list) left front told listed reply canonical (withdrawn-length f k d′ c′ n′ first m a found some) (withdrawn-size f k d′ c′ n′ first m a found some) refl)
+        subst (Step f (withdraw k) _) (sym own) (record { held = held-as f (length f) _ list left front told listed canonical (withdrawn-length f k d′ c′ n′ first m a found some) (withdrawn-size f k d′ c′ n′ first m a found some) refl; reply = reply })
 
     pub withdraw-step : Step f (withdraw k) (Withdraw·withdraw f k) (withdrawOn k is)
     withdraw-step = go (Withdraw·withdraw f k) (withdrawing f k)

@@ -1,7 +1,7 @@
 -- Demand 2. Assumes nothing.
 use Rattle.flow.specs.Laws.{AcceptedExact}
 use Rattle.grammar.specs.Laws.{GrammarExact, PartsExact, PlacesExact, OpeningExact}
-use Rattle.list.specs.Laws.{ItemsExact, WriteAccepted, WriteLeaves, WrittenExact, OwnList, OwnItems, ReadBackAccepted, ReadBackLeaves, RewrittenExact, RewrittenSame, UncheckedOnly}
+use Rattle.list.specs.Laws.{ItemsExact, WriteAccepted, WriteAnswers, WriteLeaves, WrittenExact, OwnList, OwnItems, ReadBackAccepted, ReadBackAnswers, ReadBackLeaves, RewrittenExact, RewrittenSame, UncheckedOnly}
 
 pub record Demand2 : Type 0 where
   -- "a flow is accepted exactly when it keeps the M.Av. rules of document 01, trailer count and cents being the exact sums over its
@@ -13,9 +13,10 @@ pub record Demand2 : Type 0 where
   pub places : PlacesExact
   pub openings : OpeningExact
   -- "our request list becomes exactly the flow it spells": which items a list is, when they are accepted, with the counts and the sum of
-  -- the items, and that the output then has exactly the encoding at its front and the rest as it was
+  -- the items, that this is answered, and that the output then has exactly the encoding at its front and the rest as it was
   pub items : ItemsExact
   pub list-accepted : WriteAccepted
+  pub list-answered : WriteAnswers
   pub list-written : WriteLeaves
   -- the flow written is accepted with the same numbers, is canonical and gives back the list
   pub flow-written : WrittenExact
@@ -23,6 +24,7 @@ pub record Demand2 : Type 0 where
   pub own-list : OwnList
   pub own-items : OwnItems
   pub flow-accepted : ReadBackAccepted
+  pub flow-answered : ReadBackAnswers
   pub list-read-back : ReadBackLeaves
   -- "and a clean flow comes again byte for byte": its list is accepted with the same numbers, and gives the same bytes exactly where the
   -- flow was canonical
