@@ -8,7 +8,7 @@ use lib.Dec.{leb, ltb}
 use lib.ListN.{length, take, replicate}
 use lib.Seq.{take-length}
 use borrow.Author.Tests.{leb-true, le-leb, lt-leb, lt-ltb, le-ltb}
-use Rattle.flow.specs.Find.{IsNumber}
+use Rattle.flow.specs.Find.{standing, IsNumber, find}
 use Rattle.flow.specs.Judge.{judge}
 use Rattle.flow.specs.Seek.{Target, target, seek}
 use Rattle.flow.specs.Verdict.{accepted}
@@ -30,7 +30,7 @@ use Rattle.amend.proofs.Among.{Among, among-so, restOf, changedOf}
 use Rattle.amend.proofs.Answered.{Changing, changing, changes, Withdrawing, withdrawing, withdraws, refuses, changed-grammar, withdrawn-grammar, refused-untouched, seeking, Seeking, stands, unread, none}
 use Rattle.amend.proofs.Leaving.{change-touches, withdraw-touches, changedFlow, changed-read, changed-size, changed-whole, withdrawnFlow, withdrawn-read, withdrawn-length, withdrawn-size, withdrawn-front}
 use Rattle.amend.proofs.Left.{typedFrom, retold, here, behind, changed-cents, changed-numbered}
-use Rattle.claims.specs.Demand3.{Touched}
+use Rattle.claims.specs.Demand3.{TouchesOnly, numberOf, Amends, Touched}
 use Rattle.claims.specs.Ledger.{Call, change, withdraw, change-accepted, withdrawal-accepted, refused, Entry, refusal, has, withAmount, withoutDisposition, changeOn, withdrawLeaving, withdrawOn, entry, firstRepriced}
 use Rattle.claims.specs.Run.{Memory, flowIn, amend, replyOf}
 use Rattle.claims.proofs.Canonical.{changed-canonical, withdrawn-canonical}
@@ -250,15 +250,37 @@ module _ (f : List ℕ) (d c n : ℕ) (read : judge f ≡ accepted d c n) where
   one-step (change k new) = change-step k new
   one-step (withdraw k) = withdraw-step k
 
+-- what is sought was read and found, and what is then touched is what an accepted call touches
+amends :
+    (call : Call) (f : List ℕ) (a : Amended) {d c n first m cents : ℕ} → seek f (numberOf call) ≡ target d c n first m cents
+    → (judge f ≡ accepted d c n → find f (numberOf call) ≡ standing first m cents → TouchesOnly call f a first m n) → Amends call f a
+amends call f a {d} {c} {n} {first} {m} {cents} sought touches =
+    let both = sought-read f (numberOf call) sought in
+    record {
+      dispositions = d;
+      cents = c;
+      records = n;
+      first = first;
+      size = m;
+      amount = cents;
+      read = both .0;
+      found = both .1;
+      touches = touches (both .0) (both .1);
+    }
+
 -- which bytes a call touches
 pub call-touched : (call : Call) (f : List ℕ) → Touched call f (amend call f)
 call-touched (change k new) f =
-    record {
-      only = λ d c n first m cents read found d′ c′ n′ same. change-touches f k new d c n first m cents read found;
-      none = λ e r p same. refused-untouched f k e r p .0 new same;
-    }
+    record { only = λ d c n same. go (Change·change f k new) (changing f k new) same; none = λ e r p same. refused-untouched f k e r p .0 new same }
+  where
+    go : {d c n : ℕ} (x : Amended) → Changing f k new x → x .answer ≡ accepted d c n → Amends (change k new) f (Change·change f k new)
+    go x (refuses fault) same = absurd (accepted-not-refused same)
+    go x (changes sought small fits) same = amends (change k new) f _ sought (λ read found. change-touches f k new _ _ _ _ _ _ read found)
 call-touched (withdraw k) f =
-    record {
-      only = λ d c n first m cents read found d′ c′ n′ same. withdraw-touches f k d c n first m cents d′ c′ n′ read found same .0;
-      none = λ e r p same. refused-untouched f k e r p .1 same;
-    }
+    record { only = λ d c n same. go (Withdraw·withdraw f k) (withdrawing f k) same same; none = λ e r p same. refused-untouched f k e r p .1 same }
+  where
+    go :
+        {d c n : ℕ} (x : Amended) → Withdrawing f k x → x .answer ≡ accepted d c n → Withdraw·withdraw f k .answer ≡ accepted d c n
+        → Amends (withdraw k) f (Withdraw·withdraw f k)
+    go x (refuses fault) same own = absurd (accepted-not-refused same)
+    go x (withdraws sought some) same own = amends (withdraw k) f _ sought (λ read found. withdraw-touches f k _ _ _ _ _ _ _ _ _ read found own .0)

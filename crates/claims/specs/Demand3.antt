@@ -44,11 +44,21 @@ abbrev pub numberOf : Call → ℕ
 numberOf (change k new) = k
 numberOf (withdraw k) = k
 
+-- an accepted call: the flow that it was lent is accepted, disposition k stands in it, and no position but these differs
+pub record Amends (call : Call) (f : List ℕ) (a : Amended) : Type 0 where
+  pub dispositions : ℕ
+  pub cents : ℕ
+  pub records : ℕ
+  pub first : ℕ
+  pub size : ℕ
+  pub amount : ℕ
+  pub read : judge f ≡ accepted dispositions cents records
+  pub found : find f (numberOf call) ≡ standing first size amount
+  pub touches : TouchesOnly call f a first size records
+
 -- "each accepted call touches only the positions document 01 names for it; each refused one touches none"
 pub record Touched (call : Call) (f : List ℕ) (a : Amended) : Type 0 where
-  pub only :
-      (d c n first m cents : ℕ) → judge f ≡ accepted d c n → find f (numberOf call) ≡ standing first m cents → (d′ c′ n′ : ℕ) → a .answer ≡ accepted d′ c′ n′
-      → TouchesOnly call f a first m n
+  pub only : (d c n : ℕ) → a .answer ≡ accepted d c n → Amends call f a
   pub none : (e r p : ℕ) → a .answer ≡ refused e r p → Untouched f a
 
 -- "take any accepted flow and any list of calls on it", also an empty one

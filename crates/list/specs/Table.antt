@@ -51,7 +51,8 @@ carried Ef = []
 abbrev pub bodyLength : Kind → ℕ
 bodyLength k = sum (map width (carried k))
 
--- for the contracts of private functions: the spans as the code keeps them, four, each by its first and its last position, and 1 to 0, which is no position, where there are fewer
+-- for the contracts of private functions: the spans as the code keeps them, four, each by its first and its last position, and 1 to 0,
+-- which is no position, where there are fewer
 abbrev pub fourOf : List Span → List Span
 fourOf ss = take 4 (ss ++ ((1 to 0) ∷ (1 to 0) ∷ (1 to 0) ∷ (1 to 0) ∷ []))
 
