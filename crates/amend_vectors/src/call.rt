@@ -22,7 +22,7 @@ pub(crate) fn run(kind: u8, text: &[u8], flow: &mut [u8]) -> usize
 
 // `2 40000` stands for the number 2 and the amount 40000; the blank counts as a zero before it.
 fn change(text: &[u8], flow: &mut [u8]) {
-    let n = word_end(text);
+    let n = bytes::scan::find(text, 0, text.len(), b' ');
     let k = decimal(&text[0..n]);
     let cents = decimal(&text[n..]);
     report::print_text(amend::change(flow, k, cents));
@@ -39,18 +39,4 @@ fn withdraw(text: &[u8], flow: &mut [u8]) -> usize
     labelled(b" length ", withdrawn.length);
     io::write_all(STDOUT_FILENO, b" ");
     least(withdrawn.length, flow.len())
-}
-
-// Where the first blank is; the length where there is none.
-fn word_end(text: &[u8]) -> usize
-    ensures { λ r. ⌜ r ≤ length (now (text .entry)) ⌝ }
-{
-    let mut end = 0;
-    while end < text.len() {
-        if text[end] == b' ' {
-            return end;
-        }
-        end += 1;
-    }
-    end
 }
