@@ -1,7 +1,8 @@
 // Numbers in the fields of a flow.
-ghost use Prim.Native.Nat.{_-_, _*_, _≤_};
+ghost use Prim.Native.Nat.{_+_, _-_, _*_, _≤_};
 ghost use mathlib.Core.Path.{_≡_};
 ghost use lib.ListN.{length};
+ghost use Rattle.sequences.specs.Part.{put};
 ghost use Rattle.fields.specs.Digits.{digits};
 ghost use Rattle.amend.specs.Amended.{written};
 
@@ -17,6 +18,23 @@ pub(crate) fn place_number(flow: &mut [u8], r: u64, first: usize, last: usize, v
 {
     let at = 120 * (index(r) - 1);
     fields::write_digits(&mut flow[at + (first - 1)..at + last], value);
+}
+
+// The seven digits of a number, as they stand at 4-10 of a record.
+pub(crate) fn seven_digits(value: u64) -> [u8; 7]
+    ensures { λ r. ⌜ r ≡ digits 7 value ⌝ }
+{
+    let mut out = [b'0'; 7];
+    fields::write_digits(&mut out, value);
+    out
+}
+
+// Puts seven digits in the flow, from an index on.
+pub(crate) fn place_seven(flow: &mut [u8], at: usize, shown: &[u8; 7])
+    requires { ⌜ at + 7 ≤ length (now flow) ⌝ }
+    ensures { λ _. ⌜ now (flow .exit) ≡ put at (now (shown .entry)) (now (flow .entry)) ⌝ }
+{
+    bytes::copy(shown, &mut flow[at..at + 7]);
 }
 
 // The same number, to count bytes and records of a slice with.

@@ -13,6 +13,8 @@ ghost use Rattle.amend.specs.Withdraw.{renumberedFrom};
 ghost use Rattle.amend.specs.Withdraw.{withdraw as Withdraw·withdraw};
 use crate::digits::index;
 use crate::digits::place_number;
+use crate::digits::place_seven;
+use crate::digits::seven_digits;
 use flow::Answer;
 use flow::Sought;
 use records::Kind;
@@ -97,7 +99,8 @@ fn move_up(flow: &mut [u8], to: usize, from: usize)
 }
 
 // Numbers the records from index `from` up to index `to` anew, the first disposition among them with
-// the number behind `before`: a record 14 opens the next one.
+// the number behind `before`: a record 14 opens the next one. The digits are made once for each
+// disposition, and copied into its records.
 fn renumber(flow: &mut [u8], from: usize, to: usize, before: u64)
     requires { ⌜ from ≤ to ⌝ }
     requires { ⌜ 120 * to ≤ length (now flow) ⌝ }
@@ -108,13 +111,15 @@ fn renumber(flow: &mut [u8], from: usize, to: usize, before: u64)
         (now (flow .entry)) ⌝ }
 {
     let mut number = before;
+    let mut shown = seven_digits(before);
     let mut i = from;
     while i < to {
         if records::has_type(&flow[120 * i..120 * i + 120], Kind::R14) {
             number += 1;
+            shown = seven_digits(number);
         }
+        place_seven(flow, 120 * i + 3, &shown);
         i += 1;
-        place_number(flow, i as u64, 4, 10, number);
     }
 }
 

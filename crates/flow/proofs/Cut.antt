@@ -42,6 +42,9 @@ cut-end n i f h = let none : n - i ≡ 0 = omega arith in rw none
 pub record-part : (i : ℕ) (f : List ℕ) → part (120 * i) (120 * i + 120 - 120 * i) f ≡ recordAt i f
 record-part i f = let whole : 120 * i + 120 - 120 * i ≡ 120 = omega arith in ap (λ (n : ℕ). part (120 * i) n f) whole
 
+pub record-whole : (f : List ℕ) (i : ℕ) → i < length f / 120 → length (recordAt i f) ≡ 120
+record-whole f i h = length-take-le 120 (drop (120 * i) f) (omega (arith, length-drop (120 * i) f))
+
 -- records of 120 bytes each
 abbrev pub Whole : List (List ℕ) → Type 0
 Whole recs = All (λ (rec : List ℕ). length rec ≡ 120) recs

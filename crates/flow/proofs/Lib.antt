@@ -5,6 +5,7 @@ pub mod Dispositions
 pub mod EachDue
 pub mod Exact
 pub mod Examples
+pub mod FastPath
 pub mod Lengths
 pub mod Places
 pub mod Reading

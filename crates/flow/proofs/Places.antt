@@ -22,7 +22,18 @@ use Rattle.flow.specs.declared.walk.Walk.{Walk}
 use Rattle.flow.proofs.Among.{HasNone, among-tested, none-missing}
 use Rattle.flow.proofs.Exact.{counts-alike}
 
+-- the counts handed to the rules: that of the dispositions may have stopped
+abbrev pub handed : Walk → ℕ → Kind → Counts
+handed w n k = record { dispositions = min (counted w k) countLimit; cents = w .cents; records = n }
+
 module _ (header : Header) (w : Walk) (company : List ℕ) (n : ℕ) (rec : List ℕ) where
+  -- no record is judged otherwise for it
+  pub handed-alike : (k : Kind) → judge k (context header company (countsAt w n k)) rec ≡ judge k (context header company (handed w n k)) rec
+  handed-alike k =
+      let count : min (counted w k) countLimit ≡ min (min (counted w k) countLimit) countLimit = omega arith in
+      let alike : stoppedCounts (countsAt w n k) ≡ stoppedCounts (handed w n k) = λ i. record { dispositions = count i; cents = min (w .cents) centsLimit; records = n } in
+      counts-alike header company k (countsAt w n k) (handed w n k) rec alike
+
   pub other-length : (length rec ≡ 120 → ⊥) → judgeRecord header w company n rec ≡ refused 1 0
   unfolding judgeRecord
   other-length h = rw (ne-eqb (length rec) 120 h)
@@ -40,16 +51,9 @@ module _ (header : Header) (w : Walk) (company : List ℕ) (n : ℕ) (rec : List
     unfolding typed
     no-type printable e = by-type Missing printable e
 
-    -- the count handed to the rules may have stopped
-    pub of-type :
-        (k : Kind) → badByte rec ≡ 0 → among (permitted (w .place .due)) rec ≡ Of k
-        → judgeRecord header w company n rec ≡ judge k (context header company (record { dispositions = min (counted w k) countLimit; cents = w .cents; records = n })) rec
+    pub of-type : (k : Kind) → badByte rec ≡ 0 → among (permitted (w .place .due)) rec ≡ Of k → judgeRecord header w company n rec ≡ judge k (context header company (handed w n k)) rec
     unfolding typed
-    of-type k printable e =
-        let handed : Counts = record { dispositions = min (counted w k) countLimit; cents = w .cents; records = n } in
-        let count : min (counted w k) countLimit ≡ min (min (counted w k) countLimit) countLimit = omega arith in
-        let alike : stoppedCounts (countsAt w n k) ≡ stoppedCounts handed = λ i. record { dispositions = count i; cents = min (w .cents) centsLimit; records = n } in
-        by-type (Of k) printable e ∙ counts-alike header company k (countsAt w n k) handed rec alike
+    of-type k printable e = by-type (Of k) printable e ∙ handed-alike k
 
     -- a record of a permitted type is judged by the rules of its kind
     pub judged-of : (k : Kind) → badByte rec ≡ 0 → In k (permitted (w .place .due)) → hasType k rec ≡ true → judgeRecord header w company n rec ≡ judge k (context header company (countsAt w n k)) rec

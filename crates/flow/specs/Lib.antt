@@ -1,4 +1,5 @@
 pub mod Examples
+pub mod FastPath
 pub mod Find
 pub mod Judge
 pub mod Laws

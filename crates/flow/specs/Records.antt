@@ -1,5 +1,5 @@
 -- A flow as records of 120 bytes (document 01, "The flow as bytes"; "Numbers a clerk may see", row 1). Assumes nothing.
-use Prim.Native.Nat.{ℕ, zero, suc, _*_, _/_, _%_, _≤_}
+use Prim.Native.Nat.{ℕ, zero, suc, _-_, _*_, _/_, _%_, _≤_}
 use mathlib.Core.Bool.{Bool, _&&_}
 use mathlib.Core.List.{List, [], _∷_}
 use mathlib.Core.Path.{_≡_}
@@ -25,3 +25,7 @@ recordAt i f = take 120 (drop (120 * i) f)
 -- all of them, in order
 abbrev pub recordsOf : List ℕ → List (List ℕ)
 recordsOf f = cut (length f / 120) f
+
+-- those from index i on
+abbrev pub recordsFrom : ℕ → List ℕ → List (List ℕ)
+recordsFrom i f = cut (length f / 120 - i) (drop (120 * i) f)

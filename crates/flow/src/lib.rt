@@ -6,6 +6,7 @@
 // The flow is read in place: each record is handed to the record rules as the part of 120 bytes that
 // it is, and nothing of it is copied. No public function has a `requires`, and none changes a byte.
 mod answer;
+mod fast_path;
 mod location;
 mod order;
 mod reader;

@@ -54,7 +54,7 @@ pub(crate) fn kind_due(due: Due, rec: &[u8]) -> Found
     }
 }
 
-fn first_of(kind: Kind, other: Kind, rec: &[u8]) -> Found
+pub(crate) fn first_of(kind: Kind, other: Kind, rec: &[u8]) -> Found
     ensures { λ r. ⌜ r ≡ among (kind ∷ other ∷ []) (now (rec .entry)) ⌝ }
 {
     if records::has_type(rec, kind) {
@@ -63,7 +63,7 @@ fn first_of(kind: Kind, other: Kind, rec: &[u8]) -> Found
     only(other, rec)
 }
 
-fn only(kind: Kind, rec: &[u8]) -> Found
+pub(crate) fn only(kind: Kind, rec: &[u8]) -> Found
     ensures { λ r. ⌜ r ≡ among (kind ∷ []) (now (rec .entry)) ⌝ }
 {
     if records::has_type(rec, kind) {

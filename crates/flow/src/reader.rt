@@ -11,6 +11,7 @@ ghost use Rattle.flow.specs.Judge.{judge as Judge·judge};
 ghost use Rattle.flow.specs.Steps.{start, latestOf};
 ghost use Rattle.flow.specs.Verdict.{verdict};
 use crate::answer::Answer;
+use crate::fast_path::pass_over;
 use crate::walk::Walk;
 use records::Judged;
 use records::Kind;
@@ -58,7 +59,7 @@ fn is_length(n: usize) -> bool
     n <= MOST
 }
 
-// Each record in turn, with the header's fields.
+// Each record in turn, with the header's fields: by the rules, and then those that are passed over.
 fn read_records(
     flow: &[u8],
     mittente: &[u8],
@@ -93,7 +94,11 @@ fn read_records(
                 walk = walk.next(right);
             }
         }
-        i += 1;
+        let place = walk.place;
+        let passed = pass_over(flow, i + 1, place);
+        let behind = passed.place;
+        walk = walk.at(behind);
+        i = passed.index;
     }
     end(walk, count(i))
 }

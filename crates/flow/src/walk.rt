@@ -5,6 +5,7 @@ ghost use mathlib.Core.Path.{_≡_};
 ghost use Rattle.records.specs.Context.{headed};
 ghost use Rattle.records.specs.Finding.{finding};
 ghost use Rattle.records.specs.Limits.{countLimit};
+ghost use Rattle.flow.specs.FastPath.{atPlace};
 ghost use Rattle.flow.specs.Order.{isDue, mayClose, permitted};
 ghost use Rattle.flow.specs.Steps.{step, stopped, counted, judgeRecord};
 ghost use Rattle.flow.specs.Steps.{start as Steps·start};
@@ -112,6 +113,17 @@ impl Walk {
             place: next,
             dispositions: self.counted(kind),
             cents: sum(self.cents, right.cents, CENTS_LIMIT),
+        }
+    }
+
+    // The state at another place, with the same counts.
+    pub(crate) fn at(self, place: Place) -> Walk
+        ensures { λ r. ⌜ r ≡ atPlace self place ⌝ }
+    {
+        Walk {
+            place,
+            dispositions: self.dispositions,
+            cents: self.cents,
         }
     }
 

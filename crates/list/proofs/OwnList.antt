@@ -9,11 +9,11 @@ use lib.ListN.{length, drop, set, length-append}
 use lib.Seq.{set-split}
 use Rattle.sequences.specs.Part.{put}
 use Rattle.sequences.proofs.Flatten.{flatten-append}
-use Rattle.sequences.proofs.Part.{part-length, put-append, put-length, put-nothing}
+use Rattle.sequences.proofs.Part.{put-append, put-length, put-nothing}
 use Rattle.records.specs.Kinds.{closes}
 use Rattle.records.specs.declared.kind.Kind.{Kind}
 use Rattle.flow.specs.Records.{cut, recordAt}
-use Rattle.flow.proofs.Cut.{cut-next, cut-end}
+use Rattle.flow.proofs.Cut.{cut-next, cut-end, record-whole}
 use Rattle.list.specs.Items.{itemBytes, listBytes}
 use Rattle.list.specs.ReadBack.{gather, itemOf, itemLength, listOf}
 use Rattle.list.specs.Table.{letter, carried, bodyLength, kindIn}
@@ -68,9 +68,6 @@ list-next f i h =
     let rest = flatten (map itemOf (cut (length f / 120 - suc i) (drop (120 * suc i) f))) in
     rw (cut-next (length f / 120) i f h)
     (ap flatten (map-append itemBytes (itemOf (recordAt i f)) rest) ∙ flatten-append (map itemBytes (itemOf (recordAt i f))) (map itemBytes rest))
-
-pub record-whole : (f : List ℕ) (i : ℕ) → i < length f / 120 → length (recordAt i f) ≡ 120
-record-whole f i h = part-length (120 * i) 120 f (omega arith)
 
 pub length-next : (f : List ℕ) (i : ℕ) → i < length f / 120 → length (listFrom f i) ≡ itemLength (kindIn (recordAt i f)) + length (listFrom f (suc i))
 length-next f i h =

@@ -7,4 +7,5 @@ pub mod Listed
 pub mod Numbers
 pub mod Printable
 pub mod Rows
+pub mod SeenRight
 pub mod Stopping

@@ -1,17 +1,20 @@
 -- What is proved of the record rules. `proofs/` has its proof under the law's name in small letters. Assumes nothing.
 use Prim.Native.Nat.{ℕ, _<_}
-use mathlib.Core.Bool.{true}
+use mathlib.Core.Bool.{true, false}
 use mathlib.Core.List.{List}
 use mathlib.Core.Logic.{_↔_}
 use mathlib.Core.Path.{_≡_}
 use lib.ListN.{length}
+use Rattle.fields.specs.Digits.{isDigits, number}
+use Rattle.records.specs.Bytes.{badByte}
 use Rattle.records.specs.Checked.{checked, Alike}
 use Rattle.records.specs.Checks.{checks}
 use Rattle.records.specs.Context.{Context}
 use Rattle.records.specs.Finding.{right, refused, Hold, FirstBroken, inOrder, finding}
 use Rattle.records.specs.Judge.{asked, judge}
-use Rattle.records.specs.Kinds.{typeOf}
+use Rattle.records.specs.Kinds.{typeOf, opens, closes}
 use Rattle.records.specs.Limits.{countLimit, centsLimit, stopped}
+use Rattle.records.specs.Seen.{seenRight}
 use Rattle.records.specs.declared.judged.Judged.{Judged}
 use Rattle.records.specs.declared.kind.Kind.{Kind}
 use Rattle.records.specs.declared.kind.Kind.the-variants.{Ef}
@@ -56,3 +59,11 @@ TrailerExact =
 -- what an answer stands for on paper determines it
 abbrev pub JudgedDetermined : Type 0
 JudgedDetermined = (r s : Judged) → finding r ≡ finding s → r ≡ s
+
+-- a record that is seen to be right is one inside a disposition, and is right and asks for nothing, where the number handed in is digits
+-- and the one due
+abbrev pub SeenRight : Type 0
+SeenRight =
+    (k : Kind) (digits rec : List ℕ) → seenRight k digits rec ≡ true
+    → (badByte rec ≡ 0) × (opens k ≡ false) × (closes k ≡ false)
+    × ((ctx : Context) → isDigits digits ≡ true → number digits ≡ ctx .counts .dispositions → judge k ctx rec ≡ right k 0)

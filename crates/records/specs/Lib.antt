@@ -10,3 +10,4 @@ pub mod Kinds
 pub mod Laws
 pub mod Limits
 pub mod Rows
+pub mod Seen

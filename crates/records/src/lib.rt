@@ -1,5 +1,6 @@
 // The rules of one M.Av. record of 120 bytes (document 01, table of checks): its type, its fields by
-// position, and `judge`, which gives its first fault.
+// position, `judge`, which gives its first fault, and `seen_right`, which sees by a few tests that most
+// records have none.
 //
 // A record is judged by its own bytes. What a rule needs from elsewhere in the flow, the header's
 // fields, the company code so far and the counts so far, is handed in as slices and numbers. No
@@ -15,6 +16,7 @@ mod kind;
 mod position;
 mod record;
 mod rules;
+mod seen;
 mod trailer;
 
 pub use bytes::bad_byte;
@@ -33,3 +35,4 @@ pub use kind::opens;
 pub use kind::type_of;
 pub use position::field;
 pub use record::judge;
+pub use seen::seen_right;

@@ -4,26 +4,24 @@ use mathlib.Core.List.{List}
 use mathlib.Core.Path.{_≡_, sym, _∙_, ap, ap₂}
 use native.Mathlib.Numerals.{add-one}
 use native.Mathlib.Omega.{arith}
-use lib.ListN.{length, drop}
+use lib.ListN.{length}
 use borrow.Author.Needs.{needs}
 use Rattle.sequences.specs.Part.{part}
 use Rattle.records.specs.Context.{headed}
 use Rattle.records.specs.Finding.{finding}
+use Rattle.flow.specs.FastPath.{Numbered}
 use Rattle.flow.specs.Judge.{ended}
-use Rattle.flow.specs.Records.{cut, recordAt, recordsOf}
+use Rattle.flow.specs.Records.{recordAt, recordsOf, recordsFrom}
 use Rattle.flow.specs.Steps.{judgeRecord}
 use Rattle.flow.proofs.Lengths.{length-said}
-use Rattle.flow.proofs.Cut.{cut-next, cut-end, record-part}
+use Rattle.flow.proofs.Cut.{cut-next, cut-end, record-part, record-whole}
+use Rattle.flow.proofs.FastPath.{numbered-stopped, pass-on}
 use Rattle.flow.proofs.Reading.{Reading, begin, go-on, refuse, finish, ended-alike}
 use Rattle.flow.proofs.reader.read_records.Statement.{statement}
 use Rattle.flow.proofs.reader.read_records.Tie as tie
 
--- the records from index i on
-abbrev left-at : List ℕ → ℕ → List (List ℕ)
-left-at flow i = cut (length flow / 120 - i) (drop (120 * i) flow)
-
 abbrev Inv-loop : tie.InvT-loop
-Inv-loop flow mittente abi date name currency walk₀ company₀ i₀ walk company i = (i ≤ length flow / 120) × (length flow ≤ 1199999880) × Reading ended (headed mittente abi date name currency) (recordsOf flow) walk company i (left-at flow i)
+Inv-loop flow mittente abi date name currency walk₀ company₀ i₀ walk company i = (i ≤ length flow / 120) × (length flow ≤ 1199999880) × Reading ended (headed mittente abi date name currency) (recordsOf flow) walk company i (recordsFrom i flow)
 
 abbrev μ-loop : tie.MeasureT-loop
 μ-loop flow mittente abi date name currency walk₀ company₀ i₀ walk company i = length flow / 120 - i
@@ -109,18 +107,35 @@ latest-company-requires c κs = search needs
 next-requires : tie.Need-next-requires Inv-loop μ-loop
 next-requires c κs = search needs
 
-add-i : tie.Need-add-i Inv-loop μ-loop
-add-i c = omega arith
+add-pass-over : tie.Need-add-pass-over Inv-loop μ-loop
+add-pass-over c = omega arith
+
+pass-over-requires : tie.Need-pass-over-requires Inv-loop μ-loop
+pass-over-requires c κs = omega arith
+
+at-requires : tie.Need-at-requires Inv-loop μ-loop
+at-requires c κs = search needs
 
 loop-less : tie.Need-loop-less Inv-loop μ-loop
-loop-less c = omega arith
+loop-less c = omega (arith, c .before .before .pass-over .ensures .0)
 
 loop-again : tie.Need-loop-again Inv-loop μ-loop
 loop-again c =
-    let at = c .before .before .before .before .before .before .before .before .before .before in
-    let told = found (c .before .before .before .before .before .before) ∙ ap finding (c .before .before .before .before .right .given .1) in
-    let within = c .before .before .before .before .before .before .before .before .before .loop-test .taken in
-    (omega arith, at .loop .inv .1, rw (c .next .ensures, c .before .latest-company .ensures, c .before .before .field .ensures, handed at, add-one) (go-on (at .loop .inv .2) _ _ (cut-next _ _ _ within) _ _ told))
+    let passed = c .before .before .pass-over in
+    let walked = c .before .before .before .before .next in
+    let judged = c .before .before .before .before .before .before .before .before .before .before in
+    let within = judged .before .before .before in
+    let at = within .before in
+    let i = at .loop .i in
+    let flow = flow-of at in
+    let told = found judged ∙ ap finding (c .before .before .before .before .before .before .before .before .right .given .1) in
+    let back : suc i - 1 ≡ i = omega arith in
+    let numbered : Numbered (walked .result) (recordAt (suc i - 1) flow) = rw (walked .ensures, back) (numbered-stopped _ _ _ _ _ _ _ (record-whole flow i (within .loop-test .taken)) told) in (
+      passed .ensures .1,
+      at .loop .inv .1,
+      rw (c .at .ensures, c .before .before .before .before .before .latest-company .ensures, c .before .before .before .before .before .before .field .ensures, handed at)
+          (pass-on flow (walked .result) _ (rw (walked .ensures) (go-on (at .loop .inv .2) _ _ (cut-next _ _ _ (within .loop-test .taken)) _ _ told)) numbered (rw add-one at (passed .ensures))),
+    )
 
 count-requires-2 : tie.Need-count-requires-2 Inv-loop μ-loop
 count-requires-2 c κs = search needs
@@ -159,7 +174,9 @@ read-records-spec =
     field-requires
     latest-company-requires
     next-requires
-    add-i
+    add-pass-over
+    pass-over-requires
+    at-requires
     loop-less
     loop-again
     count-requires-2

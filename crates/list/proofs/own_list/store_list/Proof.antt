@@ -7,11 +7,11 @@ use native.Mathlib.Omega.{arith}
 use lib.ListN.{length}
 use Rattle.sequences.specs.Part.{put}
 use Rattle.flow.specs.Records.{recordAt}
-use Rattle.flow.proofs.Cut.{record-part}
+use Rattle.flow.proofs.Cut.{record-part, record-whole}
 use Rattle.list.specs.Items.{listBytes}
 use Rattle.list.specs.ReadBack.{itemOf, itemLength}
 use Rattle.list.specs.Table.{kindIn}
-use Rattle.list.proofs.OwnList.{Listing, listing, record-whole, item-fits, listed-next, listed-all}
+use Rattle.list.proofs.OwnList.{Listing, listing, item-fits, listed-next, listed-all}
 use Rattle.list.proofs.own_list.store_list.Statement.{statement}
 use Rattle.list.proofs.own_list.store_list.Tie as tie
 

@@ -1,0 +1,57 @@
+-- For the contracts of private functions: the fast path of the reader, which changes no answer. Assumes nothing.
+use Prim.Native.Nat.{ℕ, _-_, _/_, min, _≤_}
+use mathlib.Core.Bool.{Bool, true, false}
+use mathlib.Core.List.{List}
+use mathlib.Core.Path.{_≡_}
+use lib.ListN.{length}
+use Rattle.fields.specs.Digits.{isDigits, number}
+use Rattle.records.specs.Context.{Header}
+use Rattle.records.specs.Field.{field}
+use Rattle.records.specs.Limits.{countLimit}
+use Rattle.flow.specs.Judge.{go}
+use Rattle.flow.specs.Order.{permitted, isDue, among}
+use Rattle.flow.specs.Records.{recordAt, recordsFrom}
+use Rattle.flow.specs.Verdict.{Verdict}
+use Rattle.flow.specs.declared.order.Due.{Due}
+use Rattle.flow.specs.declared.order.Due.the-variants.{OnlyIm, OnlyR14, R16OrR20, OnlyR20, OnlyR30, OnlyR40, R50OrR59, R59OrR51, OnlyR51, OnlyR70, R14OrEf, Nothing}
+use Rattle.flow.specs.declared.order.Found.{Found}
+use Rattle.flow.specs.declared.order.Found.the-variants.{Of, Missing}
+use Rattle.flow.specs.declared.order.Place.{Place}
+use Rattle.flow.specs.declared.walk.Walk.{Walk}
+
+-- a disposition goes on here
+abbrev pub isInside : Due → Bool
+isInside OnlyIm = false
+isInside OnlyR14 = false
+isInside R16OrR20 = true
+isInside OnlyR20 = true
+isInside OnlyR30 = true
+isInside OnlyR40 = true
+isInside R50OrR59 = true
+isInside R59OrR51 = true
+isInside OnlyR51 = true
+isInside OnlyR70 = true
+isInside R14OrEf = false
+isInside Nothing = false
+
+-- what is known of a record whose kind was found where a disposition goes on
+abbrev pub Inside : Due → List ℕ → Found → Type 0
+Inside due rec Missing = Unit
+Inside due rec (Of k) = (isInside due ≡ true) × (among (permitted due) rec ≡ Of k)
+
+-- inside a disposition, 4-10 of the record before are digits and give its number
+abbrev pub Numbered : Walk → List ℕ → Type 0
+Numbered w before = isInside (w .place .due) ≡ true → (isDigits (field 4 10 before) ≡ true) × (number (field 4 10 before) ≡ min (w .dispositions) countLimit)
+
+-- the same counts at another place
+abbrev pub atPlace : Walk → Place → Walk
+atPlace w p = record { place = p; dispositions = w .dispositions; cents = w .cents }
+
+-- the records from one index up to another were passed over: whatever the counts, what is left decides as it did
+abbrev pub PassedOver : List ℕ → ℕ → Place → ℕ → Place → Type 0
+PassedOver f from p to q =
+    (from ≤ to) × (to ≤ length f / 120) × (isDue (permitted (q .due)) ≡ isDue (permitted (p .due)))
+    × (
+    (end : Walk → ℕ → Verdict) (header : Header) (company : List ℕ) (w : Walk) → Numbered (atPlace w p) (recordAt (from - 1) f)
+    → go end header (atPlace w p) company from (recordsFrom from f) ≡ go end header (atPlace w q) company to (recordsFrom to f)
+    )
