@@ -14,6 +14,7 @@ use Rattle.list.proofs.Answered.{write-answers, write-leaves, read-back-refused
 use Rattle.list.proofs.ListItems.{faulty-exact}
 use Rattle.list.proofs.WriteRefused.{write-refused}
 use Rattle.amend.proofs.Answered.{change-refused, withdraw-refused, refused-untouched}
+use Rattle.capi.proofs.Replies.{refused-leaves, replies-tell}
 use Rattle.claims.specs.Demand1.{Demand1}
 use Rattle.claims.proofs.EntryPoints.{entry-points, ask-nothing}
 use Rattle.claims.proofs.Numbers.{numbers-given}
@@ -47,4 +48,6 @@ demand1 =
       written-none = write-leaves;
       read-back-none = read-back-leaves;
       amended-none = refused-untouched;
+      returned-none = refused-leaves;
+      replies-tell = replies-tell;
     }

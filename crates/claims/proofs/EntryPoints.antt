@@ -8,6 +8,7 @@ use Rattle.fields.proofs.read_date.Met.{met as read-date-met}
 use Rattle.fields.proofs.all_blank.Met.{met as all-blank-met}
 use Rattle.fields.proofs.equal.Met.{met as equal-met}
 use Rattle.records.proofs.judge.Met.{met as record-judge-met}
+use Rattle.records.proofs.seen_right.Met.{met as seen-right-met}
 use Rattle.records.proofs.bad_byte.Met.{met as bad-byte-met}
 use Rattle.records.proofs.field.Met.{met as field-met}
 use Rattle.records.proofs.type_of.Met.{met as type-of-met}
@@ -29,6 +30,15 @@ use Rattle.list.proofs.write.Met.{met as write-met}
 use Rattle.list.proofs.read_back.Met.{met as read-back-met}
 use Rattle.amend.proofs.change.Met.{met as change-met}
 use Rattle.amend.proofs.withdraw.Met.{met as withdraw-met}
+use Rattle.capi.proofs.mav_digits.Met.{met as mav-digits-met}
+use Rattle.capi.proofs.mav_amount.Met.{met as mav-amount-met}
+use Rattle.capi.proofs.mav_date.Met.{met as mav-date-met}
+use Rattle.capi.proofs.mav_read.Met.{met as mav-read-met}
+use Rattle.capi.proofs.mav_find.Met.{met as mav-find-met}
+use Rattle.capi.proofs.mav_write.Met.{met as mav-write-met}
+use Rattle.capi.proofs.mav_list.Met.{met as mav-list-met}
+use Rattle.capi.proofs.mav_change.Met.{met as mav-change-met}
+use Rattle.capi.proofs.mav_withdraw.Met.{met as mav-withdraw-met}
 use Rattle.claims.specs.EntryPoints.{EntryPoints, AskNothing}
 
 pub entry-points : EntryPoints
@@ -41,6 +51,7 @@ entry-points =
       all-blank = λ M. all-blank-met;
       equal = λ M. equal-met;
       record-judge = λ M. record-judge-met;
+      seen-right = λ M. seen-right-met;
       bad-byte = λ M. bad-byte-met;
       field = λ M. field-met;
       type-of = λ M. type-of-met;
@@ -62,6 +73,15 @@ entry-points =
       read-back = λ M. read-back-met;
       change = λ M. change-met;
       withdraw = λ M. withdraw-met;
+      mav-digits = λ M. mav-digits-met;
+      mav-amount = λ M. mav-amount-met;
+      mav-date = λ M. mav-date-met;
+      mav-read = λ M. mav-read-met;
+      mav-find = λ M. mav-find-met;
+      mav-write = λ M. mav-write-met;
+      mav-list = λ M. mav-list-met;
+      mav-change = λ M. mav-change-met;
+      mav-withdraw = λ M. mav-withdraw-met;
     }
 
 pub ask-nothing : AskNothing
@@ -74,6 +94,7 @@ ask-nothing =
       all-blank = λ κs a g w. refl;
       equal = λ κs a g w. refl;
       record-judge = λ κs a g w. refl;
+      seen-right = λ κs a g w. refl;
       bad-byte = λ κs a g w. refl;
       field = λ κs a g w. refl;
       type-of = λ κs a g w. refl;
@@ -95,4 +116,13 @@ ask-nothing =
       read-back = λ κs a g w. refl;
       change = λ κs a g w. refl;
       withdraw = λ κs a g w. refl;
+      mav-digits = λ κs a g w. refl;
+      mav-amount = λ κs a g w. refl;
+      mav-date = λ κs a g w. refl;
+      mav-read = λ κs a g w. refl;
+      mav-find = λ κs a g w. refl;
+      mav-write = λ κs a g w. refl;
+      mav-list = λ κs a g w. refl;
+      mav-change = λ κs a g w. refl;
+      mav-withdraw = λ κs a g w. refl;
     }

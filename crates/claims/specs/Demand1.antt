@@ -30,6 +30,7 @@ use Rattle.list.specs.Write.{judgeList}
 use Rattle.amend.specs.Change.{change}
 use Rattle.amend.specs.Laws.{ChangeRefused, WithdrawRefused, RefusedUntouched}
 use Rattle.amend.specs.Withdraw.{withdraw}
+use Rattle.capi.specs.Laws.{RefusedLeaves, RepliesTell}
 use Rattle.claims.specs.EntryPoints.{EntryPoints, AskNothing}
 
 -- the numbers that document 01 gives to each call; 19 is given to none
@@ -116,3 +117,6 @@ pub record Demand1 : Type 2 where
   pub written-none : WriteLeaves
   pub read-back-none : ReadBackLeaves
   pub amended-none : RefusedUntouched
+  -- so it is through the C interface, whose entries tell the whole answer
+  pub returned-none : RefusedLeaves
+  pub replies-tell : RepliesTell

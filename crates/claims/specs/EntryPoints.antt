@@ -17,6 +17,8 @@ use Rattle.fields.proofs.equal.Reads.{requires as equal-requires}
 use Rattle.fields.proofs.equal.Statement.{statement as equal-statement}
 use Rattle.records.proofs.judge.Reads.{requires as record-judge-requires}
 use Rattle.records.proofs.judge.Statement.{statement as record-judge-statement}
+use Rattle.records.proofs.seen_right.Reads.{requires as seen-right-requires}
+use Rattle.records.proofs.seen_right.Statement.{statement as seen-right-statement}
 use Rattle.records.proofs.bad_byte.Reads.{requires as bad-byte-requires}
 use Rattle.records.proofs.bad_byte.Statement.{statement as bad-byte-statement}
 use Rattle.records.proofs.field.Reads.{requires as field-requires}
@@ -59,6 +61,24 @@ use Rattle.amend.proofs.change.Reads.{requires as change-requires}
 use Rattle.amend.proofs.change.Statement.{statement as change-statement}
 use Rattle.amend.proofs.withdraw.Reads.{requires as withdraw-requires}
 use Rattle.amend.proofs.withdraw.Statement.{statement as withdraw-statement}
+use Rattle.capi.proofs.mav_digits.Reads.{requires as mav-digits-requires}
+use Rattle.capi.proofs.mav_digits.Statement.{statement as mav-digits-statement}
+use Rattle.capi.proofs.mav_amount.Reads.{requires as mav-amount-requires}
+use Rattle.capi.proofs.mav_amount.Statement.{statement as mav-amount-statement}
+use Rattle.capi.proofs.mav_date.Reads.{requires as mav-date-requires}
+use Rattle.capi.proofs.mav_date.Statement.{statement as mav-date-statement}
+use Rattle.capi.proofs.mav_read.Reads.{requires as mav-read-requires}
+use Rattle.capi.proofs.mav_read.Statement.{statement as mav-read-statement}
+use Rattle.capi.proofs.mav_find.Reads.{requires as mav-find-requires}
+use Rattle.capi.proofs.mav_find.Statement.{statement as mav-find-statement}
+use Rattle.capi.proofs.mav_write.Reads.{requires as mav-write-requires}
+use Rattle.capi.proofs.mav_write.Statement.{statement as mav-write-statement}
+use Rattle.capi.proofs.mav_list.Reads.{requires as mav-list-requires}
+use Rattle.capi.proofs.mav_list.Statement.{statement as mav-list-statement}
+use Rattle.capi.proofs.mav_change.Reads.{requires as mav-change-requires}
+use Rattle.capi.proofs.mav_change.Statement.{statement as mav-change-statement}
+use Rattle.capi.proofs.mav_withdraw.Reads.{requires as mav-withdraw-requires}
+use Rattle.capi.proofs.mav_withdraw.Statement.{statement as mav-withdraw-statement}
 
 pub record EntryPoints : Type 2 where
   -- fields: the field rules
@@ -70,6 +90,7 @@ pub record EntryPoints : Type 2 where
   pub equal : (M : Type 1) → equal-statement M
   -- records: the rules of one record
   pub record-judge : (M : Type 1) → record-judge-statement M
+  pub seen-right : (M : Type 1) → seen-right-statement M
   pub bad-byte : (M : Type 1) → bad-byte-statement M
   pub field : (M : Type 1) → field-statement M
   pub type-of : (M : Type 1) → type-of-statement M
@@ -94,6 +115,16 @@ pub record EntryPoints : Type 2 where
   -- amend: the amendments
   pub change : (M : Type 1) → change-statement M
   pub withdraw : (M : Type 1) → withdraw-statement M
+  -- capi: the C interface
+  pub mav-digits : (M : Type 1) → mav-digits-statement M
+  pub mav-amount : (M : Type 1) → mav-amount-statement M
+  pub mav-date : (M : Type 1) → mav-date-statement M
+  pub mav-read : (M : Type 1) → mav-read-statement M
+  pub mav-find : (M : Type 1) → mav-find-statement M
+  pub mav-write : (M : Type 1) → mav-write-statement M
+  pub mav-list : (M : Type 1) → mav-list-statement M
+  pub mav-change : (M : Type 1) → mav-change-statement M
+  pub mav-withdraw : (M : Type 1) → mav-withdraw-statement M
 
 -- a contract's `requires`, whatever the caller lends and in every model of the logic, is the empty assertion
 abbrev pub AsksNothing : {L : Type 0} {A : L → Type 0} {G : Type 0} → ((κs : L) → A κs → G → (w : World) → Pr w) → Type 2
@@ -109,6 +140,7 @@ pub record AskNothing : Type 2 where
   pub equal : AsksNothing equal-requires
   -- records
   pub record-judge : AsksNothing record-judge-requires
+  pub seen-right : AsksNothing seen-right-requires
   pub bad-byte : AsksNothing bad-byte-requires
   pub field : AsksNothing field-requires
   pub type-of : AsksNothing type-of-requires
@@ -133,3 +165,13 @@ pub record AskNothing : Type 2 where
   -- amend
   pub change : AsksNothing change-requires
   pub withdraw : AsksNothing withdraw-requires
+  -- capi
+  pub mav-digits : AsksNothing mav-digits-requires
+  pub mav-amount : AsksNothing mav-amount-requires
+  pub mav-date : AsksNothing mav-date-requires
+  pub mav-read : AsksNothing mav-read-requires
+  pub mav-find : AsksNothing mav-find-requires
+  pub mav-write : AsksNothing mav-write-requires
+  pub mav-list : AsksNothing mav-list-requires
+  pub mav-change : AsksNothing mav-change-requires
+  pub mav-withdraw : AsksNothing mav-withdraw-requires

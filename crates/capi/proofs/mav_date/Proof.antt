@@ -1,0 +1,41 @@
+-- `capi::mav_date` meets its contract. Assumes nothing.
+use mathlib.Core.Path.{sym, _∙_, ap}
+use borrow.Author.Needs.{needs}
+use Rattle.fields.specs.Answer.{dateAnswer}
+use Rattle.fields.specs.declared.date.Date.{Date}
+use Rattle.capi.specs.Reply.{ofDay}
+use Rattle.capi.proofs.mav_date.Statement.{statement}
+use Rattle.capi.proofs.mav_date.Tie as tie
+
+read-date-requires : tie.Need-read-date-requires
+read-date-requires c κs = search needs
+
+enum-told : tie.Need-enum-told
+enum-told c = search needs
+
+accept-requires : tie.Need-accept-requires
+accept-requires c κs = search needs
+
+enum-known-number : tie.Need-enum-known-number
+enum-known-number c = search needs
+
+refuse-requires : tie.Need-refuse-requires
+refuse-requires c κs = search needs
+
+returns : tie.Need-returns
+returns c = c .accept .ensures ∙ sym (ap (λ (t : Date). ofDay (dateAnswer t)) (c .before .before .enum-told .given .1)) ∙ ap ofDay (c .before .before .before .before .read-date .ensures)
+
+returns-2 : tie.Need-returns-2
+returns-2 c = c .refuse .ensures ∙ sym (ap (λ (t : Date). ofDay (dateAnswer t)) (c .before .before .before .number .given .1)) ∙ ap ofDay (c .before .before .before .before .before .read-date .ensures)
+
+pub mav-date-spec : {M : Type 1} → statement M
+mav-date-spec =
+    tie.close
+    (tie.spec
+    read-date-requires
+    enum-told
+    accept-requires
+    enum-known-number
+    refuse-requires
+    returns
+    returns-2)

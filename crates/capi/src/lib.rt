@@ -1,0 +1,138 @@
+// The C interface: the library's calls under plain names, for programs in C or Rust to link.
+//
+// A slice is a pointer and a length, and `answer` a pointer to eight numbers of 64 bits. Each function
+// returns 1 where the call is accepted and 0 where it is refused, and writes all eight entries of
+// `answer`: of an accepted call three numbers, of a refused one number, record and position; then the
+// length where the call has one, else 0; then four zeros. No function has a `requires`, and a refused
+// call writes nothing but `answer`.
+ghost use mathlib.Core.Path.{_≡_};
+ghost use Rattle.fields.specs.Amount.{amountField};
+ghost use Rattle.fields.specs.Answer.{numberAnswer};
+ghost use Rattle.fields.specs.Date.{dateField};
+ghost use Rattle.fields.specs.Digits.{digitField};
+ghost use Rattle.flow.specs.Find.{find};
+ghost use Rattle.flow.specs.Judge.{judge};
+ghost use Rattle.list.specs.ReadBack.{readBack};
+ghost use Rattle.list.specs.Write.{write};
+ghost use Rattle.amend.specs.Change.{change};
+ghost use Rattle.amend.specs.Withdraw.{withdraw};
+ghost use Rattle.capi.specs.Reply.{replied, ofNumber, ofDay, ofVerdict, ofLocated, ofOutput, ofChange, ofWithdrawal};
+
+mod answer;
+
+use answer::accept;
+use answer::refuse;
+use answer::tell;
+use fields::Date;
+use fields::Number;
+use flow::Location;
+
+// The number that a field of 1 to 15 digits gives; or 5.
+#[no_mangle]
+pub extern "C" fn mav_digits(field: &[u8], answer: &mut [u64; 8]) -> u8
+    ensures { λ r. ⌜ replied r (now (answer .exit)) ≡ ofNumber (digitField (now (field .entry))) ⌝ }
+{
+    tell_number(answer, fields::read_digits(field))
+}
+
+// The cents that a field of thirteen digits gives; or 5.
+#[no_mangle]
+pub extern "C" fn mav_amount(field: &[u8], answer: &mut [u64; 8]) -> u8
+    ensures { λ r. ⌜ replied r (now (answer .exit)) ≡ ofNumber (amountField (now (field .entry))) ⌝ }
+{
+    tell_number(answer, fields::read_amount(field))
+}
+
+// Whether six digits are a day of the calendar, with no number to tell; or 5, then 8.
+#[no_mangle]
+pub extern "C" fn mav_date(field: &[u8], answer: &mut [u64; 8]) -> u8
+    ensures { λ r. ⌜ replied r (now (answer .exit)) ≡ ofDay (dateField (now (field .entry))) ⌝ }
+{
+    match fields::read_date(field) {
+        Date::On {
+            day: _,
+            month: _,
+            year: _,
+        } => accept(answer, 0, 0, 0, 0),
+        Date::Refused(number) => refuse(answer, number, 0, 0, 0),
+    }
+}
+
+// Reads a flow: its dispositions, cents and records; or its first fault.
+#[no_mangle]
+pub extern "C" fn mav_read(flow: &[u8], answer: &mut [u64; 8]) -> u8
+    ensures { λ r. ⌜ replied r (now (answer .exit)) ≡ ofVerdict (judge (now (flow .entry))) 0 ⌝ }
+{
+    tell(answer, flow::read(flow), 0)
+}
+
+// Where disposition k stands: its first record, its number of records and its cents; or refused.
+#[no_mangle]
+pub extern "C" fn mav_find(flow: &[u8], k: u64, answer: &mut [u64; 8]) -> u8
+    ensures { λ r. ⌜ replied r (now (answer .exit)) ≡ ofLocated (find (now (flow .entry)) k) ⌝ }
+{
+    match flow::find(flow, k) {
+        Location::At {
+            first,
+            records,
+            cents,
+        } => accept(answer, first, records, cents, 0),
+        Location::Refused {
+            number,
+            record,
+            position,
+        } => refuse(answer, number, record, position, 0),
+    }
+}
+
+// Writes the flow that a list encodes at the front of out, and tells its length: 0 where it is refused.
+#[no_mangle]
+pub extern "C" fn mav_write(list: &[u8], out: &mut [u8], answer: &mut [u64; 8]) -> u8
+    ensures { λ r. ⌜ replied r (now (answer .exit)) ≡ ofOutput (write (now (list .entry)) (now (out .entry))) ⌝ }
+    ensures { λ _. ⌜ now (out .exit) ≡ write (now (list .entry)) (now (out .entry)) .bytes ⌝ }
+{
+    let filled = list::write(list, out);
+    let told = filled.answer;
+    tell(answer, told, filled.length)
+}
+
+// Writes a flow's list at the front of out, and tells its length: 0 where it is refused.
+#[no_mangle]
+pub extern "C" fn mav_list(flow: &[u8], out: &mut [u8], answer: &mut [u64; 8]) -> u8
+    ensures { λ r. ⌜ replied r (now (answer .exit)) ≡ ofOutput (readBack (now (flow .entry)) (now (out .entry))) ⌝ }
+    ensures { λ _. ⌜ now (out .exit) ≡ readBack (now (flow .entry)) (now (out .entry)) .bytes ⌝ }
+{
+    let filled = list::read_back(flow, out);
+    let told = filled.answer;
+    tell(answer, told, filled.length)
+}
+
+// Gives disposition k the amount.
+#[no_mangle]
+pub extern "C" fn mav_change(flow: &mut [u8], k: u64, cents: u64, answer: &mut [u64; 8]) -> u8
+    ensures { λ r. ⌜ replied r (now (answer .exit)) ≡ ofChange (change (now (flow .entry)) k cents) ⌝ }
+    ensures { λ _. ⌜ now (flow .exit) ≡ change (now (flow .entry)) k cents .bytes ⌝ }
+{
+    tell(answer, amend::change(flow, k, cents), 0)
+}
+
+// Takes disposition k out, and tells the length of the flow left: where it is refused, the length lent.
+#[no_mangle]
+pub extern "C" fn mav_withdraw(flow: &mut [u8], k: u64, answer: &mut [u64; 8]) -> u8
+    ensures { λ r. ⌜ replied r (now (answer .exit)) ≡ ofWithdrawal (withdraw (now (flow .entry)) k) ⌝ }
+    ensures { λ _. ⌜ now (flow .exit) ≡ withdraw (now (flow .entry)) k .bytes ⌝ }
+{
+    let withdrawn = amend::withdraw(flow, k);
+    let told = withdrawn.answer;
+    tell(answer, told, withdrawn.length)
+}
+
+// Writes what a digit field or an amount answers.
+fn tell_number(answer: &mut [u64; 8], told: Number) -> u8
+    ensures { λ r. ⌜ replied r (now (answer .exit)) ≡ ofNumber (numberAnswer told) ⌝ }
+{
+    match told {
+        Number::Value(value) => accept(answer, value, 0, 0, 0),
+        Number::Refused(number) => refuse(answer, number, 0, 0, 0),
+    }
+}
