@@ -1,0 +1,139 @@
+//! The calls that are measured, made on both sides.
+
+use std::hint::black_box;
+
+use mav::{Accepted, Refusal, Written};
+use oracle::{amend, list, reader, Answer};
+
+use crate::time::{side_by_side, Memory, Times};
+
+/// The place of our times among those of both sides.
+pub const OURS: usize = 0;
+/// The place of the plain reader's times.
+pub const PLAIN: usize = 1;
+
+/// A call. Reading, reading back and writing take the input as it is; change
+/// and withdrawal take a copy of it in the memory lent.
+#[derive(Clone, Copy, Debug)]
+pub enum Call {
+    Read,
+    Change { k: u64, cents: u64 },
+    Withdraw { k: u64 },
+    ReadBack,
+    Write,
+}
+
+impl Call {
+    /// The answer of the proved library, and the length that it gives; 0
+    /// where the call gives none.
+    pub fn ours(self, input: &[u8], memory: &mut [u8]) -> (Answer, usize) {
+        let lent = memory.len();
+        match self {
+            Call::Read => (answered(mav::read(input)), 0),
+            Call::Change { k, cents } => (answered(mav::change(memory, k, cents)), 0),
+            Call::Withdraw { k } => {
+                let left = mav::withdraw(memory, k);
+                let length = left.map_or(lent, |left| left.length);
+                (answered(left.map(|left| left.accepted)), length)
+            }
+            Call::ReadBack => written(mav::read_back(input, memory)),
+            Call::Write => written(mav::write(input, memory)),
+        }
+    }
+
+    /// The same of the second program.
+    pub fn plain(self, input: &[u8], memory: &mut [u8]) -> (Answer, usize) {
+        match self {
+            Call::Read => (reader::read(input), 0),
+            Call::Change { k, cents } => (amend::change(memory, k, cents), 0),
+            Call::Withdraw { k } => amend::withdraw(memory, k),
+            Call::ReadBack => list::write_list(input, memory),
+            Call::Write => list::write_flow(input, memory),
+        }
+    }
+
+    /// The memory that the call writes to.
+    pub fn memory(self, input: &[u8]) -> Memory<'_> {
+        match self {
+            Call::Read => Memory::none(),
+            Call::Change { .. } | Call::Withdraw { .. } => Memory::copy_of(input),
+            Call::ReadBack => Memory::room(mav::list_room(input.len())),
+            Call::Write => Memory::room(mav::flow_room(input)),
+        }
+    }
+}
+
+/// An answer of the proved library in the form of the second program.
+fn answered(answer: Result<Accepted, Refusal>) -> Answer {
+    match answer {
+        Ok(accepted) => Answer::Accepted {
+            dispositions: accepted.dispositions,
+            cents: accepted.cents,
+            records: accepted.records,
+        },
+        Err(refusal) => Answer::Refused {
+            number: refusal.reason.number() as u8,
+            record: refusal.record,
+            position: refusal.position as u8,
+        },
+    }
+}
+
+/// The same with the length written, 0 where the call is refused.
+fn written(answer: Result<Written, Refusal>) -> (Answer, usize) {
+    let length = answer.map_or(0, |written| written.length);
+    (answered(answer.map(|written| written.accepted)), length)
+}
+
+/// Makes the call once on each side, and gives the number of records of the
+/// answer and the bytes left. The call must be accepted, with the same answer
+/// and the same bytes on both sides.
+pub fn agreed(call: Call, input: &[u8]) -> (u64, Vec<u8>) {
+    let (mut ours, mut plain) = (call.memory(input), call.memory(input));
+    let (ours, plain) = (ours.renewed(), plain.renewed());
+    let answer = call.ours(input, ours);
+    assert_eq!(answer, call.plain(input, plain), "answers to {call:?}");
+    assert!(ours == plain, "the bytes left by {call:?} differ");
+    let (Answer::Accepted { records, .. }, length) = answer else {
+        panic!("{call:?} is refused: {}", answer.0);
+    };
+    (records, ours[..length].to_vec())
+}
+
+/// The times of both sides, measured after both were seen to agree.
+pub fn compared(call: Call, input: &[u8], rounds: usize) -> Times<2> {
+    agreed(call, input);
+    let ours = |memory: &mut [u8]| {
+        black_box(call.ours(black_box(input), black_box(memory)));
+    };
+    let plain = |memory: &mut [u8]| {
+        black_box(call.plain(black_box(input), black_box(memory)));
+    };
+    side_by_side(rounds, &mut call.memory(input), [&ours, &plain])
+}
+
+#[cfg(test)]
+mod tests {
+    use super::*;
+    use crate::flows::usual;
+
+    #[test]
+    fn both_sides_agree_on_every_call() {
+        let flow = usual(3);
+        assert_eq!(agreed(Call::Read, &flow), (23, vec![]));
+        assert_eq!(agreed(Call::Change { k: 3, cents: 1 }, &flow).0, 23);
+        // One disposition less: 16 records of 120 bytes.
+        let (records, left) = agreed(Call::Withdraw { k: 1 }, &flow);
+        assert_eq!((records, left.len()), (16, 1_920));
+        // 50 bytes, and 3 times 593 (document 01, "Our request list").
+        let (records, list) = agreed(Call::ReadBack, &flow);
+        assert_eq!((records, list.len()), (23, 1_829));
+        assert_eq!(agreed(Call::Write, &list), (23, flow));
+    }
+
+    #[test]
+    #[should_panic(expected = "is refused: refused 15 record 0 position 0")]
+    fn a_refused_call_is_not_measured() {
+        agreed(Call::Withdraw { k: 4 }, &usual(3));
+    }
+}

@@ -1,0 +1,292 @@
+//! The flows that are measured. Everything in them follows from the number of
+//! a disposition, so that every run measures the same bytes.
+
+use oracle::fields::write_digits;
+use oracle::record::{field_mut, put, Record, BLANK_RECORD, RECORD_LEN};
+
+/// The dispositions of the large flow.
+pub const LARGE: u64 = 100_000;
+/// The bytes of the large flow.
+pub const LARGE_BYTES: usize = 84_000_240;
+/// The records of a usual disposition: 14, 20, 30, 40, 50, 51, 70.
+const USUAL_RECORDS: u64 = 7;
+/// The records of a slow disposition: 16 and four more 59 beside those.
+const SLOW_RECORDS: u64 = 12;
+
+const NAMES: [&[u8]; 8] = [
+    b"ROSSI GIULIA",
+    b"BIANCHI MARCO",
+    b"DE LUCA MARIA CATERINA",
+    b"FO DARIO",
+    b"CONDOMINIO VIA DEI COLLEGI 12",
+    b"ESPOSITO GENNARO",
+    b"D'ANGELO ANNA",
+    b"FERRARI GIOVANNI BATTISTA",
+];
+const TOWNS: [&[u8]; 5] = [
+    b"20100MILANO MI",
+    b"27100PAVIA PV",
+    b"00184ROMA RM",
+    b"80121NAPOLI NA",
+    b"10121TORINO TO",
+];
+
+/// Where the text of the records 20, 30 and 59 of a slow flow begins.
+#[derive(Clone, Copy, Debug, Eq, PartialEq)]
+pub enum Indent {
+    /// Behind one blank.
+    One,
+    /// At the last byte of the field that has to be present.
+    Most,
+}
+
+/// A flow of so many dispositions without record 16, with one 50 each.
+pub fn usual(dispositions: u64) -> Vec<u8> {
+    flow(dispositions, USUAL_RECORDS, |k| {
+        [opening(k), creditor(), debtor(k), address(k), detail(k)]
+            .into_iter()
+            .chain([reference(k), closing(k)])
+    })
+}
+
+/// A flow in which few records can be seen to be right by one byte: with
+/// record 16, with five 59, each text behind blanks, and P or B in every 70.
+pub fn slow(dispositions: u64, indent: Indent) -> Vec<u8> {
+    flow(dispositions, SLOW_RECORDS, |k| {
+        let mut last = closing(k);
+        put(&mut last, 94, &[b"PB"[place(mixed(k), 2)]]);
+        [opening(k), account(), text(b"20", 34, indent)]
+            .into_iter()
+            .chain([text(b"30", 40, indent), address(k)])
+            .chain([text(b"59", 65, indent); 5])
+            .chain([reference(k), last])
+    })
+}
+
+/// The amount of disposition k in cents.
+fn cents(k: u64) -> u64 {
+    10_000 + 137 * (k % 997)
+}
+
+/// The flow with these records in each disposition, numbered and counted.
+fn flow<R: Iterator<Item = Record>>(
+    dispositions: u64,
+    each: u64,
+    records_of: impl Fn(u64) -> R,
+) -> Vec<u8> {
+    let records = 2 + each * dispositions;
+    let mut flow = Vec::with_capacity(records as usize * RECORD_LEN);
+    flow.extend_from_slice(&header(b"IM"));
+    for k in 1..=dispositions {
+        for mut record in records_of(k) {
+            write_digits(field_mut(&mut record, 4, 10), k);
+            flow.extend_from_slice(&record);
+        }
+    }
+    let mut trailer = header(b"EF");
+    write_digits(field_mut(&mut trailer, 46, 52), dispositions);
+    write_digits(
+        field_mut(&mut trailer, 53, 67),
+        (1..=dispositions).map(cents).sum(),
+    );
+    write_digits(field_mut(&mut trailer, 68, 82), 0);
+    write_digits(field_mut(&mut trailer, 83, 89), records);
+    flow.extend_from_slice(&trailer);
+    flow
+}
+
+fn blank(kind: &[u8; 2]) -> Record {
+    let mut record = BLANK_RECORD;
+    put(&mut record, 2, kind);
+    record
+}
+
+/// What header and trailer have in common.
+fn header(kind: &[u8; 2]) -> Record {
+    let mut record = blank(kind);
+    put(&mut record, 4, b"AB123");
+    put(&mut record, 9, b"01234");
+    put(&mut record, 14, b"150326");
+    put(&mut record, 20, b"RETTE-MARZO-2026");
+    put(&mut record, 114, b"E");
+    record
+}
+
+/// Record 14: with a company code always, with 53-57 in three of four.
+fn opening(k: u64) -> Record {
+    let mut record = blank(b"14");
+    write_digits(field_mut(&mut record, 23, 24), 1 + k % 28);
+    write_digits(field_mut(&mut record, 25, 26), 1 + k % 12);
+    put(&mut record, 27, b"26");
+    put(&mut record, 29, b"07000");
+    write_digits(field_mut(&mut record, 34, 46), cents(k));
+    put(&mut record, 47, b"-");
+    put(&mut record, 48, b"01234");
+    if place(mixed(k) >> 8, 4) > 0 {
+        put(&mut record, 53, b"02400");
+        put(&mut record, 58, b"000000123456");
+    }
+    put(&mut record, 92, b"AB123");
+    put(&mut record, 97, &[b" 1234569"[place(k, 8)]]);
+    put(&mut record, 98, b"S");
+    write_digits(field_mut(&mut record, 99, 106), k);
+    put(&mut record, 120, b"E");
+    record
+}
+
+/// Record 16.
+fn account() -> Record {
+    let mut record = blank(b"16");
+    put(&mut record, 11, b"IT60X0123402400000000123456");
+    record
+}
+
+/// Record 20.
+fn creditor() -> Record {
+    let mut record = blank(b"20");
+    put(&mut record, 11, b"RESIDENZA SAN MARTINO");
+    put(&mut record, 35, b"VIA DEI COLLEGI 12");
+    put(&mut record, 59, b"20100 MILANO MI");
+    record
+}
+
+/// Record 30.
+fn debtor(k: u64) -> Record {
+    let mut record = blank(b"30");
+    put(&mut record, 11, NAMES[place(k, NAMES.len())]);
+    put(&mut record, 71, b"RSSGLI05A41F205X");
+    record
+}
+
+/// Record 40.
+fn address(k: u64) -> Record {
+    let mut record = blank(b"40");
+    put(&mut record, 11, b"VIA GIUSEPPE GARIBALDI");
+    write_digits(field_mut(&mut record, 36, 38), 1 + k % 300);
+    put(&mut record, 41, TOWNS[place(k, TOWNS.len())]);
+    record
+}
+
+/// Record 50.
+fn detail(k: u64) -> Record {
+    let mut record = blank(b"50");
+    put(&mut record, 11, b"RETTA DEL MESE DI MARZO 2026, STANZA");
+    write_digits(field_mut(&mut record, 48, 51), 1 + k % 2_000);
+    if k.is_multiple_of(3) {
+        put(&mut record, 53, b"CON RISCALDAMENTO E PULIZIE");
+    }
+    record
+}
+
+/// Record 51.
+fn reference(k: u64) -> Record {
+    let mut record = blank(b"51");
+    write_digits(field_mut(&mut record, 11, 20), k);
+    put(&mut record, 75, b"AUT. 123/2026");
+    record
+}
+
+/// Record 70: position 94 is blank in half, P or B in the others.
+fn closing(k: u64) -> Record {
+    let mut record = blank(b"70");
+    put(&mut record, 94, &[b"  PB"[place(mixed(k), 4)]]);
+    put(&mut record, 101, b"CHIAVE");
+    record
+}
+
+/// A record whose text from 11 to `last` has to be present and begins with
+/// blanks.
+fn text(kind: &[u8; 2], last: usize, indent: Indent) -> Record {
+    let mut record = blank(kind);
+    match indent {
+        Indent::One => put(&mut record, 12, b"RETTA DI MARZO 2026"),
+        Indent::Most => put(&mut record, last, b"X"),
+    }
+    record
+}
+
+/// A number that looks as if drawn at random and is always the same for k:
+/// a short period would be learned by the processor, which guesses what
+/// comes next. The steps are the last ones of the generator SplitMix64.
+fn mixed(k: u64) -> u64 {
+    let k = (k ^ (k >> 30)).wrapping_mul(0xbf58_476d_1ce4_e5b9);
+    let k = (k ^ (k >> 27)).wrapping_mul(0x94d0_49bb_1331_11eb);
+    k ^ (k >> 31)
+}
+
+/// One of so many places, by a number.
+fn place(number: u64, places: usize) -> usize {
+    (number % places as u64) as usize
+}
+
+#[cfg(test)]
+mod tests {
+    use super::*;
+    use oracle::list::is_canonical;
+
+    /// Both readers give these numbers.
+    fn accepted(flow: &[u8], dispositions: u64, cents: u64, records: u64) {
+        let line = format!("accepted dispositions {dispositions} cents {cents} records {records}");
+        assert_eq!(
+            mav::read(flow).map(|found| found.to_string()),
+            Ok(line.clone())
+        );
+        assert_eq!(oracle::reader::read(flow).to_string(), line);
+    }
+
+    #[test]
+    fn the_large_flow_has_its_length() {
+        let records = 2 + USUAL_RECORDS * LARGE;
+        assert_eq!(records, 700_002);
+        assert_eq!(records as usize * RECORD_LEN, LARGE_BYTES);
+    }
+
+    #[test]
+    fn three_usual_dispositions() {
+        let flow = usual(3);
+        assert_eq!(flow.len(), 2_760);
+        // 10,137 + 10,274 + 10,411 cents; 3 times 7 records, and 2.
+        accepted(&flow, 3, 30_822, 23);
+        assert!(is_canonical(&flow));
+    }
+
+    #[test]
+    fn two_slow_dispositions() {
+        for indent in [Indent::One, Indent::Most] {
+            let flow = slow(2, indent);
+            assert_eq!(flow.len(), 3_120);
+            // 10,137 + 10,274 cents; 2 times 12 records, and 2.
+            accepted(&flow, 2, 20_411, 26);
+            let (records, _) = flow.as_chunks::<RECORD_LEN>();
+            for record in records {
+                match &record[1..3] {
+                    b"20" | b"30" | b"59" => assert_eq!(record[10], b' '),
+                    b"70" => assert_ne!(record[93], b' '),
+                    _ => {}
+                }
+            }
+        }
+    }
+
+    #[test]
+    fn optional_bytes_are_blank_in_some_and_filled_in_others() {
+        let flow = usual(1_000);
+        accepted(&flow, 1_000, cents_of_a_thousand(), 7_002);
+        let (records, _) = flow.as_chunks::<RECORD_LEN>();
+        let count = |kind: &[u8; 2], index: usize, byte: u8| {
+            let of_kind = records.iter().filter(|record| &record[1..3] == kind);
+            of_kind.filter(|record| record[index] == byte).count()
+        };
+        assert!((450..550).contains(&count(b"70", 93, b' ')));
+        assert!((200..300).contains(&count(b"70", 93, b'P')));
+        assert!((200..300).contains(&count(b"70", 93, b'B')));
+        assert!((200..300).contains(&count(b"14", 52, b' ')));
+        assert_eq!(count(b"14", 91, b'A'), 1_000);
+    }
+
+    /// 1,000 times 10,000, and 137 times the sum of 1 to 996, then 0, 1, 2
+    /// and 3 for the dispositions 997 to 1,000.
+    fn cents_of_a_thousand() -> u64 {
+        10_000_000 + 137 * (996 * 997 / 2 + 6)
+    }
+}

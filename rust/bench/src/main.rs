@@ -1,0 +1,61 @@
+//! The command `bench`: times of the proved library and of the plain Rust of
+//! the second program, measured side by side in one run.
+
+#![forbid(unsafe_code)]
+
+mod calls;
+mod flows;
+mod machine;
+mod sections;
+mod sum;
+mod table;
+mod time;
+
+use std::process::ExitCode;
+
+use table::say;
+
+const USAGE: &str = "usage: bench, or bench ROUNDS.
+Measures the proved library (ours) and the second program (plain Rust) side by
+side on flows made in memory: reading, amount change, withdrawal, reading back
+to a list and writing a list. Before a call is measured, both have to answer
+it alike and to leave the same bytes. ROUNDS is how often each call is
+measured, 21 if not given; the best of them is printed. Run it as
+    cargo run --release --offline -p bench";
+
+/// The rounds of a run without arguments: about half a minute.
+const ROUNDS: usize = 21;
+
+fn main() -> ExitCode {
+    let args: Vec<_> = std::env::args_os().skip(1).collect();
+    let rounds = match &args[..] {
+        [] => Some(ROUNDS),
+        [help] if help == "--help" || help == "-h" => {
+            say(USAGE);
+            return ExitCode::SUCCESS;
+        }
+        [rounds] => rounds.to_str().and_then(|text| text.parse().ok()),
+        _ => None,
+    };
+    match rounds {
+        Some(rounds @ 1..) => run(rounds),
+        _ => {
+            say(USAGE);
+            return ExitCode::from(2);
+        }
+    }
+    ExitCode::SUCCESS
+}
+
+fn run(rounds: usize) {
+    if cfg!(debug_assertions) {
+        say("This is not a release build: its times say nothing. Run it with --release.\n");
+    }
+    let large = flows::usual(flows::LARGE);
+    sections::reading(&large, rounds);
+    sections::growth(rounds);
+    sections::amendments(rounds);
+    sections::lists(&large, rounds);
+    sections::slow_flows(rounds);
+    say(&machine::line());
+}

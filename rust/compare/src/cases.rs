@@ -1,0 +1,103 @@
+//! What can be compared: one call, or a list of calls on one flow.
+
+use oracle::ledger::Call;
+use oracle::list::{items, layout_of_record};
+use oracle::record::{record_type, RECORD_LEN};
+use oracle::rng::Rng;
+
+use crate::calls::{agree, Agreed};
+use crate::entry::{Entry, Kind};
+use crate::ledger;
+use crate::lent::{Buffer, Lent};
+use crate::sides::Sides;
+use crate::tally::Tally;
+
+/// A case, with all that makes it come again.
+#[derive(Clone, Debug, Eq, PartialEq)]
+pub enum Case {
+    /// One call.
+    One {
+        entry: Entry,
+        input: Vec<u8>,
+        /// The room of the output beyond what is needed; below zero there is
+        /// too little. So it stays telling while the input shrinks.
+        slack: isize,
+        marks: u64,
+    },
+    /// A list of calls on an accepted flow, held against the ledger.
+    Calls {
+        flow: Vec<u8>,
+        calls: Vec<Call>,
+        marks: u64,
+    },
+}
+
+impl Case {
+    /// Compares every call of the case.
+    pub fn check(&self, sides: &Sides, tally: &mut Tally) -> Agreed<()> {
+        match self {
+            Case::One {
+                entry,
+                input,
+                slack,
+                marks,
+            } => {
+                let mut rng = Rng::new(*marks);
+                let room = needed(*entry, input).saturating_add_signed(*slack);
+                let input = Buffer::new(input, &mut rng);
+                let lent = Lent::new(input, room, &mut rng);
+                agree(sides, tally, *entry, &lent).map(drop)
+            }
+            Case::Calls { flow, calls, marks } => {
+                ledger::check(sides, tally, flow, calls, Rng::new(*marks))
+            }
+        }
+    }
+
+    /// The bytes that the case starts with.
+    pub fn input(&self) -> &[u8] {
+        match self {
+            Case::One { input, .. } => input,
+            Case::Calls { flow, .. } => flow,
+        }
+    }
+
+    /// What these bytes are.
+    pub fn kind(&self) -> Kind {
+        match self {
+            Case::One { entry, .. } => entry.input(),
+            Case::Calls { .. } => Kind::Flow,
+        }
+    }
+
+    /// The same case with other bytes to start with.
+    pub fn on(&self, bytes: &[u8]) -> Case {
+        let mut case = self.clone();
+        match &mut case {
+            Case::One { input, .. } => *input = bytes.to_vec(),
+            Case::Calls { flow, .. } => *flow = bytes.to_vec(),
+        }
+        case
+    }
+}
+
+/// The room that a call needs in its output, whatever the contents of its
+/// input.
+fn needed(entry: Entry, input: &[u8]) -> usize {
+    match entry.output() {
+        Some(Kind::Flow) => (items(input).count() + 1) * RECORD_LEN,
+        Some(Kind::List) => {
+            let (records, _) = input.as_chunks::<RECORD_LEN>();
+            let layouts = records.iter().filter_map(layout_of_record);
+            layouts.map(|layout| 1 + layout.body_len()).sum()
+        }
+        _ => 0,
+    }
+}
+
+/// The number of records 14, each of which opens a disposition.
+pub fn openings(flow: &[u8]) -> u64 {
+    let (records, _) = flow.as_chunks::<RECORD_LEN>();
+    let openings = records.iter().filter(|r| record_type(r) == *b"14");
+    openings.count() as u64
+}

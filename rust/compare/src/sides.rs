@@ -1,0 +1,108 @@
+//! The two sides: the proved library and the second program, called alike.
+
+use mav::raw::{self, Entries};
+use oracle::amend::{change, withdraw};
+use oracle::fields::{amount, date, digits};
+use oracle::find::find;
+use oracle::list::{write_flow, write_list};
+use oracle::reader::read;
+use oracle::Answer;
+
+use crate::entry::Entry;
+
+/// A side: runs a call on its input, its output and the entries of its
+/// answer, and gives what the call returns. A call that has no output leaves
+/// it alone.
+pub type Side<'a> = &'a dyn Fn(Entry, &mut [u8], &mut [u8], &mut Entries) -> u8;
+
+/// What is compared.
+#[derive(Clone, Copy)]
+pub struct Sides<'a> {
+    pub proved: Side<'a>,
+    pub second: Side<'a>,
+}
+
+impl Sides<'_> {
+    /// The proved library and the second program themselves.
+    pub const REAL: Sides<'static> = Sides {
+        proved: &proved,
+        second: &second,
+    };
+}
+
+/// The proved library.
+pub fn proved(entry: Entry, input: &mut [u8], output: &mut [u8], answer: &mut Entries) -> u8 {
+    match entry {
+        Entry::Digits => raw::digits(input, answer),
+        Entry::Amount => raw::amount(input, answer),
+        Entry::Date => raw::date(input, answer),
+        Entry::Read => raw::read(input, answer),
+        Entry::Find { k } => raw::find(input, k, answer),
+        Entry::Write => raw::write(input, output, answer),
+        Entry::List => raw::list(input, output, answer),
+        Entry::Change { k, cents } => raw::change(input, k, cents, answer),
+        Entry::Withdraw { k } => raw::withdraw(input, k, answer),
+    }
+}
+
+/// The second program.
+pub fn second(entry: Entry, input: &mut [u8], output: &mut [u8], answer: &mut Entries) -> u8 {
+    let (told, length) = match entry {
+        Entry::Digits => (of_field(digits(input)), 0),
+        Entry::Amount => (of_field(amount(input)), 0),
+        Entry::Date => (of_field(date(input).map(|_| 0)), 0),
+        Entry::Read => (of_answer(read(input)), 0),
+        Entry::Find { k } => match find(input, k) {
+            Ok(found) => (Ok([found.first, found.records, found.cents]), 0),
+            Err(refusal) => (of_answer(refusal.into()), 0),
+        },
+        Entry::Write => with_length(write_flow(input, output)),
+        Entry::List => with_length(write_list(input, output)),
+        Entry::Change { k, cents } => (of_answer(change(input, k, cents)), 0),
+        Entry::Withdraw { k } => with_length(withdraw(input, k)),
+    };
+    let (status, entries) = reply(told, length);
+    *answer = entries;
+    status
+}
+
+/// The three numbers of an accepted call, or of a refused one.
+pub type Told = Result<[u64; 3], [u64; 3]>;
+
+/// What a call of the C interface returns and the eight entries that it
+/// writes, as the description of that interface has them.
+pub fn reply(told: Told, length: usize) -> (u8, Entries) {
+    let (status, [first, second, third]) = match told {
+        Ok(numbers) => (1, numbers),
+        Err(numbers) => (0, numbers),
+    };
+    (status, [first, second, third, length as u64, 0, 0, 0, 0])
+}
+
+/// The three numbers of an answer.
+pub fn of_answer(answer: Answer) -> Told {
+    match answer {
+        Answer::Accepted {
+            dispositions,
+            cents,
+            records,
+        } => Ok([dispositions, cents, records]),
+        Answer::Refused {
+            number,
+            record,
+            position,
+        } => Err([number.into(), record, position.into()]),
+    }
+}
+
+/// The value of a field, or a refusal that is its number alone.
+fn of_field(value: Result<u64, u8>) -> Told {
+    match value {
+        Ok(value) => Ok([value, 0, 0]),
+        Err(number) => Err([number.into(), 0, 0]),
+    }
+}
+
+fn with_length((answer, length): (Answer, usize)) -> (Told, usize) {
+    (of_answer(answer), length)
+}

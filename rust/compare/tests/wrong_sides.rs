@@ -1,0 +1,289 @@
+//! The comparison itself: a side that is wrong in one way is found, and the
+//! case printed is small.
+
+use compare::sides::{second, Side};
+use compare::{run, Entry, Sides};
+use mav::raw::Entries;
+use oracle::fields::{digits, write_digits};
+use oracle::find::find;
+use oracle::record::{field, field_mut, record_type, Record, RECORD_LEN};
+
+/// What is printed when the side stands in the place of the second program,
+/// and the second program in the place of the proved library.
+fn found(wrong: Side) -> String {
+    let sides = Sides {
+        proved: &second,
+        second: wrong,
+    };
+    run(&sides, 1, 100_000).expect_err("the fault is found")
+}
+
+/// What is printed when both sides are wrong in the same way.
+fn found_in_both(wrong: Side) -> String {
+    let sides = Sides {
+        proved: wrong,
+        second: wrong,
+    };
+    run(&sides, 1, 100_000).expect_err("the fault is found")
+}
+
+/// All the texts are printed, at most so many rows of bytes, and at the end
+/// how the case comes again.
+fn check(report: &str, most: usize, texts: &[&str]) {
+    for text in texts {
+        assert!(report.contains(text), "no {text:?} in\n{report}");
+    }
+    let numbered = |line: &&str| {
+        line.get(..4)
+            .is_some_and(|n| n.trim().parse::<u32>().is_ok())
+    };
+    let rows = report.lines().filter(numbered).count();
+    assert!((1..=most).contains(&rows), "{rows} rows in\n{report}");
+    let last = report.lines().last().unwrap_or("");
+    assert!(last.contains("to repeat it: compare 1 "), "{report}");
+}
+
+fn records(flow: &mut [u8]) -> &mut [Record] {
+    flow.as_chunks_mut::<RECORD_LEN>().0
+}
+
+#[test]
+fn right_sides_agree() {
+    let tally = run(&Sides::REAL, 2, 20_000).expect("the two agree");
+    assert!((20_000..20_020).contains(&tally.cases()));
+    let one_side = Sides {
+        proved: &second,
+        second: &second,
+    };
+    assert_eq!(run(&one_side, 2, 20_000), Ok(tally));
+}
+
+/// Reads a flow as if its dispositions had the numbers due.
+fn ignores_numbers(entry: Entry, flow: &mut [u8], output: &mut [u8], answer: &mut Entries) -> u8 {
+    if entry != Entry::Read {
+        return second(entry, flow, output, answer);
+    }
+    let mut flow = flow.to_vec();
+    let mut count = 0;
+    for record in records(&mut flow) {
+        count += u64::from(record_type(record) == *b"14");
+        let numbered = !matches!(&record_type(record), b"IM" | b"EF");
+        if numbered && digits(field(record, 4, 10)).is_ok() {
+            write_digits(field_mut(record, 4, 10), count);
+        }
+    }
+    second(entry, &mut flow, output, answer)
+}
+
+#[test]
+fn number_9_is_ignored() {
+    let report = found(&ignores_numbers);
+    let differs = ["differs at mav_read()", "proved library: refused 9 record "];
+    check(&report, 21, &differs);
+    assert!(report.contains(" position 4, entries [9, "), "{report}");
+    assert!(report.contains("second program: "), "{report}");
+}
+
+/// The case depends on the seed alone, not on how many are asked for.
+#[test]
+fn a_case_comes_again() {
+    let sides = Sides {
+        proved: &second,
+        second: &ignores_numbers,
+    };
+    assert_eq!(run(&sides, 1, 50_000), Err(found(&ignores_numbers)));
+    let report = found(&ignores_numbers);
+    let number = report.trim_end().rsplit(' ').next().unwrap();
+    let number: u64 = number.parse().unwrap();
+    assert_eq!(run(&sides, 1, number), Err(report));
+    assert!(run(&sides, 1, number - 1).is_ok());
+}
+
+/// Closes the gap with one block twice, and sums the trailer from what then
+/// stands there, so that the flow left is accepted.
+fn copies_twice(entry: Entry, flow: &mut [u8], output: &mut [u8], answer: &mut Entries) -> u8 {
+    let status = second(entry, flow, output, answer);
+    let (Entry::Withdraw { k }, 1) = (entry, status) else {
+        return status;
+    };
+    let flow = &mut flow[..answer[3] as usize];
+    let (Ok(block), Ok(next)) = (find(flow, k), find(flow, k + 1)) else {
+        return status;
+    };
+    if block.records != next.records {
+        return status;
+    }
+    flow.copy_within(block.bytes, next.bytes.start);
+    for record in records(&mut flow[next.bytes]) {
+        write_digits(field_mut(record, 4, 10), k + 1);
+    }
+    answer[1] = answer[1] - next.cents + block.cents;
+    let trailer = records(flow).last_mut().unwrap();
+    write_digits(field_mut(trailer, 53, 67), answer[1]);
+    status
+}
+
+#[test]
+fn a_block_is_copied_twice() {
+    let differs = ["differs at mav_withdraw(k ", "flow afterwards, byte "];
+    check(&found(&copies_twice), 38, &differs);
+}
+
+/// Only the ledger tells: the trailer agrees with the block copied twice.
+#[test]
+fn a_block_is_copied_twice_by_both() {
+    let report = found_in_both(&copies_twice);
+    check(
+        &report,
+        76,
+        &["first flow", "call 1 on it: mav_withdraw(k "],
+    );
+    assert!(report.contains("\nledger: "), "{report}");
+    assert!(!report.contains("call 2"), "{report}");
+}
+
+/// Writes into the output before it refuses.
+fn writes_early(entry: Entry, input: &mut [u8], output: &mut [u8], answer: &mut Entries) -> u8 {
+    let status = second(entry, input, output, answer);
+    if let (0, Some(byte)) = (status, output.first_mut()) {
+        *byte = !*byte;
+    }
+    status
+}
+
+#[test]
+fn a_refused_call_writes() {
+    let differs = ["proved library: refused", "output afterwards, byte 0"];
+    check(&found(&writes_early), 21, &differs);
+    let differs = ["memory as lent: to be kept", "output afterwards, byte 0"];
+    check(&found_in_both(&writes_early), 21, &differs);
+}
+
+/// Leaves the last entry of the answer as it was.
+fn forgets_a_zero(entry: Entry, input: &mut [u8], output: &mut [u8], answer: &mut Entries) -> u8 {
+    let mark = answer[7];
+    let status = second(entry, input, output, answer);
+    answer[7] = mark;
+    status
+}
+
+#[test]
+fn a_zero_entry_is_forgotten() {
+    let differs = [
+        "field of 6 bytes",
+        "differs at mav_digits(), field at offset ",
+    ];
+    check(&found(&forgets_a_zero), 1, &differs);
+}
+
+/// Leaves the bytes behind the flow as they were.
+fn leaves_bytes(entry: Entry, flow: &mut [u8], output: &mut [u8], answer: &mut Entries) -> u8 {
+    let before = flow.to_vec();
+    let status = second(entry, flow, output, answer);
+    if let Entry::Withdraw { .. } = entry {
+        let len = answer[3] as usize;
+        flow[len..].copy_from_slice(&before[len..]);
+    }
+    status
+}
+
+#[test]
+fn freed_bytes_are_no_blanks() {
+    let differs = ["differs at mav_withdraw(k ", "second program: accepted"];
+    check(&found(&leaves_bytes), 26, &differs);
+    let differs = ["call 1 on it: mav_withdraw(k ", "ledger 0x20"];
+    check(&found_in_both(&leaves_bytes), 26, &differs);
+}
+
+/// Answers a change as due, and makes none.
+fn changes_nothing(entry: Entry, flow: &mut [u8], output: &mut [u8], answer: &mut Entries) -> u8 {
+    match entry {
+        Entry::Change { .. } => second(entry, &mut flow.to_vec(), output, answer),
+        _ => second(entry, flow, output, answer),
+    }
+}
+
+#[test]
+fn a_change_changes_nothing() {
+    let report = found_in_both(&changes_nothing);
+    check(&report, 14, &["call 1 on it: mav_change(k ", "\nledger: "]);
+    assert!(!report.contains("call 2"), "{report}");
+}
+
+/// Writes to a flow that is lent to be read.
+fn writes_to_input(entry: Entry, input: &mut [u8], output: &mut [u8], answer: &mut Entries) -> u8 {
+    let status = second(entry, input, output, answer);
+    if let (Entry::Find { .. }, Some(byte)) = (entry, input.last_mut()) {
+        *byte = !*byte;
+    }
+    status
+}
+
+#[test]
+fn a_shared_input_is_written() {
+    let differs = ["differs at mav_find(k ", "memory as lent: to be kept"];
+    check(&found_in_both(&writes_to_input), 14, &differs);
+}
+
+/// Has a day 29 in every February.
+fn always_leaps(entry: Entry, field: &mut [u8], output: &mut [u8], answer: &mut Entries) -> u8 {
+    let status = second(entry, field, output, answer);
+    if entry == Entry::Date && field.starts_with(b"2902") && answer[0] == 8 {
+        *answer = [0; 8];
+        return 1;
+    }
+    status
+}
+
+#[test]
+fn the_leap_years_are_wrong() {
+    let differs = [
+        "   1  323930323031\n      290201\n",
+        "proved library: refused 8 record 0 position 0, entries [8, 0, 0, 0, 0, 0, 0, 0]\n",
+        "second program: accepted, entries [0, 0, 0, 0, 0, 0, 0, 0]\n",
+    ];
+    check(&found(&always_leaps), 1, &differs);
+}
+
+/// Writes a byte of a record that no rule looks at.
+fn writes_unclean(entry: Entry, input: &mut [u8], output: &mut [u8], answer: &mut Entries) -> u8 {
+    let status = second(entry, input, output, answer);
+    if (entry, status) == (Entry::Write, 1) {
+        output[0] = b'X';
+    }
+    status
+}
+
+/// Only the round trip of a canonical flow tells.
+#[test]
+fn a_canonical_flow_does_not_come_again() {
+    let byte = "byte 0 (record 1, position 1): proved library 0x58, ledger 0x20";
+    check(
+        &found_in_both(&writes_unclean),
+        28,
+        &["differs at mav_write()", byte],
+    );
+}
+
+/// Gives 6 for a blank field of a request list.
+fn mistakes_blanks(entry: Entry, list: &mut [u8], output: &mut [u8], answer: &mut Entries) -> u8 {
+    let status = second(entry, list, output, answer);
+    if (entry, status, answer[0]) == (Entry::Write, 0, 7) {
+        answer[0] = 6;
+    }
+    status
+}
+
+#[test]
+fn a_request_list_is_printed_by_its_items() {
+    let report = found(&mistakes_blanks);
+    check(
+        &report,
+        12,
+        &["list of ", "differs at mav_write()", "\n   1  48"],
+    );
+    assert!(
+        report.contains("proved library: refused 7 record "),
+        "{report}"
+    );
+}

@@ -1,0 +1,75 @@
+//! Amount change and withdrawal, in the caller's memory.
+
+use crate::answer::{accepted, ask_flow, length, Accepted, Refusal};
+use crate::raw;
+
+/// Gives disposition `k`, counted from 1, the amount `cents`, and gives the numbers of the flow left.
+///
+/// Refused as by [`read`](crate::read), then by
+/// [`NoSuchDisposition`](crate::Reason::NoSuchDisposition),
+/// [`AmountTooLarge`](crate::Reason::AmountTooLarge) and [`TotalTooLarge`](crate::Reason::TotalTooLarge).
+/// It writes positions 34-46 of that disposition's record 14 and 53-67 of the trailer, and no other byte;
+/// a refused call leaves every byte as it was.
+///
+/// ```
+/// use mav::{Accepted, Reason};
+///
+/// let sample = include_bytes!(concat!(env!("CARGO_MANIFEST_DIR"), "/../../samples/two-rents.flow"));
+/// let mut flow = *sample;
+///
+/// // An amount of fourteen digits is refused, and the flow is as before.
+/// let refusal = mav::change(&mut flow, 2, 10_000_000_000_000).unwrap_err();
+/// assert_eq!(refusal.reason, Reason::AmountTooLarge);
+/// assert_eq!(&flow, sample);
+///
+/// // Example 2 of document 01: the total becomes 85000.
+/// let accepted = mav::change(&mut flow, 2, 40_000)?;
+/// assert_eq!(accepted, Accepted { dispositions: 2, cents: 85_000, records: 16 });
+/// assert_eq!(mav::find(&flow, 2)?.cents, 40_000);
+/// # Ok::<(), mav::Refusal>(())
+/// ```
+pub fn change(flow: &mut [u8], k: u64, cents: u64) -> Result<Accepted, Refusal> {
+    ask_flow(|answer| raw::change(flow, k, cents, answer)).map(|entries| accepted(&entries))
+}
+
+/// What a withdrawal leaves.
+#[derive(Clone, Copy, Debug, Eq, Hash, PartialEq)]
+pub struct Withdrawn {
+    /// The numbers of the flow left.
+    pub accepted: Accepted,
+    /// Its length in bytes. The next call takes the first so many bytes of the slice.
+    pub length: usize,
+}
+
+/// Takes disposition `k`, counted from 1, out, and gives the numbers and the length of the flow left.
+///
+/// Refused as by [`read`](crate::read), then by
+/// [`NoSuchDisposition`](crate::Reason::NoSuchDisposition) and
+/// [`OnlyDisposition`](crate::Reason::OnlyDisposition). Later dispositions move up and are numbered anew,
+/// and the freed bytes at the end become blanks: after that the slice is longer than its flow, and only
+/// its first [`length`](Withdrawn::length) bytes are a flow. A refused call leaves every byte as it was,
+/// and the flow keeps its length.
+///
+/// ```
+/// use mav::{Accepted, Reason};
+///
+/// let mut flow = include_bytes!(concat!(env!("CARGO_MANIFEST_DIR"), "/../../samples/two-rents.flow")).to_vec();
+///
+/// // Example 3 of document 01: 1,080 bytes are left, and 840 blanks.
+/// let left = mav::withdraw(&mut flow, 1)?;
+/// assert_eq!(left.length, 1_080);
+/// assert_eq!(left.accepted, Accepted { dispositions: 1, cents: 38_050, records: 9 });
+/// assert_eq!(flow[1_080..], [b' '; 840]);
+///
+/// // The shorter flow is read at its own length. At the old one it is refused.
+/// assert_eq!(mav::read(&flow[..left.length]), Ok(left.accepted));
+/// assert_eq!(mav::read(&flow).unwrap_err().reason, Reason::RecordType);
+/// # Ok::<(), mav::Refusal>(())
+/// ```
+pub fn withdraw(flow: &mut [u8], k: u64) -> Result<Withdrawn, Refusal> {
+    let entries = ask_flow(|answer| raw::withdraw(flow, k, answer))?;
+    Ok(Withdrawn {
+        accepted: accepted(&entries),
+        length: length(&entries),
+    })
+}

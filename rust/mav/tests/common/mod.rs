@@ -1,0 +1,52 @@
+//! The samples, and answers written short.
+
+#![allow(dead_code)]
+
+use std::fs;
+use std::path::PathBuf;
+
+use mav::{Accepted, Reason, Refusal};
+
+/// The repository's folder.
+pub fn root() -> PathBuf {
+    PathBuf::from(env!("CARGO_MANIFEST_DIR")).join("../..")
+}
+
+/// The bytes of a sample.
+pub fn sample(file: &str) -> Vec<u8> {
+    let path = root().join("samples").join(file);
+    fs::read(&path).unwrap_or_else(|error| panic!("{}: {error}", path.display()))
+}
+
+pub fn accepted(dispositions: u64, cents: u64, records: u64) -> Accepted {
+    Accepted {
+        dispositions,
+        cents,
+        records,
+    }
+}
+
+pub fn refused(reason: Reason, record: u64, position: u64) -> Refusal {
+    Refusal {
+        reason,
+        record,
+        position,
+    }
+}
+
+/// A refusal at record 0, position 0.
+pub fn of_call(reason: Reason) -> Refusal {
+    refused(reason, 0, 0)
+}
+
+/// The positions of a record of a flow, both ends counted, as indexes from 0.
+pub fn positions(record: usize, first: usize, last: usize) -> std::ops::Range<usize> {
+    let before = 120 * (record - 1);
+    before + first - 1..before + last
+}
+
+/// The indexes at which two slices of one length differ.
+pub fn differences(left: &[u8], right: &[u8]) -> Vec<usize> {
+    assert_eq!(left.len(), right.len());
+    (0..left.len()).filter(|&i| left[i] != right[i]).collect()
+}

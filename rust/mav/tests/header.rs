@@ -1,0 +1,95 @@
+//! The C header names the numbers of the table, and the C example writes the lines of the small program.
+
+mod common;
+
+use std::fs;
+use std::path::{Path, PathBuf};
+use std::process::{Command, Output};
+
+use common::root;
+use mav::Reason;
+
+/// The name of a reason as the header writes it.
+fn c_name(reason: Reason) -> String {
+    let mut name = String::from("MAV_REFUSED");
+    for letter in format!("{reason:?}").chars() {
+        if letter.is_ascii_uppercase() {
+            name.push('_');
+        }
+        name.push(letter.to_ascii_uppercase());
+    }
+    name
+}
+
+#[test]
+fn the_header_has_every_number_and_limit() {
+    let text = fs::read_to_string(root().join("include/mav.h")).expect("the header");
+    let given: Vec<&str> = text
+        .lines()
+        .filter_map(|line| line.trim().strip_prefix("MAV_REFUSED_"))
+        .collect();
+    assert_eq!(given.len(), Reason::ALL.len());
+    for reason in Reason::ALL {
+        let due = format!("    {} = {}", c_name(reason), reason.number());
+        let stands = |line: &str| line.strip_prefix(&due).is_some_and(ends_a_number);
+        assert!(text.lines().any(stands), "{due}");
+    }
+    for due in [
+        format!("MAV_RECORD_LENGTH {}", mav::RECORD_LENGTH),
+        format!("MAV_MAX_FLOW_LENGTH {}", mav::MAX_FLOW_LENGTH),
+        format!("MAV_MAX_AMOUNT UINT64_C({})", mav::MAX_AMOUNT),
+        format!("MAV_MAX_TOTAL UINT64_C({})", mav::MAX_TOTAL),
+    ] {
+        assert!(
+            text.lines().any(|line| line == format!("#define {due}")),
+            "{due}"
+        );
+    }
+}
+
+/// Whether a number is over before this text.
+fn ends_a_number(rest: &str) -> bool {
+    !rest.starts_with(|next: char| next.is_ascii_digit())
+}
+
+/// The example, compiled as C11 with every warning an error.
+fn compiled() -> PathBuf {
+    let program = Path::new(env!("CARGO_TARGET_TMPDIR")).join("example");
+    let status = Command::new("cc")
+        .args(["-std=c11", "-Wall", "-Wextra", "-Werror", "-pedantic", "-o"])
+        .arg(&program)
+        .arg(root().join("include/example.c"))
+        .arg(root().join("target/staticlib/libcapi.a"))
+        .status()
+        .expect("a C compiler, cc");
+    assert!(status.success());
+    program
+}
+
+fn run(program: &Path, file: &str) -> Output {
+    let path = root().join("samples").join(file);
+    Command::new(program).arg(path).output().expect("it runs")
+}
+
+#[test]
+fn the_example_writes_one_line() {
+    let program = compiled();
+    for (file, line) in [
+        (
+            "two-rents.flow",
+            "accepted dispositions 2 cents 83050 records 16\n",
+        ),
+        (
+            "refused-09-block-twice.flow",
+            "refused 9 record 9 position 4\n",
+        ),
+        ("refused-03-empty.list", "refused 1 record 0 position 0\n"),
+    ] {
+        let told = run(&program, file);
+        assert_eq!(String::from_utf8_lossy(&told.stdout), line);
+        assert!(told.status.success() && told.stderr.is_empty(), "{file}");
+    }
+    let told = run(&program, "no-such-file");
+    assert!(told.stdout.is_empty() && !told.stderr.is_empty());
+    assert_eq!(told.status.code(), Some(1));
+}

@@ -1,0 +1,238 @@
+//! Every sample gives the answer that samples/README.md says, and every number of the table is reached.
+
+mod common;
+
+use common::sample;
+use mav::Reason;
+
+/// What is asked of a sample.
+#[derive(Clone, Copy, Debug)]
+enum Call {
+    Read,
+    /// Write the list to an output of this length.
+    Write(usize),
+    /// Change the amount of a disposition.
+    Change(u64, u64),
+    /// Withdraw a disposition.
+    Withdraw(u64),
+}
+
+use Call::{Change, Read, Withdraw, Write};
+
+/// A sample, the call, and the line of the answer due.
+type Row = (&'static str, Call, &'static str);
+
+const ACCEPTED: [Row; 6] = [
+    (
+        "two-rents.flow",
+        Read,
+        "accepted dispositions 2 cents 83050 records 16",
+    ),
+    (
+        "two-rents.list",
+        Write(1_920),
+        "accepted dispositions 2 cents 83050 records 16",
+    ),
+    (
+        "two-rents-filler.flow",
+        Read,
+        "accepted dispositions 2 cents 83050 records 16",
+    ),
+    (
+        "one-rent.flow",
+        Read,
+        "accepted dispositions 1 cents 45000 records 9",
+    ),
+    (
+        "forty-rents.flow",
+        Read,
+        "accepted dispositions 40 cents 2225000 records 368",
+    ),
+    (
+        "forty-rents.list",
+        Write(44_160),
+        "accepted dispositions 40 cents 2225000 records 368",
+    ),
+];
+
+const REFUSED: [Row; 21] = [
+    (
+        "refused-01-length.flow",
+        Read,
+        "refused 1 record 0 position 0",
+    ),
+    (
+        "refused-02-byte.flow",
+        Read,
+        "refused 2 record 4 position 16",
+    ),
+    (
+        "refused-03-type.flow",
+        Read,
+        "refused 3 record 7 position 2",
+    ),
+    (
+        "refused-03-empty.list",
+        Write(120),
+        "refused 3 record 1 position 2",
+    ),
+    (
+        "refused-04-ended.flow",
+        Read,
+        "refused 4 record 16 position 0",
+    ),
+    (
+        "refused-05-digits.flow",
+        Read,
+        "refused 5 record 2 position 34",
+    ),
+    (
+        "refused-06-value.flow",
+        Read,
+        "refused 6 record 9 position 29",
+    ),
+    (
+        "refused-07-blank.flow",
+        Read,
+        "refused 7 record 11 position 11",
+    ),
+    (
+        "refused-08-date.flow",
+        Read,
+        "refused 8 record 2 position 23",
+    ),
+    (
+        "refused-09-block-twice.flow",
+        Read,
+        "refused 9 record 9 position 4",
+    ),
+    (
+        "refused-10-header.flow",
+        Read,
+        "refused 10 record 9 position 48",
+    ),
+    (
+        "refused-11-company.flow",
+        Read,
+        "refused 11 record 9 position 92",
+    ),
+    (
+        "refused-12-dispositions.flow",
+        Read,
+        "refused 12 record 16 position 46",
+    ),
+    (
+        "refused-13-total.flow",
+        Read,
+        "refused 13 record 16 position 53",
+    ),
+    (
+        "refused-14-records.flow",
+        Read,
+        "refused 14 record 16 position 83",
+    ),
+    (
+        "two-rents.flow",
+        Withdraw(3),
+        "refused 15 record 0 position 0",
+    ),
+    (
+        "two-rents.flow",
+        Change(1, 10_000_000_000_000),
+        "refused 16 record 0 position 0",
+    ),
+    (
+        "refused-17-total.list",
+        Write(85_080),
+        "refused 17 record 0 position 0",
+    ),
+    (
+        "one-rent.flow",
+        Withdraw(1),
+        "refused 18 record 0 position 0",
+    ),
+    (
+        "refused-20-item.list",
+        Write(1_920),
+        "refused 20 record 15 position 0",
+    ),
+    (
+        "two-rents.list",
+        Write(1_919),
+        "refused 21 record 0 position 0",
+    ),
+];
+
+/// The answer, and beside a refusal its reason.
+fn answer((file, call, _): Row) -> (String, Option<Reason>) {
+    let mut bytes = sample(file);
+    let answer = match call {
+        Read => mav::read(&bytes),
+        Write(room) => mav::write(&bytes, &mut vec![0; room]).map(|written| written.accepted),
+        Change(k, cents) => mav::change(&mut bytes, k, cents),
+        Withdraw(k) => mav::withdraw(&mut bytes, k).map(|left| left.accepted),
+    };
+    match answer {
+        Ok(accepted) => (accepted.to_string(), None),
+        Err(refusal) => (refusal.to_string(), Some(refusal.reason)),
+    }
+}
+
+#[test]
+fn right_samples_are_accepted() {
+    for row in ACCEPTED {
+        assert_eq!(answer(row), (row.2.to_string(), None), "{row:?}");
+    }
+}
+
+#[test]
+fn every_refusal_is_the_one_due_with_its_sentence() {
+    for row in REFUSED {
+        let (said, reason) = answer(row);
+        let reason = reason.unwrap_or_else(|| panic!("{row:?} is accepted"));
+        assert_eq!(said, format!("{}: {reason}", row.2), "{row:?}");
+    }
+}
+
+#[test]
+fn every_number_of_the_table_is_reached() {
+    let mut reached: Vec<Reason> = REFUSED
+        .into_iter()
+        .filter_map(|row| answer(row).1)
+        .collect();
+    reached.dedup();
+    assert_eq!(reached, Reason::ALL);
+}
+
+#[test]
+fn the_numbers_are_those_of_the_table() {
+    let table = [
+        1, 2, 3, 4, 5, 6, 7, 8, 9, 10, 11, 12, 13, 14, 15, 16, 17, 18, 20, 21,
+    ];
+    assert_eq!(Reason::ALL.map(Reason::number), table);
+    for number in 0..=1_000 {
+        let reason = Reason::from_number(number);
+        assert_eq!(reason.is_some(), table.contains(&number), "{number}");
+        assert!(reason.is_none_or(|reason| reason.number() == number));
+    }
+    // Numbers that a cast to eight bits would take for 1 and 5.
+    assert_eq!(Reason::from_number(257), None);
+    assert_eq!(Reason::from_number((1 << 32) + 5), None);
+    assert_eq!(Reason::from_number(u64::MAX), None);
+}
+
+#[test]
+fn every_sentence_is_its_own_and_of_one_form() {
+    let sentences = Reason::ALL.map(|reason| reason.to_string());
+    for (i, sentence) in sentences.iter().enumerate() {
+        assert!(
+            sentence.starts_with(|first: char| first.is_ascii_lowercase()),
+            "{sentence}"
+        );
+        assert!(
+            sentence.ends_with(|last: char| last.is_ascii_lowercase()),
+            "{sentence}"
+        );
+        assert!(!sentences[..i].contains(sentence), "{sentence}");
+    }
+}
