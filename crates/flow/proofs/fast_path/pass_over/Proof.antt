@@ -117,9 +117,11 @@ seen-of c =
     let asked = found .before .before in
     let at = asked .before .before .before .before in
     let i = at .loop .i in
-    let rec = record-part i (flow-of at) in (
+    let kind = found .kind .given .0 .0 in
+    let rec = record-part i (flow-of at) in
+    let number = c .before .before .field .ensures ∙ ap (field 4 10) (record-part (i - 1) (flow-of at)) in (
       rw rec at (subst (Inside _ _) (found .kind .given .1) (asked .kind-inside .ensures)),
-      rw (c .before .before .field .ensures, rec, record-part (i - 1) (flow-of at)) at (sym (c .before .seen-right .ensures) ∙ not-false _ (c .if1 .left)),
+      sym (λ j. seenRight kind (number j) (rec j)) ∙ sym (c .before .seen-right .ensures) ∙ not-false _ (c .if1 .left),
     )
 
 loop-again : tie.Need-loop-again Inv-loop μ-loop
