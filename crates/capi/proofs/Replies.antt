@@ -4,6 +4,8 @@ use mathlib.Core.List.{List}
 use mathlib.Core.Path.{_≡_, refl, ap}
 use native.Mathlib.Omega.{arith}
 use lib.ListN.{length, getD}
+use Rattle.fields.specs.Answer.{Answer}
+use Rattle.fields.specs.Answer.{accepted as Answer·accepted, refused as Answer·refused}
 use Rattle.flow.specs.Find.{Located, standing}
 use Rattle.flow.specs.Find.{refused as Find·refused}
 use Rattle.flow.specs.Verdict.{Verdict, accepted, refused}
@@ -17,7 +19,7 @@ use Rattle.amend.specs.Change.{change}
 use Rattle.amend.specs.Withdraw.{withdraw}
 use Rattle.amend.proofs.Answered.{refused-untouched}
 use Rattle.capi.specs.Laws.{RefusedLeaves, RepliesTell}
-use Rattle.capi.specs.Reply.{Reply, ofVerdict, ofLocated, ofOutput}
+use Rattle.capi.specs.Reply.{Reply, reply, ofNumber, ofVerdict, ofLocated, ofOutput}
 
 -- an output is written where the call is accepted
 output-alone : (v : Verdict) (bytes out : List ℕ) → ofOutput (output v bytes out) .status ≡ 0 → output v bytes out .bytes ≡ out
@@ -52,33 +54,40 @@ refused-leaves = (
 abbrev entry : ℕ → Reply → ℕ
 entry i r = getD (r .entries) i 0
 
-pub replies-tell : RepliesTell
-replies-tell = (verdicts, places)
-  where
-    verdicts : (v u : Verdict) (l m : ℕ) → ofVerdict v l ≡ ofVerdict u m → (v ≡ u) × (l ≡ m)
-    verdicts (accepted d c n) (accepted d′ c′ n′) l m e =
-        let x = ap (entry 0) e in
-        let y = ap (entry 1) e in
-        let z = ap (entry 2) e in
-        (λ i. accepted (x i) (y i) (z i), ap (entry 3) e)
-    verdicts (accepted d c n) (refused f r p) l m e = let s = ap (λ (r : Reply). r .status) e in absurd (omega arith)
-    verdicts (refused f r p) (accepted d c n) l m e = let s = ap (λ (r : Reply). r .status) e in absurd (omega arith)
-    verdicts (refused f r p) (refused f′ r′ p′) l m e =
-        let x = ap (entry 0) e in
-        let y = ap (entry 1) e in
-        let z = ap (entry 2) e in
-        (λ i. refused (x i) (y i) (z i), ap (entry 3) e)
+-- what two replies that are the same have in common
+module _ {s a b c l s′ a′ b′ c′ l′ : ℕ} (e : reply s a b c l ≡ reply s′ a′ b′ c′ l′) where
+  status : s ≡ s′
+  status = ap (λ (r : Reply). r .status) e
 
-    places : (v u : Located) → ofLocated v ≡ ofLocated u → v ≡ u
-    places (standing a b c) (standing a′ b′ c′) e =
-        let x = ap (entry 0) e in
-        let y = ap (entry 1) e in
-        let z = ap (entry 2) e in
-        λ i. standing (x i) (y i) (z i)
-    places (standing a b c) (Find·refused f r p) e = let s = ap (λ (r : Reply). r .status) e in absurd (omega arith)
-    places (Find·refused f r p) (standing a b c) e = let s = ap (λ (r : Reply). r .status) e in absurd (omega arith)
-    places (Find·refused f r p) (Find·refused f′ r′ p′) e =
-        let x = ap (entry 0) e in
-        let y = ap (entry 1) e in
-        let z = ap (entry 2) e in
-        λ i. Find·refused (x i) (y i) (z i)
+  first : a ≡ a′
+  first = ap (entry 0) e
+
+  second : b ≡ b′
+  second = ap (entry 1) e
+
+  third : c ≡ c′
+  third = ap (entry 2) e
+
+  fourth : l ≡ l′
+  fourth = ap (entry 3) e
+
+verdicts : (v u : Verdict) (l m : ℕ) → ofVerdict v l ≡ ofVerdict u m → (v ≡ u) × (l ≡ m)
+verdicts (accepted d c n) (accepted d′ c′ n′) l m e = (λ i. accepted (first e i) (second e i) (third e i), fourth e)
+verdicts (accepted d c n) (refused f r p) l m e = absurd (omega (arith, status e))
+verdicts (refused f r p) (accepted d c n) l m e = absurd (omega (arith, status e))
+verdicts (refused f r p) (refused f′ r′ p′) l m e = (λ i. refused (first e i) (second e i) (third e i), fourth e)
+
+places : (v u : Located) → ofLocated v ≡ ofLocated u → v ≡ u
+places (standing a b c) (standing a′ b′ c′) e = λ i. standing (first e i) (second e i) (third e i)
+places (standing a b c) (Find·refused f r p) e = absurd (omega (arith, status e))
+places (Find·refused f r p) (standing a b c) e = absurd (omega (arith, status e))
+places (Find·refused f r p) (Find·refused f′ r′ p′) e = λ i. Find·refused (first e i) (second e i) (third e i)
+
+numbers : (v u : Answer ℕ) → ofNumber v ≡ ofNumber u → v ≡ u
+numbers (Answer·accepted v) (Answer·accepted u) e = ap Answer·accepted (first e)
+numbers (Answer·accepted v) (Answer·refused f) e = absurd (omega (arith, status e))
+numbers (Answer·refused f) (Answer·accepted v) e = absurd (omega (arith, status e))
+numbers (Answer·refused f) (Answer·refused g) e = ap Answer·refused (first e)
+
+pub replies-tell : RepliesTell
+replies-tell = (verdicts, places, numbers)

@@ -2,13 +2,14 @@
 use Prim.Native.Nat.{ℕ}
 use mathlib.Core.List.{List}
 use mathlib.Core.Path.{_≡_}
+use Rattle.fields.specs.Answer.{Answer}
 use Rattle.flow.specs.Find.{Located}
 use Rattle.flow.specs.Verdict.{Verdict}
 use Rattle.list.specs.ReadBack.{readBack}
 use Rattle.list.specs.Write.{write}
 use Rattle.amend.specs.Change.{change}
 use Rattle.amend.specs.Withdraw.{withdraw}
-use Rattle.capi.specs.Reply.{ofVerdict, ofLocated, ofOutput, ofChange, ofWithdrawal}
+use Rattle.capi.specs.Reply.{ofNumber, ofVerdict, ofLocated, ofOutput, ofChange, ofWithdrawal}
 
 -- a call that returns 0 leaves the caller's bytes as they were
 abbrev pub RefusedLeaves : Type 0
@@ -18,8 +19,9 @@ RefusedLeaves =
     × ((f : List ℕ) (k new : ℕ) → ofChange (change f k new) .status ≡ 0 → change f k new .bytes ≡ f)
     × ((f : List ℕ) (k : ℕ) → ofWithdrawal (withdraw f k) .status ≡ 0 → withdraw f k .bytes ≡ f)
 
--- a reply tells the whole answer: calls that are replied alike are answered alike
+-- a reply tells the whole answer: calls that are replied alike are answered alike. (Of an accepted date it tells no day.)
 abbrev pub RepliesTell : Type 0
 RepliesTell =
     ((v u : Verdict) (l m : ℕ) → ofVerdict v l ≡ ofVerdict u m → (v ≡ u) × (l ≡ m))
     × ((v u : Located) → ofLocated v ≡ ofLocated u → v ≡ u)
+    × ((v u : Answer ℕ) → ofNumber v ≡ ofNumber u → v ≡ u)

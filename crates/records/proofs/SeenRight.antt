@@ -1,6 +1,6 @@
 -- A record that is seen to be right is right. Assumes nothing.
 use Prim.Native.Nat.{ℕ, _+_, _-_}
-use mathlib.Core.Bool.{Bool, true, false, not, _&&_, true≢false}
+use mathlib.Core.Bool.{true, false, not, and-eq-true-iff, true≢false}
 use mathlib.Core.List.{List, _++_}
 use mathlib.Core.Path.{_≡_, refl, sym, _∙_, ap}
 use native.Mathlib.Omega.{arith}
@@ -65,17 +65,11 @@ checks-hold R51 ctx rec e d n = (d, (n, tt))
 checks-hold R70 ctx rec e d n = (d, (n, (e, tt)))
 checks-hold Ef ctx rec e d n = absurd (true≢false (sym e))
 
--- the four tests
-both : (a b : Bool) → (a && b) ≡ true → (a ≡ true) × (b ≡ true)
-both true true e = (refl, refl)
-both true false e = (refl, e)
-both false b e = absurd (true≢false (sym e))
-
 pub seen-right : SeenRight
 seen-right k digits rec seen =
-    let sized = both (eqb (length rec) 120) _ seen in
-    let kept = both (keepsRest k rec) _ (sized .1) in
-    let last = both (isEqual (field 4 10 rec) digits) (eqb (badByte rec) 0) (kept .1) in
+    let sized = and-eq-true-iff (eqb (length rec) 120) _ .0 seen in
+    let kept = and-eq-true-iff (keepsRest k rec) _ .0 (sized .1) in
+    let last = and-eq-true-iff (isEqual (field 4 10 rec) digits) (eqb (badByte rec) 0) .0 (kept .1) in
     let whole = eqb-true (length rec) 120 (sized .0) in
     let same : field 4 10 rec ≡ digits = equal-exact (field 4 10 rec) digits .0 (last .0) in
     let none = within k rec (kept .0) in
