@@ -4,6 +4,7 @@
 #![forbid(unsafe_code)]
 
 mod calls;
+mod desk;
 mod flows;
 mod machine;
 mod sections;
@@ -11,17 +12,22 @@ mod sum;
 mod table;
 mod time;
 
+use std::ffi::OsStr;
+use std::path::Path;
 use std::process::ExitCode;
 
 use table::say;
 
-const USAGE: &str = "usage: bench, or bench ROUNDS.
+const USAGE: &str = "usage: bench, bench ROUNDS, or bench plain FOLDER THREADS.
 Measures the proved library (ours) and the second program (plain Rust) side by
 side on flows made in memory: reading, amount change, withdrawal, reading back
 to a list and writing a list. Before a call is measured, both have to answer
-it alike and to leave the same bytes. ROUNDS is how often each call is
-measured, 21 if not given; the best of them is printed. Run it as
-    cargo run --release --offline -p bench";
+it alike and to leave the same bytes. Then the command mavdesk, if it is built
+beside this program, and the plain reader check forty flows as files. ROUNDS
+is how often each is measured, 21 if not given; the best of them is printed.
+Run it as
+    cargo build --release --offline -p desk -p bench && target/release/bench
+With plain it judges the flows of a folder with the plain reader.";
 
 /// The rounds of a run without arguments: about half a minute.
 const ROUNDS: usize = 21;
@@ -34,7 +40,13 @@ fn main() -> ExitCode {
             say(USAGE);
             return ExitCode::SUCCESS;
         }
-        [rounds] => rounds.to_str().and_then(|text| text.parse().ok()),
+        [plain, folder, threads] if plain == "plain" => {
+            return match number(threads).map(|threads| desk::plain(Path::new(folder), threads)) {
+                Some(Ok(())) => ExitCode::SUCCESS,
+                _ => ExitCode::FAILURE,
+            };
+        }
+        [rounds] => number(rounds),
         _ => None,
     };
     match rounds {
@@ -47,6 +59,10 @@ fn main() -> ExitCode {
     ExitCode::SUCCESS
 }
 
+fn number(word: &OsStr) -> Option<usize> {
+    word.to_str()?.parse().ok()
+}
+
 fn run(rounds: usize) {
     if cfg!(debug_assertions) {
         say("This is not a release build: its times say nothing. Run it with --release.\n");
@@ -57,5 +73,7 @@ fn run(rounds: usize) {
     sections::amendments(rounds);
     sections::lists(&large, rounds);
     sections::slow_flows(rounds);
+    drop(large);
+    desk::checking(rounds);
     say(&machine::line());
 }

@@ -15,6 +15,7 @@
 //! | [`change`] | gives a disposition another amount |
 //! | [`withdraw`] | takes a disposition out |
 //! | [`digits`], [`amount`], [`date`] | the field rules, without any flow |
+//! | [`items`], [`ItemKind`] | the items of a request list, for showing them; plain Rust |
 //!
 //! What the calls of the archive answer and leave is proved; [`raw`] hands them slices, and the other
 //! modules only give their answers Rust's types. No input makes a call panic. The one thing that would
@@ -47,6 +48,7 @@ mod amend;
 mod answer;
 mod fields;
 mod flow;
+mod item;
 mod limits;
 mod list;
 #[allow(unsafe_code)]
@@ -57,6 +59,7 @@ pub use amend::{change, withdraw, Withdrawn};
 pub use answer::{Accepted, Refusal};
 pub use fields::{amount, date, digits, FieldRefusal};
 pub use flow::{find, read, Disposition};
+pub use item::{items, ItemKind};
 pub use limits::{
     AMOUNT_LENGTH, DATE_LENGTH, MAX_AMOUNT, MAX_DIGITS, MAX_FLOW_LENGTH, MAX_ITEM_LENGTH,
     MAX_RECORDS, MAX_TOTAL, RECORD_LENGTH,

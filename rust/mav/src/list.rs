@@ -1,6 +1,7 @@
 //! The request list: written to a flow, and a flow read back to its list; and the room that each needs.
 
 use crate::answer::{accepted, ask_flow, length, Accepted, Refusal};
+use crate::item::items;
 use crate::limits::{MAX_FLOW_LENGTH, MAX_ITEM_LENGTH, RECORD_LENGTH};
 use crate::raw;
 
@@ -137,7 +138,8 @@ pub fn read_back_to_vec(flow: &[u8]) -> Result<(Accepted, Vec<u8>), Refusal> {
 /// assert_eq!(mav::flow_room(&[]), 120);
 /// ```
 pub fn flow_room(list: &[u8]) -> usize {
-    count_items(list)
+    items(list)
+        .count()
         .saturating_add(1)
         .saturating_mul(RECORD_LENGTH)
         .min(MAX_FLOW_LENGTH)
@@ -162,55 +164,9 @@ pub const fn list_room(flow_length: usize) -> usize {
     (longest / RECORD_LENGTH).saturating_sub(1) * MAX_ITEM_LENGTH
 }
 
-/// How many whole items stand at the front of a list.
-fn count_items(list: &[u8]) -> usize {
-    let mut rest = list;
-    let mut count = 0;
-    while let Some(behind) = behind_item(rest) {
-        rest = behind;
-        count += 1;
-    }
-    count
-}
-
-/// What stands behind the first item of a list, if it begins with a whole one.
-fn behind_item(list: &[u8]) -> Option<&[u8]> {
-    let (&kind, behind_kind) = list.split_first()?;
-    behind_kind.get(body_length(kind)?..)
-}
-
-/// The length of the body of a kind of item (document 01, "Our request list").
-const fn body_length(kind: u8) -> Option<usize> {
-    Some(match kind {
-        b'H' => 49,
-        b'D' => 58,
-        b'S' => 27,
-        b'C' => 96,
-        b'B' => 76,
-        b'A' | b'R' | b'X' | b'K' => 110,
-        b'Z' => 26,
-        _ => return None,
-    })
-}
-
 #[cfg(test)]
 mod tests {
     use super::*;
-
-    #[test]
-    fn no_item_is_longer_than_the_longest() {
-        let longest = (0..=u8::MAX).filter_map(body_length).max();
-        assert_eq!(longest, Some(MAX_ITEM_LENGTH - 1));
-    }
-
-    #[test]
-    fn a_cut_or_unknown_item_is_not_counted() {
-        assert_eq!(count_items(b"Z"), 0);
-        assert_eq!(count_items(&[b'Z'; 26]), 0);
-        assert_eq!(count_items(&[b'Z'; 27]), 1);
-        assert_eq!(count_items(&[b'Z'; 28]), 1);
-        assert_eq!(count_items(&[b'h'; 50]), 0);
-    }
 
     #[test]
     fn room_stops_at_the_longest_flow() {

@@ -123,7 +123,7 @@ impl Reason {
     const fn sentence(self) -> &'static str {
         match self {
             Reason::Length => {
-                "the length of the flow is zero, is not a multiple of 120, or is above 1,199,999,880 bytes"
+                "the flow is empty, is not whole records of 120 bytes, or has more than 9999999 of them"
             }
             Reason::Byte => "this character is not a plain letter, digit, sign or blank",
             Reason::RecordType => "a record of this type may not stand here",
@@ -139,8 +139,8 @@ impl Reason {
             Reason::Total => "this total of the trailer is wrong",
             Reason::RecordCount => "the trailer's count of records is wrong",
             Reason::NoSuchDisposition => "the flow has no disposition of that number",
-            Reason::AmountTooLarge => "the new amount is above 9,999,999,999,999 cents",
-            Reason::TotalTooLarge => "the total would be above 999,999,999,999,999 cents",
+            Reason::AmountTooLarge => "the new amount has more than 13 digits in cents",
+            Reason::TotalTooLarge => "the total would have more than 15 digits in cents",
             Reason::OnlyDisposition => "the only disposition of a flow cannot be withdrawn",
             Reason::Item => "the list's item of that number is of an unknown kind or is cut short",
             Reason::Room => "there is not enough room for what is to be written",

@@ -1,0 +1,159 @@
+//! Amount change and withdrawal: what will change is shown, the clerk is asked, and the flow is saved.
+
+use std::io::Write;
+use std::path::Path;
+
+use mav::{Accepted, Reason, Refusal};
+
+use crate::euro::{grouped, shown as euro};
+use crate::failure::{Failure, Outcome};
+use crate::name::shown;
+use crate::output::confirm;
+use crate::refusal;
+use crate::request::{titles, Request};
+use crate::save::Target;
+
+/// A flow that is locked and accepted, and that may be amended.
+struct Open<'a> {
+    named: &'a Path,
+    target: Target,
+    flow: Vec<u8>,
+    numbers: Accepted,
+}
+
+/// Gives request `k` another amount.
+pub fn amount(named: &Path, k: u64, cents: u64, yes: bool, out: &mut impl Write) -> Outcome {
+    let open = Open::new(named)?;
+    let request = open.request(k)?;
+    let mut amended = open.flow.clone();
+    let left = mav::change(&mut amended, k, cents).map_err(|refusal| open.refused(&refusal, k))?;
+    writeln!(out, "{}: {}\n", shown(named), request.named())?;
+    if amended == open.flow {
+        writeln!(
+            out,
+            "Its amount is {} already; there is nothing to save.",
+            euro(cents)
+        )?;
+        return Ok(());
+    }
+    let amount = format!("request {k}, amount");
+    let rows = [[amount, euro(request.cents), euro(cents)]];
+    open.save(&rows, left, &amended, yes, out)
+}
+
+/// Takes requests out, all or none. The numbers are those of the flow as it is.
+pub fn withdraw(named: &Path, numbers: &[u64], yes: bool, out: &mut impl Write) -> Outcome {
+    let mut falling = numbers.to_vec();
+    falling.sort_unstable_by(|a, b| b.cmp(a));
+    if let Some(twice) = falling.windows(2).find(|pair| pair[0] == pair[1]) {
+        return Err(Failure::trouble(format!(
+            "request {} is named twice.",
+            twice[0]
+        )));
+    }
+    let open = Open::new(named)?;
+    let requests = falling.iter().rev().map(|&k| open.request(k));
+    let requests = requests.collect::<Outcome<Vec<_>>>()?;
+    // From the last one on: a withdrawal gives later requests new numbers, and the earlier ones keep theirs.
+    let mut amended = open.flow.clone();
+    let mut left = open.numbers;
+    for &k in &falling {
+        let withdrawn =
+            mav::withdraw(&mut amended, k).map_err(|refusal| open.refused(&refusal, k))?;
+        amended.truncate(withdrawn.length);
+        left = withdrawn.accepted;
+    }
+    writeln!(out, "{}: to be withdrawn\n\n{}", shown(named), titles())?;
+    for request in &requests {
+        writeln!(out, "{}", request.row())?;
+    }
+    writeln!(out)?;
+    let first = requests.first().map_or(0, |request| request.number);
+    if first <= left.dispositions {
+        writeln!(
+            out,
+            "The requests left are numbered anew from {first} on.\n"
+        )?;
+    }
+    open.save(&[], left, &amended, yes, out)
+}
+
+impl<'a> Open<'a> {
+    /// Locks and reads a flow, which must be accepted.
+    fn new(named: &'a Path) -> Outcome<Open<'a>> {
+        let target = Target::lock(named)?;
+        let flow = target.read()?.ok_or_else(|| {
+            let error = std::io::ErrorKind::NotFound.into();
+            Failure::of_file(named, "cannot be read", &error)
+        })?;
+        let numbers =
+            mav::read(&flow).map_err(|refusal| refusal::of_flow(&refusal, named, &flow))?;
+        Ok(Open {
+            named,
+            target,
+            flow,
+            numbers,
+        })
+    }
+
+    fn request(&self, k: u64) -> Outcome<Request> {
+        let found = mav::find(&self.flow, k).map_err(|refusal| self.refused(&refusal, k))?;
+        Ok(Request::of(found.part, k))
+    }
+
+    /// What the clerk is told where the library refuses the amendment of request `k`.
+    fn refused(&self, refusal: &Refusal, k: u64) -> Failure {
+        let count = self.numbers.dispositions;
+        let why = match refusal.reason {
+            Reason::NoSuchDisposition => format!("; it has the requests 1 to {count}"),
+            Reason::OnlyDisposition if count > 1 => "; all that it has are named".to_owned(),
+            _ => String::new(),
+        };
+        Failure::refused(format!(
+            "request {k} of {}: {}{why}; nothing was changed.",
+            shown(self.named),
+            refusal::line(refusal),
+        ))
+    }
+
+    /// Shows what will change, asks, and saves.
+    fn save(
+        &self,
+        rows: &[[String; 3]],
+        left: Accepted,
+        amended: &[u8],
+        yes: bool,
+        out: &mut impl Write,
+    ) -> Outcome {
+        writeln!(out, "{:<24}{:>24}{:>24}", "", "BEFORE", "AFTER")?;
+        for [what, before, after] in rows.iter().chain(&trailer(self.numbers, left)) {
+            writeln!(out, "{what:<24}{before:>24}{after:>24}")?;
+        }
+        writeln!(out)?;
+        if !yes {
+            confirm(out, "Save it?", "not saved: the flow is as it was.")?;
+        }
+        out.flush()?;
+        self.target.save(Some(&self.flow), amended)?;
+        writeln!(
+            out,
+            "Saved. The flow as it was is kept as {}.",
+            shown(&self.target.kept_as())
+        )?;
+        Ok(())
+    }
+}
+
+/// The rows of the trailer, before and after.
+fn trailer(before: Accepted, after: Accepted) -> [[String; 3]; 3] {
+    let row = |what: &str, shown: &dyn Fn(Accepted) -> String| {
+        [what.to_owned(), shown(before), shown(after)]
+    };
+    [
+        row("trailer, requests", &|numbers| {
+            grouped(numbers.dispositions)
+        }),
+        row("trailer, total", &|numbers| euro(numbers.cents)),
+        row("trailer, records", &|numbers| grouped(numbers.records)),
+    ]
+}

@@ -1,0 +1,208 @@
+//! The command line, read to a command before anything is done.
+
+use std::ffi::{OsStr, OsString};
+use std::path::PathBuf;
+
+use crate::euro;
+use crate::failure::{Failure, Outcome};
+use crate::help;
+use crate::name::plain;
+
+/// What a command line asks for.
+#[derive(Debug, Eq, PartialEq)]
+pub enum Command {
+    Help(&'static str),
+    Version,
+    Check(Vec<PathBuf>),
+    Table {
+        flow: PathBuf,
+        wanted: Option<String>,
+    },
+    Request {
+        flow: PathBuf,
+        k: u64,
+    },
+    Amount {
+        flow: PathBuf,
+        k: u64,
+        cents: u64,
+        yes: bool,
+    },
+    Withdraw {
+        flow: PathBuf,
+        numbers: Vec<u64>,
+        yes: bool,
+    },
+    List {
+        flow: PathBuf,
+        list: PathBuf,
+        yes: bool,
+    },
+    Write {
+        list: PathBuf,
+        flow: PathBuf,
+        yes: bool,
+    },
+    Explain(Option<u64>),
+}
+
+/// The words behind a command's name: its options, which may stand anywhere, and the others in order.
+#[derive(Default)]
+struct Words {
+    operands: Vec<OsString>,
+    yes: bool,
+    find: Option<String>,
+    help: bool,
+}
+
+/// The page and the options of a command.
+fn known(name: &OsStr) -> Outcome<(&'static str, &'static [&'static str])> {
+    Ok(match name.to_str() {
+        Some("check") => (help::CHECK, &[]),
+        Some("show") => (help::SHOW, &["--find"]),
+        Some("amount") => (help::AMOUNT, &["--yes"]),
+        Some("withdraw") => (help::WITHDRAW, &["--yes"]),
+        Some("list") => (help::LIST, &["--yes"]),
+        Some("write") => (help::WRITE, &["--yes"]),
+        Some("explain") => (help::EXPLAIN, &[]),
+        _ => {
+            return Err(Failure::trouble(format!(
+                "there is no command {}; mavdesk --help has them.",
+                told(name)
+            )))
+        }
+    })
+}
+
+/// Reads a command line without the program's own name.
+pub fn read(words: &[OsString]) -> Outcome<Command> {
+    let Some((name, rest)) = words.split_first() else {
+        return Err(Failure::trouble(
+            "a command is missing; mavdesk --help has them.",
+        ));
+    };
+    match (name.to_str(), rest) {
+        (Some("--version"), []) => return Ok(Command::Version),
+        (Some("--help" | "-h" | "help"), []) => return Ok(Command::Help(help::ALL)),
+        (Some("help"), [name]) => return known(name).map(|(page, _)| Command::Help(page)),
+        _ => {}
+    }
+    let (page, options) = known(name)?;
+    let name = told(name);
+    let words = sorted(&name, options, rest)?;
+    if words.help {
+        return Ok(Command::Help(page));
+    }
+    command(&name, words)?.ok_or_else(|| {
+        let usage = synopsis(page).join(", or ");
+        Failure::trouble(format!("the words do not fit; it is {usage}."))
+    })
+}
+
+/// The forms of a command, from its page.
+fn synopsis(page: &str) -> Vec<&str> {
+    let behind = page.lines().skip_while(|line| *line != "SYNOPSIS").skip(1);
+    behind
+        .take_while(|line| !line.is_empty())
+        .map(str::trim)
+        .collect()
+}
+
+/// Parts the options from the other words.
+fn sorted(name: &str, options: &[&str], rest: &[OsString]) -> Outcome<Words> {
+    let mut words = Words::default();
+    let mut rest = rest.iter();
+    while let Some(word) = rest.next() {
+        match word.to_str() {
+            Some("--") => words.operands.extend(rest.by_ref().cloned()),
+            Some("--help" | "-h") => words.help = true,
+            Some("--yes") if options.contains(&"--yes") => words.yes = true,
+            Some("--find") if options.contains(&"--find") => {
+                let wanted = rest.next().and_then(|text| text.to_str());
+                let wanted = wanted.filter(|text| !text.is_empty());
+                let wanted = wanted.ok_or_else(|| Failure::trouble("--find needs a text."))?;
+                words.find = Some(wanted.to_owned());
+            }
+            Some(option) if option.starts_with("--") => {
+                let option = plain(option);
+                return Err(Failure::trouble(format!("{name} has no option {option}.")));
+            }
+            _ => words.operands.push(word.clone()),
+        }
+    }
+    Ok(words)
+}
+
+/// The command of this name on these words, or nothing where there are too few or too many.
+fn command(name: &str, words: Words) -> Outcome<Option<Command>> {
+    let paths = |words: &[OsString]| words.iter().map(PathBuf::from).collect();
+    Ok(Some(match (name, &words.operands[..]) {
+        ("check", [_, ..]) => Command::Check(paths(&words.operands)),
+        ("show", [flow]) => Command::Table {
+            flow: flow.into(),
+            wanted: words.find,
+        },
+        ("show", [flow, k]) if words.find.is_none() => Command::Request {
+            flow: flow.into(),
+            k: request(k)?,
+        },
+        ("explain", []) => Command::Explain(None),
+        ("explain", [number]) => Command::Explain(Some(parsed(number, euro::number, "a number")?)),
+        (_, operands) => return saving(name, operands, words.yes),
+    }))
+}
+
+/// The same of the commands that save.
+fn saving(name: &str, operands: &[OsString], yes: bool) -> Outcome<Option<Command>> {
+    Ok(Some(match (name, operands) {
+        ("amount", [flow, k, euros]) => Command::Amount {
+            flow: flow.into(),
+            k: request(k)?,
+            cents: cents(euros)?,
+            yes,
+        },
+        ("withdraw", [flow, numbers @ ..]) if !numbers.is_empty() => Command::Withdraw {
+            flow: flow.into(),
+            numbers: numbers.iter().map(|k| request(k)).collect::<Outcome<_>>()?,
+            yes,
+        },
+        ("list", [flow, list]) => Command::List {
+            flow: flow.into(),
+            list: list.into(),
+            yes,
+        },
+        ("write", [list, flow]) => Command::Write {
+            list: list.into(),
+            flow: flow.into(),
+            yes,
+        },
+        _ => return Ok(None),
+    }))
+}
+
+/// The number of a request, with zeros in front or without: both are seen, in a flow and in the table.
+fn request(word: &OsStr) -> Outcome<u64> {
+    parsed(word, euro::number, "the number of a request")
+}
+
+fn cents(word: &OsStr) -> Outcome<u64> {
+    parsed(
+        word,
+        euro::read,
+        "an amount, which is written as 450 or 450,00 or 450.00",
+    )
+}
+
+fn parsed(word: &OsStr, read: impl Fn(&str) -> Option<u64>, what: &str) -> Outcome<u64> {
+    word.to_str()
+        .and_then(read)
+        .ok_or_else(|| Failure::trouble(format!("{} is not {what}.", told(word))))
+}
+
+/// A word as it is shown.
+fn told(word: &OsStr) -> String {
+    match plain(&word.to_string_lossy()) {
+        word if word.is_empty() => "\"\"".to_owned(),
+        word => word,
+    }
+}

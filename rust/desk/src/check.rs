@@ -1,0 +1,227 @@
+//! Many flows judged at once: a line for each, then every refusal with its record.
+
+use std::ffi::OsString;
+use std::fmt;
+use std::fs;
+use std::io::Write;
+use std::path::{Path, PathBuf};
+use std::sync::atomic::{AtomicUsize, Ordering};
+use std::sync::mpsc::{self, RecvTimeoutError};
+use std::thread;
+
+use mav::{Accepted, Reason, Refusal};
+
+use crate::euro::{grouped, shown as euro};
+use crate::failure::{Failure, Outcome};
+use crate::input::{read_into, Unread};
+use crate::name::{is_no_flow, shown};
+use crate::output::counted;
+use crate::progress::Progress;
+use crate::refusal;
+
+/// What became of a flow.
+enum Verdict {
+    Accepted(Accepted),
+    /// With the picture of its record.
+    Refused(Refusal, String),
+    Unread(Failure),
+}
+
+/// Judges the flows, and those in the folders, and succeeds only where all are accepted.
+pub fn check(named: &[PathBuf], out: &mut impl Write) -> Outcome {
+    let flows = gathered(named)?;
+    let verdicts = judged(&flows);
+    let rows = || flows.iter().zip(&verdicts);
+    table(rows(), out)?;
+    for (path, verdict) in rows() {
+        if let Verdict::Refused(refusal, picture) = verdict {
+            let line = refusal::line(refusal);
+            write!(out, "\n{}: {line}.\n{picture}", shown(path))?;
+        }
+    }
+    out.flush()?;
+    let mut status = 0;
+    for verdict in verdicts {
+        match verdict {
+            Verdict::Accepted(_) => {}
+            Verdict::Refused(..) => status = status.max(1),
+            Verdict::Unread(failure) => {
+                failure.tell();
+                status = 2;
+            }
+        }
+    }
+    match status {
+        0 => Ok(()),
+        status => Err(Failure::told(status)),
+    }
+}
+
+/// A line for each flow, and one for all.
+fn table<'a>(
+    rows: impl Iterator<Item = (&'a PathBuf, &'a Verdict)> + Clone,
+    out: &mut impl Write,
+) -> Outcome {
+    let names = rows.clone().map(|(path, _)| shown(path).chars().count());
+    let width = names.max().unwrap_or(0).max("FLOW".len());
+    let titles = cells("REQUESTS", "TOTAL", "RECORDS");
+    writeln!(out, "{:<width$}{titles}", "FLOW")?;
+    let mut sum = Sum::default();
+    for (path, verdict) in rows {
+        sum.add(verdict);
+        writeln!(out, "{:<width$}{}", shown(path), row(verdict))?;
+    }
+    writeln!(out, "\n{sum}")?;
+    Ok(())
+}
+
+/// What stands behind a flow's name.
+fn row(verdict: &Verdict) -> String {
+    match verdict {
+        Verdict::Accepted(numbers) => cells(
+            &grouped(numbers.dispositions),
+            &euro(numbers.cents),
+            &grouped(numbers.records),
+        ),
+        Verdict::Refused(refusal, _) => format!("   {}", refusal::place(refusal)),
+        Verdict::Unread(_) => "   not read".to_owned(),
+    }
+}
+
+fn cells(requests: &str, total: &str, records: &str) -> String {
+    format!("{requests:>11}{total:>23}{records:>11}")
+}
+
+/// All flows together.
+#[derive(Default)]
+struct Sum {
+    accepted: u64,
+    requests: u64,
+    cents: u128,
+    refused: u64,
+    unread: u64,
+}
+
+impl Sum {
+    fn add(&mut self, verdict: &Verdict) {
+        match verdict {
+            Verdict::Accepted(numbers) => {
+                self.accepted += 1;
+                self.requests += numbers.dispositions;
+                self.cents += u128::from(numbers.cents);
+            }
+            Verdict::Refused(..) => self.refused += 1,
+            Verdict::Unread(_) => self.unread += 1,
+        }
+    }
+}
+
+impl fmt::Display for Sum {
+    fn fmt(&self, f: &mut fmt::Formatter<'_>) -> fmt::Result {
+        let flows = counted(self.accepted, "flow", "flows");
+        let requests = counted(self.requests, "request", "requests");
+        write!(
+            f,
+            "{flows} accepted: {requests}, {} euro.",
+            euro(self.cents)
+        )?;
+        if self.refused > 0 {
+            write!(f, " {} refused.", grouped(self.refused))?;
+        }
+        if self.unread > 0 {
+            write!(f, " {} not read.", grouped(self.unread))?;
+        }
+        Ok(())
+    }
+}
+
+/// The flows named, and of each folder named its files by name. A folder in a folder is not looked into.
+fn gathered(named: &[PathBuf]) -> Outcome<Vec<PathBuf>> {
+    let mut flows = Vec::new();
+    for path in named {
+        if !path.is_dir() {
+            flows.push(path.clone());
+            continue;
+        }
+        let found = files_of(path)
+            .map_err(|error| Failure::of_file(path, "cannot be looked into", &error))?;
+        if found.is_empty() {
+            return Err(Failure::trouble(format!(
+                "{} has no flow in it.",
+                shown(path)
+            )));
+        }
+        flows.extend(found.iter().map(|name| path.join(name)));
+    }
+    Ok(flows)
+}
+
+fn files_of(folder: &Path) -> std::io::Result<Vec<OsString>> {
+    let mut names = Vec::new();
+    for entry in fs::read_dir(folder)? {
+        let name = entry?.file_name();
+        if !is_no_flow(&name) && !folder.join(&name).is_dir() {
+            names.push(name);
+        }
+    }
+    names.sort();
+    Ok(names)
+}
+
+/// Judges the flows on as many threads as there are cores. Each takes the next flow that nobody has taken,
+/// and they share nothing else.
+fn judged(flows: &[PathBuf]) -> Vec<Verdict> {
+    let next = AtomicUsize::new(0);
+    let cores = thread::available_parallelism().map_or(1, usize::from);
+    let (done, verdicts) = mpsc::channel();
+    thread::scope(|scope| {
+        for _ in 0..cores.min(flows.len()) {
+            let (next, done) = (&next, done.clone());
+            scope.spawn(move || {
+                let mut buffer = Vec::new();
+                loop {
+                    let index = next.fetch_add(1, Ordering::Relaxed);
+                    let Some(path) = flows.get(index) else { break };
+                    let verdict = judge(path, &mut buffer);
+                    // The other end stands until all threads have ended.
+                    let _ = done.send((index, verdict));
+                }
+            });
+        }
+        drop(done);
+        in_order(flows.len(), &verdicts)
+    })
+}
+
+/// The verdicts in the order of the flows, and meanwhile a line that tells how far it is.
+fn in_order(count: usize, verdicts: &mpsc::Receiver<(usize, Verdict)>) -> Vec<Verdict> {
+    let mut progress = Progress::new(count);
+    let mut found = Vec::with_capacity(count);
+    loop {
+        match verdicts.recv_timeout(progress.pause()) {
+            Ok(verdict) => found.push(verdict),
+            Err(RecvTimeoutError::Timeout) => progress.show(found.len()),
+            Err(RecvTimeoutError::Disconnected) => break,
+        }
+    }
+    found.sort_unstable_by_key(|(index, _)| *index);
+    found.into_iter().map(|(_, verdict)| verdict).collect()
+}
+
+fn judge(path: &Path, buffer: &mut Vec<u8>) -> Verdict {
+    match read_into(path, buffer) {
+        Ok(()) => match mav::read(buffer) {
+            Ok(numbers) => Verdict::Accepted(numbers),
+            Err(refusal) => Verdict::Refused(refusal, refusal::in_flow(&refusal, buffer)),
+        },
+        Err(Unread::TooLong(length)) => {
+            let refusal = Refusal {
+                reason: Reason::Length,
+                record: 0,
+                position: 0,
+            };
+            Verdict::Refused(refusal, refusal::length(length))
+        }
+        Err(unread) => Verdict::Unread(unread.failure(path)),
+    }
+}

@@ -1,0 +1,87 @@
+//! The table of numbers that a clerk may see, with what to do about each.
+
+use std::io::Write;
+
+use mav::Reason;
+
+use crate::failure::{Failure, Outcome};
+
+/// Explains one number.
+pub fn number(number: u64, out: &mut impl Write) -> Outcome {
+    match Reason::from_number(number) {
+        Some(reason) => row(reason, out),
+        None if number == 19 => Err(Failure::trouble("number 19 is not used.")),
+        None => Err(Failure::trouble(format!(
+            "there is no number {number}; the numbers are 1 to 18, 20 and 21."
+        ))),
+    }
+}
+
+/// Explains all of them.
+pub fn table(out: &mut impl Write) -> Outcome {
+    for (index, reason) in Reason::ALL.into_iter().enumerate() {
+        if index > 0 {
+            writeln!(out)?;
+        }
+        row(reason, out)?;
+    }
+    Ok(())
+}
+
+fn row(reason: Reason, out: &mut impl Write) -> Outcome {
+    writeln!(out, "{:>2}  {reason}", reason.number())?;
+    writeln!(out, "    Place: {}.", place(reason))?;
+    writeln!(out, "    {}", remedy(reason))?;
+    Ok(())
+}
+
+/// The place that a refusal by the number gives (document 01, "Numbers a clerk may see").
+fn place(reason: Reason) -> &'static str {
+    match reason {
+        Reason::Byte => "the record, and the position of the byte",
+        Reason::RecordType => "the record, position 2",
+        Reason::Ended => "the record that is missing",
+        Reason::NotDigits
+        | Reason::NotPermitted
+        | Reason::Blank
+        | Reason::NotADate
+        | Reason::DiffersFromHeader => "the record, and the field's first position",
+        Reason::DispositionNumber => "the record, position 4",
+        Reason::CompanyCode => "the record, position 92",
+        Reason::DispositionCount => "the trailer, position 46",
+        Reason::Total => "the trailer, position 53 or 68",
+        Reason::RecordCount => "the trailer, position 83",
+        Reason::Item => "the item of the list, counted from 1",
+        Reason::Length
+        | Reason::NoSuchDisposition
+        | Reason::AmountTooLarge
+        | Reason::TotalTooLarge
+        | Reason::OnlyDisposition
+        | Reason::Room => "none",
+    }
+}
+
+/// What a clerk can do.
+fn remedy(reason: Reason) -> &'static str {
+    match reason {
+        Reason::Length => "The file was cut short or is no flow. Have it sent again.",
+        Reason::Byte => "Often an accent, a tab or a line end. Have it sent in plain characters.",
+        Reason::RecordType => "A record is missing before it, or it stands there by mistake.",
+        Reason::Ended => "The end of the flow is lost. Have it sent again.",
+        Reason::NotDigits | Reason::NotPermitted | Reason::Blank | Reason::NotADate => {
+            "Have the house correct it and send the flow again."
+        }
+        Reason::DispositionNumber => "A request is missing, stands twice or is out of order.",
+        Reason::DiffersFromHeader => "Records of two flows may be mixed.",
+        Reason::CompanyCode => "The flow has requests of two companies. Have it sent as two.",
+        Reason::DispositionCount => "Requests are missing, or there are too many.",
+        Reason::Total => "The amounts do not add up to the total.",
+        Reason::RecordCount => "Records are missing, or there are too many.",
+        Reason::NoSuchDisposition => "mavdesk show FILE has the numbers that there are.",
+        Reason::AmountTooLarge => "The largest amount is 99.999.999.999,99 euro.",
+        Reason::TotalTooLarge => "The largest total is 9.999.999.999.999,99 euro.",
+        Reason::OnlyDisposition => "A flow has at least one request. Keep the flow back instead.",
+        Reason::Item => "The list was cut short or is no list. Make it again from its flow.",
+        Reason::Room => "Programs that use the library see it. mavdesk makes the room.",
+    }
+}

@@ -1,0 +1,200 @@
+//! What `--help` prints, a page for each command.
+
+/// The page of all commands.
+pub const ALL: &str = "\
+NAME
+    mavdesk - check, show and amend flows of payment requests (CBI M.Av.)
+
+SYNOPSIS
+    mavdesk check FILE..            judge flows, or all flows of a folder
+    mavdesk show FILE [K]           show the requests of a flow, or request K
+    mavdesk amount FILE K EUROS     give request K another amount
+    mavdesk withdraw FILE K..       take requests out
+    mavdesk list FLOW LIST          write the request list of a flow
+    mavdesk write LIST FLOW         write the flow of a request list
+    mavdesk explain [N]             say what a refusal's number means
+
+DESCRIPTION
+    Every flow is judged whole before anything is shown or changed, and every
+    change is made by a library whose rules are proved. No file is ever written
+    to in place: after an amendment either the old flow or the new one stands
+    under its name, whole, and the old one is kept as NAME.before. A request is
+    what the standard calls a disposition.
+
+    mavdesk COMMAND --help tells more of a command. A word -- ends the options.
+
+EXIT STATUS
+    0  all was done; 1  the rules or the clerk said no, or nothing was found;
+    2  a file, a lock or the command line was in the way.
+";
+
+pub const CHECK: &str = "\
+NAME
+    mavdesk check - judge flows
+
+SYNOPSIS
+    mavdesk check FILE..
+
+DESCRIPTION
+    Prints a line for each flow: its name, its requests, their total in euro and
+    its records; or why it is refused. Under the lines every refused record is
+    shown below a ruler, with the position marked. The flows are judged on all
+    cores at once, and at a terminal a line tells how far it is.
+
+    FILE may be a folder: all files in it are judged but hidden ones and those
+    that end in .before or .list. Folders in it are not looked into.
+
+EXIT STATUS
+    0 only if all flows are accepted; 1 if one is refused; 2 if one cannot be
+    read.
+
+EXAMPLES
+    mavdesk check tonight
+    mavdesk check house-07.flow house-12.flow
+";
+
+pub const SHOW: &str = "\
+NAME
+    mavdesk show - show the requests of a flow
+
+SYNOPSIS
+    mavdesk show FILE [--find TEXT]
+    mavdesk show FILE K
+
+DESCRIPTION
+    Prints a row for each request: its number, when it is due, its amount in
+    euro, the debtor (record 30, positions 11-40) and the creditor's number for
+    it (record 51, positions 11-20). With K it prints request K with all its
+    records, each below a ruler.
+
+OPTIONS
+    --find TEXT
+        Only the requests that have TEXT somewhere in their row, in capital or
+        small letters.
+
+EXIT STATUS
+    0 if something is shown; 1 if the flow is refused or nothing is found; 2 if
+    it cannot be read.
+
+EXAMPLES
+    mavdesk show house-07.flow --find rossi
+    mavdesk show house-07.flow 17
+";
+
+pub const AMOUNT: &str = "\
+NAME
+    mavdesk amount - give a request another amount
+
+SYNOPSIS
+    mavdesk amount [--yes] FILE K EUROS
+
+DESCRIPTION
+    Shows the amount of request K and the trailer before and after, asks, and
+    saves. EUROS is written as 450 or 450,00 or 450.00, and in no other way.
+
+    While this runs, nobody else can amend the flow with mavdesk: they are told
+    who does, and since when. The flow as it was is kept as FILE.before.
+
+OPTIONS
+    --yes
+        Save without asking.
+
+EXIT STATUS
+    0 if it is saved; 1 if it is refused or not wanted; 2 if the file cannot be
+    read, locked or saved.
+
+EXAMPLE
+    mavdesk amount house-07.flow 17 450,00
+";
+
+pub const WITHDRAW: &str = "\
+NAME
+    mavdesk withdraw - take requests out of a flow
+
+SYNOPSIS
+    mavdesk withdraw [--yes] FILE K..
+
+DESCRIPTION
+    Shows the requests that will go and the trailer before and after, asks, and
+    saves. The numbers K are those that mavdesk show prints; that the later
+    requests get new ones is seen to. All of them are withdrawn, or none.
+
+    While this runs, nobody else can amend the flow with mavdesk: they are told
+    who does, and since when. The flow as it was is kept as FILE.before.
+
+OPTIONS
+    --yes
+        Save without asking.
+
+EXIT STATUS
+    0 if it is saved; 1 if it is refused or not wanted; 2 if the file cannot be
+    read, locked or saved, or a K is named twice.
+
+EXAMPLE
+    mavdesk withdraw house-07.flow 3 17 21
+";
+
+pub const LIST: &str = "\
+NAME
+    mavdesk list - write the request list of a flow
+
+SYNOPSIS
+    mavdesk list [--yes] FLOW LIST
+
+DESCRIPTION
+    Writes the request list of FLOW to the file LIST. If LIST is there already,
+    it is replaced only after a yes, and kept as LIST.before.
+
+OPTIONS
+    --yes
+        Replace without asking.
+
+EXIT STATUS
+    0 if it is saved; 1 if the flow is refused or a file is not to be replaced;
+    2 if a file cannot be read, locked or saved.
+
+EXAMPLE
+    mavdesk list house-07.flow house-07.list
+";
+
+pub const WRITE: &str = "\
+NAME
+    mavdesk write - write the flow of a request list
+
+SYNOPSIS
+    mavdesk write [--yes] LIST FLOW
+
+DESCRIPTION
+    Writes the flow that LIST encodes to the file FLOW. If FLOW is there already,
+    it is replaced only after a yes, and kept as FLOW.before. Where the list is
+    refused, the item is shown at the positions of its record.
+
+OPTIONS
+    --yes
+        Replace without asking.
+
+EXIT STATUS
+    0 if it is saved; 1 if the list is refused or a file is not to be replaced;
+    2 if a file cannot be read, locked or saved.
+
+EXAMPLE
+    mavdesk write house-07.list house-07.flow
+";
+
+pub const EXPLAIN: &str = "\
+NAME
+    mavdesk explain - say what a refusal's number means
+
+SYNOPSIS
+    mavdesk explain [N]
+
+DESCRIPTION
+    Prints what number N means, which place a refusal by it gives, and what to
+    do; without N all of them.
+
+EXIT STATUS
+    0 if there is such a number, else 2.
+
+EXAMPLE
+    mavdesk explain 9
+";

@@ -1,0 +1,71 @@
+//! A flow read back to its request list, and a list written to its flow, as files.
+
+use std::fs;
+use std::io::Write;
+use std::path::Path;
+
+use mav::Accepted;
+
+use crate::euro::shown as euro;
+use crate::failure::{Failure, Outcome};
+use crate::input::read;
+use crate::name::shown;
+use crate::output::{confirm, counted};
+use crate::refusal;
+use crate::save::Target;
+
+/// Writes the request list of a flow to a file.
+pub fn list(flow_named: &Path, list_named: &Path, yes: bool, out: &mut impl Write) -> Outcome {
+    differ(flow_named, list_named)?;
+    let flow = read(flow_named)?;
+    let (numbers, list) = mav::read_back_to_vec(&flow)
+        .map_err(|refusal| refusal::of_flow(&refusal, flow_named, &flow))?;
+    save(list_named, numbers, &list, yes, out)
+}
+
+/// Writes the flow of a request list to a file.
+pub fn write(list_named: &Path, flow_named: &Path, yes: bool, out: &mut impl Write) -> Outcome {
+    differ(list_named, flow_named)?;
+    let list = read(list_named)?;
+    let (numbers, flow) = mav::write_to_vec(&list)
+        .map_err(|refusal| refusal::of_list(&refusal, list_named, &list))?;
+    save(flow_named, numbers, &flow, yes, out)
+}
+
+/// A file cannot become its own list.
+fn differ(from: &Path, to: &Path) -> Outcome {
+    match (fs::canonicalize(from), fs::canonicalize(to)) {
+        (Ok(a), Ok(b)) if a == b => Err(Failure::trouble(format!(
+            "{} and {} are the same file.",
+            shown(from),
+            shown(to)
+        ))),
+        _ => Ok(()),
+    }
+}
+
+/// Saves what was written. A file that stands there already is replaced only where the clerk agrees.
+fn save(named: &Path, numbers: Accepted, bytes: &[u8], yes: bool, out: &mut impl Write) -> Outcome {
+    let target = Target::lock(named)?;
+    let old = target.read()?;
+    if old.is_some() && !yes {
+        let question = format!("{} is there already. Replace it?", shown(named));
+        confirm(out, &question, "not saved: the file is as it was.")?;
+    }
+    target.save(old.as_deref(), bytes)?;
+    let requests = counted(numbers.dispositions, "request", "requests");
+    writeln!(
+        out,
+        "{}: {requests}, {} euro.",
+        shown(named),
+        euro(numbers.cents)
+    )?;
+    if old.is_some() {
+        writeln!(
+            out,
+            "The file as it was is kept as {}.",
+            shown(&target.kept_as())
+        )?;
+    }
+    Ok(())
+}

@@ -1,0 +1,65 @@
+//! The command `mavdesk`: a clerk checks flows of payment requests, looks into them, amends and saves them.
+//!
+//! It is thin. Every judgement of a flow and every change of one is made by the proved library, through the
+//! bindings `mav`; this command reads files, shows what they hold, asks, and saves. What it shows of a flow
+//! is read from bytes that the library has accepted, and what it saves are bytes that the library has left.
+
+#![forbid(unsafe_code)]
+
+mod amend;
+mod arguments;
+mod check;
+mod euro;
+mod explain;
+mod failure;
+mod help;
+mod input;
+mod list;
+mod lock;
+mod name;
+mod output;
+mod progress;
+mod record;
+mod refusal;
+mod request;
+mod save;
+mod show;
+
+use std::io::{self, BufWriter, Write};
+use std::process::ExitCode;
+
+use arguments::Command;
+use failure::Outcome;
+
+fn main() -> ExitCode {
+    let words: Vec<_> = std::env::args_os().skip(1).collect();
+    match arguments::read(&words).and_then(|command| run(&command)) {
+        Ok(()) => ExitCode::SUCCESS,
+        Err(failure) => failure.tell(),
+    }
+}
+
+fn run(command: &Command) -> Outcome {
+    let mut out = BufWriter::new(io::stdout().lock());
+    let out = &mut out;
+    match command {
+        Command::Help(page) => write!(out, "{page}")?,
+        Command::Version => writeln!(out, "mavdesk {}", env!("CARGO_PKG_VERSION"))?,
+        Command::Check(named) => check::check(named, out)?,
+        Command::Table { flow, wanted } => show::table(flow, wanted.as_deref(), out)?,
+        Command::Request { flow, k } => show::request(flow, *k, out)?,
+        Command::Amount {
+            flow,
+            k,
+            cents,
+            yes,
+        } => amend::amount(flow, *k, *cents, *yes, out)?,
+        Command::Withdraw { flow, numbers, yes } => amend::withdraw(flow, numbers, *yes, out)?,
+        Command::List { flow, list, yes } => list::list(flow, list, *yes, out)?,
+        Command::Write { list, flow, yes } => list::write(list, flow, *yes, out)?,
+        Command::Explain(None) => explain::table(out)?,
+        Command::Explain(Some(number)) => explain::number(*number, out)?,
+    }
+    out.flush()?;
+    Ok(())
+}

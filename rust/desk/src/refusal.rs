@@ -1,0 +1,139 @@
+//! A refusal as a clerk needs it: what its number means, and the record with the position marked.
+
+use std::fmt::Write;
+use std::path::Path;
+
+use mav::{ItemKind, Reason, Refusal, RECORD_LENGTH};
+
+use crate::failure::Failure;
+use crate::name::shown;
+use crate::output::counted;
+use crate::record::{characters, drawn, text};
+
+/// The refusal's number and place, as `refused 9 at record 10, position 4`.
+pub fn place(refusal: &Refusal) -> String {
+    let Refusal {
+        reason,
+        record,
+        position,
+    } = refusal;
+    let number = reason.number();
+    match (record, position) {
+        (0, _) => format!("refused {number}"),
+        (item, _) if *reason == Reason::Item => format!("refused {number} at item {item}"),
+        (_, 0) => format!("refused {number} at record {record}"),
+        _ => format!("refused {number} at record {record}, position {position}"),
+    }
+}
+
+/// The same with what the number means. It begins in small letters and has no period.
+pub fn line(refusal: &Refusal) -> String {
+    format!("{}: {}", place(refusal), refusal.reason)
+}
+
+/// The end of a command whose flow is refused.
+pub fn of_flow(refusal: &Refusal, named: &Path, flow: &[u8]) -> Failure {
+    told(refusal, named, &in_flow(refusal, flow))
+}
+
+/// The end of a command whose request list is refused.
+pub fn of_list(refusal: &Refusal, named: &Path, list: &[u8]) -> Failure {
+    told(refusal, named, &in_list(refusal, list))
+}
+
+fn told(refusal: &Refusal, named: &Path, picture: &str) -> Failure {
+    Failure::refused(format!("{}: {}.\n{picture}", shown(named), line(refusal)))
+}
+
+/// What belongs under the line for a flow: the record refused, with the position marked. Where the flow
+/// ended too early it is the last one that there is; where the length is wrong it is the length.
+pub fn in_flow(refusal: &Refusal, flow: &[u8]) -> String {
+    if refusal.reason == Reason::Length {
+        return length(flow.len() as u64);
+    }
+    let records = flow.chunks_exact(RECORD_LENGTH);
+    let count = records.len() as u64;
+    let (number, title) = match refusal.reason {
+        Reason::Ended => (count, format!("Record {count}, the last one:")),
+        _ => (
+            refusal.record,
+            format!("Record {} of {count}:", refusal.record),
+        ),
+    };
+    match nth(flow.chunks_exact(RECORD_LENGTH), number) {
+        Some(record) => picture(&title, record, refusal.position, byte(refusal, record)),
+        None => String::new(),
+    }
+}
+
+/// The length of a flow that is refused for it.
+pub fn length(bytes: u64) -> String {
+    let record = RECORD_LENGTH as u64;
+    format!(
+        "It has {}: {}, and {} more.\n",
+        counted(bytes, "byte", "bytes"),
+        counted(bytes / record, "record", "records"),
+        counted(bytes % record, "byte", "bytes"),
+    )
+}
+
+/// What belongs under the line for a request list: what the item gives to the record refused, at the
+/// positions of the record.
+pub fn in_list(refusal: &Refusal, list: &[u8]) -> String {
+    let number = refusal.record;
+    if number == 0 {
+        return String::new();
+    }
+    if refusal.reason == Reason::Item {
+        return cut_item(number, list);
+    }
+    let found = nth(mav::items(list), number)
+        .and_then(|item| Some((ItemKind::of(*item.first()?)?, item.get(1..)?)));
+    let Some((kind, body)) = found else {
+        let items = counted(number - 1, "item", "items");
+        return format!("The list has {items}, and a flow may not end there.\n");
+    };
+    let title = format!(
+        "Item {number}, kind {}, at the positions of its record {}:",
+        char::from(kind.kind),
+        text(&kind.record_type),
+    );
+    let record = kind.placed(body);
+    picture(&title, &record, refusal.position, byte(refusal, &record))
+}
+
+/// The item that is of unknown kind or cut short: all that is left of the list, up to a record's length.
+fn cut_item(number: u64, list: &[u8]) -> String {
+    let whole: usize = mav::items(list).map(<[u8]>::len).sum();
+    let rest = &list[whole..];
+    let seen = &rest[..rest.len().min(RECORD_LENGTH)];
+    format!(
+        "Item {number} begins at byte {} of the list, and from there it has {}:\n  |{}|\n",
+        whole + 1,
+        counted(rest.len() as u64, "byte", "bytes"),
+        characters(seen),
+    )
+}
+
+/// The byte that is no plain character, in numbers, since it cannot be shown.
+fn byte(refusal: &Refusal, record: &[u8]) -> Option<u8> {
+    let index = usize::try_from(refusal.position.checked_sub(1)?).ok()?;
+    let byte = record.get(index)?;
+    (refusal.reason == Reason::Byte).then_some(*byte)
+}
+
+fn picture(title: &str, record: &[u8], position: u64, byte: Option<u8>) -> String {
+    let mut picture = format!("{title}\n{}", drawn(record, position));
+    if let Some(byte) = byte {
+        let _ = writeln!(
+            picture,
+            "The byte at {position} is {byte} (hexadecimal {byte:02X}), shown as ?."
+        );
+    }
+    picture
+}
+
+/// The element with this number, counted from 1.
+fn nth<T>(mut elements: impl Iterator<Item = T>, number: u64) -> Option<T> {
+    elements.nth(usize::try_from(number.checked_sub(1)?).ok()?)
+}

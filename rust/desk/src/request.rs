@@ -1,0 +1,110 @@
+//! What is shown of a request. All of it is read from a flow that the library has accepted: its records
+//! stand in the order of document 01 and its fields keep the table of checks (`GrammarExact`).
+
+use mav::RECORD_LENGTH;
+
+use crate::euro;
+use crate::record::{field, record_type, text};
+
+/// A request as a row of the table.
+pub struct Request {
+    pub number: u64,
+    pub cents: u64,
+    /// Number, due date, amount, debtor, the creditor's number: the cells of its row.
+    cells: [String; 5],
+}
+
+/// The titles over the cells.
+const TITLES: [&str; 5] = ["NUMBER", "DUE", "AMOUNT", "DEBTOR", "REFERENCE"];
+
+impl Request {
+    /// The request with this number whose records are this part of a flow.
+    pub fn of(part: &[u8], number: u64) -> Request {
+        let opening = &part[..RECORD_LENGTH];
+        let of_type = |wanted: &[u8]| {
+            let found = part
+                .chunks_exact(RECORD_LENGTH)
+                .find(|record| record_type(record) == wanted);
+            found.expect("every request of an accepted flow has records 30 and 51")
+        };
+        let cents = mav::amount(field(opening, 34, 46))
+            .expect("the amount of a request of an accepted flow is digits");
+        let cells = [
+            number.to_string(),
+            date(field(opening, 23, 28)),
+            euro::shown(cents),
+            text(field(of_type(b"30"), 11, 40)),
+            text(field(of_type(b"51"), 11, 20)),
+        ];
+        Request {
+            number,
+            cents,
+            cells,
+        }
+    }
+
+    /// Whether one of the cells has the text, in capital or small letters.
+    pub fn has(&self, wanted: &str) -> bool {
+        let wanted = wanted.to_ascii_uppercase();
+        let mut cells = self.cells.iter();
+        cells.any(|cell| cell.to_ascii_uppercase().contains(&wanted))
+    }
+
+    /// Its row of the table.
+    pub fn row(&self) -> String {
+        line(&self.cells.each_ref().map(String::as_str))
+    }
+
+    /// The request in words.
+    pub fn named(&self) -> String {
+        let [number, due, _, debtor, reference] = &self.cells;
+        let reference = match reference.as_str() {
+            "" => String::new(),
+            text => format!(", reference {text}"),
+        };
+        format!("Request {number}, due {due}, {debtor}{reference}")
+    }
+}
+
+/// The line over the rows.
+pub fn titles() -> String {
+    line(&TITLES)
+}
+
+fn line([number, due, amount, debtor, reference]: &[&str; 5]) -> String {
+    format!("{number:>7}  {due:<10}  {amount:>17}  {debtor:<30}  {reference}")
+        .trim_end()
+        .to_owned()
+}
+
+/// The requests of an accepted flow, in order.
+pub fn requests(flow: &[u8]) -> impl Iterator<Item = Request> + '_ {
+    let mut records = flow.chunks_exact(RECORD_LENGTH).enumerate();
+    let mut starts = std::iter::from_fn(move || {
+        records
+            .find(|(_, record)| {
+                [b"14", b"EF"]
+                    .iter()
+                    .any(|wanted| record_type(record) == *wanted)
+            })
+            .map(|(index, _)| index * RECORD_LENGTH)
+    });
+    // A request ends where the next one begins, and the last one at the trailer.
+    let mut start = starts.next();
+    let mut number = 0;
+    std::iter::from_fn(move || {
+        let (first, end) = (start?, starts.next()?);
+        start = Some(end);
+        number += 1;
+        Some(Request::of(&flow[first..end], number))
+    })
+}
+
+/// A date GGMMAA as day, month and year, of the years 2000 to 2099.
+pub fn date(digits: &[u8]) -> String {
+    let digits = text(digits);
+    match (digits.get(..2), digits.get(2..4), digits.get(4..)) {
+        (Some(day), Some(month), Some(year)) => format!("{day}/{month}/20{year}"),
+        _ => digits,
+    }
+}

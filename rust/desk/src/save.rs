@@ -1,0 +1,187 @@
+//! Saving a file so that at every moment either its old version stands under its name or its new one, whole.
+//!
+//! The new version is written to a new file beside the old one, flushed to the disk, read back and compared.
+//! The old version gets a second name, `NAME.before`. Then the new file is renamed over the old one, which
+//! the system does in one step, and the folder is flushed. The file under its name is never written to.
+
+use std::fs::{self, File, OpenOptions};
+use std::io::{self, ErrorKind, Write};
+use std::os::unix::fs::{fchown, MetadataExt};
+use std::path::{Path, PathBuf};
+
+use crate::failure::{cause, Failure, Outcome};
+use crate::input::{holds, read_open};
+use crate::lock::{Lock, Refused};
+use crate::name::{self, shown};
+
+/// A file that no other `mavdesk` can save, from the moment it is locked until this is dropped.
+pub struct Target {
+    /// As the clerk wrote it.
+    named: PathBuf,
+    /// The file itself, where the clerk's name is a link to it.
+    path: PathBuf,
+    /// The file as it was when it was locked; nothing where there was none.
+    old: Option<File>,
+    _lock: Lock,
+}
+
+impl Target {
+    /// Takes the lock of a file, which there may not be yet. One that may not be written to is refused: that
+    /// its folder lets a new file take its name is not enough.
+    pub fn lock(named: &Path) -> Outcome<Target> {
+        let unchanged = |error| Failure::of_file(named, "cannot be changed", &error);
+        let path = real(named).map_err(unchanged)?;
+        let lock = Lock::take(&name::lock(&path)).map_err(|refused| match refused {
+            Refused::Failed(error) => Failure::of_file(named, "cannot be locked", &error),
+            Refused::Held(holder) => Failure::trouble(format!(
+                "{} is locked by {holder}; nothing was changed, so try again when they are done.",
+                shown(named)
+            )),
+        })?;
+        Ok(Target {
+            named: named.to_owned(),
+            old: open_old(&path).map_err(unchanged)?,
+            path,
+            _lock: lock,
+        })
+    }
+
+    /// The bytes of the file as it was locked, or nothing where there was none.
+    pub fn read(&self) -> Outcome<Option<Vec<u8>>> {
+        let Some(file) = &self.old else {
+            return Ok(None);
+        };
+        let mut bytes = Vec::new();
+        match read_open(file, &mut bytes) {
+            Ok(()) => Ok(Some(bytes)),
+            Err(unread) => Err(unread.failure(&self.named)),
+        }
+    }
+
+    /// Puts the new version in the place of the old one, which must still be what was read.
+    pub fn save(&self, old: Option<&[u8]>, new: &[u8]) -> Outcome {
+        let new_path = name::new(&self.path);
+        let renamed = self
+            .prepare(old, new)
+            .and_then(|()| fs::rename(&new_path, &self.path));
+        if let Err(error) = renamed {
+            // What cannot be removed now is removed by the next save.
+            let _ = fs::remove_file(&new_path);
+            let doing = match old {
+                Some(_) => "cannot be saved and is as it was",
+                None => "cannot be saved",
+            };
+            return Err(Failure::of_file(&self.named, doing, &error));
+        }
+        self.flush_folder().map_err(|error| {
+            Failure::trouble(format!(
+                "{} is saved, but its folder was not flushed to the disk: {}.",
+                shown(&self.named),
+                cause(&error)
+            ))
+        })
+    }
+
+    /// The name under which the old version is kept, as the clerk can use it.
+    pub fn kept_as(&self) -> PathBuf {
+        if self.named.is_symlink() {
+            name::before(&self.path)
+        } else {
+            name::before(&self.named)
+        }
+    }
+
+    /// Everything before the renaming: the new version on the disk, the old one under its second name.
+    fn prepare(&self, old: Option<&[u8]>, new: &[u8]) -> io::Result<()> {
+        self.write_whole(&name::new(&self.path), new)?;
+        let unchanged = match old {
+            Some(old) => holds(&self.path, old)?,
+            None => !self.path.try_exists()?,
+        };
+        if !unchanged {
+            return Err(io::Error::other(
+                "another program has changed it since it was read",
+            ));
+        }
+        old.map_or(Ok(()), |old| self.keep(old))
+    }
+
+    /// Gives the old version the name `NAME.before` too. On a disk without hard links it is a copy.
+    fn keep(&self, old: &[u8]) -> io::Result<()> {
+        let second = name::old(&self.path);
+        remove_if_there(&second)?;
+        if fs::hard_link(&self.path, &second).is_err() {
+            self.write_whole(&second, old)?;
+        }
+        fs::rename(&second, name::before(&self.path))?;
+        // A renaming onto another name of the same file leaves both.
+        remove_if_there(&second)?;
+        self.flush_folder()
+    }
+
+    /// Writes a new file, flushes it to the disk, reads it back and compares. It gets the permissions of the
+    /// old version and, where the system allows it, its group.
+    fn write_whole(&self, path: &Path, bytes: &[u8]) -> io::Result<()> {
+        remove_if_there(path)?;
+        let mut file = OpenOptions::new().write(true).create_new(true).open(path)?;
+        if let Some(old) = &self.old {
+            let metadata = old.metadata()?;
+            let _ = fchown(&file, None, Some(metadata.gid()));
+            file.set_permissions(metadata.permissions())?;
+        }
+        file.write_all(bytes)?;
+        file.sync_all()?;
+        match holds(path, bytes)? {
+            true => Ok(()),
+            false => Err(io::Error::other(
+                "the disk gives back other bytes than were written",
+            )),
+        }
+    }
+
+    /// Flushes the folder's names to the disk, where the system has that.
+    fn flush_folder(&self) -> io::Result<()> {
+        let folder = File::open(self.path.parent().unwrap_or(Path::new("/")))?;
+        match folder.sync_all().map_err(|error| error.kind()) {
+            Err(ErrorKind::InvalidInput | ErrorKind::Unsupported) => Ok(()),
+            flushed => flushed.map_err(io::Error::from),
+        }
+    }
+}
+
+/// The file at a path, if there is one and it may be written to. Nothing is written to it.
+fn open_old(path: &Path) -> io::Result<Option<File>> {
+    match OpenOptions::new().read(true).write(true).open(path) {
+        Ok(file) if file.metadata()?.is_file() => Ok(Some(file)),
+        Ok(_) => Err(io::Error::other("it is not a plain file")),
+        Err(error) if error.kind() == ErrorKind::NotFound => Ok(None),
+        Err(error) => Err(error),
+    }
+}
+
+fn remove_if_there(path: &Path) -> io::Result<()> {
+    match fs::remove_file(path) {
+        Err(error) if error.kind() == ErrorKind::NotFound => Ok(()),
+        removed => removed,
+    }
+}
+
+/// The file that a name stands for, through links; of a file that is not there yet, its place.
+fn real(named: &Path) -> io::Result<PathBuf> {
+    match fs::canonicalize(named) {
+        Err(error) if error.kind() == ErrorKind::NotFound => {}
+        Ok(path) if path.is_dir() => return Err(ErrorKind::IsADirectory.into()),
+        found => return found,
+    }
+    let name = named.file_name().ok_or(ErrorKind::NotFound)?;
+    let folder = match named.parent() {
+        Some(folder) if !folder.as_os_str().is_empty() => folder,
+        _ => Path::new("."),
+    };
+    match fs::canonicalize(folder) {
+        Err(error) if error.kind() == ErrorKind::NotFound => {
+            Err(io::Error::other("there is no such folder"))
+        }
+        found => Ok(found?.join(name)),
+    }
+}

@@ -1,0 +1,133 @@
+//! What the tests of the command share: a folder of their own, and the command run in it.
+
+// Each file of tests is a program of its own and uses some of this.
+#![allow(dead_code)]
+
+use std::ffi::OsStr;
+use std::fs;
+use std::io::Write;
+use std::path::{Path, PathBuf};
+use std::process::{Command, Output, Stdio};
+use std::sync::atomic::{AtomicU32, Ordering};
+
+/// A new folder, which is removed with all in it when this is dropped.
+pub struct Folder(PathBuf);
+
+impl Folder {
+    pub fn new() -> Folder {
+        static NEXT: AtomicU32 = AtomicU32::new(0);
+        let number = NEXT.fetch_add(1, Ordering::Relaxed);
+        let name = format!("mavdesk-test-{}-{number}", std::process::id());
+        let path = std::env::temp_dir().join(name);
+        fs::create_dir(&path).unwrap();
+        Folder(path)
+    }
+
+    /// A folder with copies of these samples.
+    pub fn with(samples: &[&str]) -> Folder {
+        let folder = Folder::new();
+        for name in samples {
+            fs::write(folder.path(name), sample(name)).unwrap();
+        }
+        folder
+    }
+
+    /// The path of a file in it.
+    pub fn path(&self, name: &str) -> PathBuf {
+        self.0.join(name)
+    }
+
+    /// The bytes of a file in it.
+    pub fn read(&self, name: &str) -> Vec<u8> {
+        fs::read(self.path(name)).unwrap()
+    }
+
+    /// The names of all files in it, in order.
+    pub fn names(&self) -> Vec<String> {
+        let entries = fs::read_dir(&self.0).unwrap();
+        let mut names: Vec<String> = entries
+            .map(|entry| entry.unwrap().file_name().into_string().unwrap())
+            .collect();
+        names.sort();
+        names
+    }
+
+    /// The command, to be run in the folder with these words.
+    pub fn command<S: AsRef<OsStr>>(&self, words: &[S]) -> Command {
+        let mut command = Command::new(env!("CARGO_BIN_EXE_mavdesk"));
+        command
+            .args(words)
+            .current_dir(&self.0)
+            .env("LOGNAME", "anna");
+        command
+    }
+
+    /// Runs the command with nothing to read.
+    pub fn run<S: AsRef<OsStr>>(&self, words: &[S]) -> Ended {
+        self.answer(words, "")
+    }
+
+    /// Runs the command and gives it a text to read.
+    pub fn answer<S: AsRef<OsStr>>(&self, words: &[S], text: &str) -> Ended {
+        let mut child = self
+            .command(words)
+            .stdin(Stdio::piped())
+            .stdout(Stdio::piped())
+            .stderr(Stdio::piped())
+            .spawn()
+            .unwrap();
+        // A command that does not ask ends without reading.
+        let _ = child.stdin.take().unwrap().write_all(text.as_bytes());
+        Ended::of(child.wait_with_output().unwrap())
+    }
+}
+
+impl Drop for Folder {
+    fn drop(&mut self) {
+        let _ = fs::remove_dir_all(&self.0);
+    }
+}
+
+/// A command that has ended: its exit status, none where a signal ended it, and what it has written.
+#[derive(Debug, Eq, PartialEq)]
+pub struct Ended {
+    pub status: Option<i32>,
+    pub out: String,
+    pub err: String,
+}
+
+impl Ended {
+    pub fn of(output: Output) -> Ended {
+        Ended {
+            status: output.status.code(),
+            out: String::from_utf8(output.stdout).unwrap(),
+            err: String::from_utf8(output.stderr).unwrap(),
+        }
+    }
+
+    /// All was done, and this is all that was printed.
+    #[track_caller]
+    pub fn printed(&self, out: &str) {
+        assert_eq!(self.err, "");
+        assert_eq!(self.out, out);
+        assert_eq!(self.status, Some(0));
+    }
+
+    /// It ended with this status and this on standard error, and printed nothing else.
+    #[track_caller]
+    pub fn failed(&self, status: i32, err: &str) {
+        assert_eq!(self.err, err);
+        assert_eq!(self.out, "");
+        assert_eq!(self.status, Some(status));
+    }
+}
+
+/// The bytes of a sample.
+pub fn sample(name: &str) -> Vec<u8> {
+    fs::read(samples().join(name)).unwrap()
+}
+
+/// The folder of the samples.
+pub fn samples() -> PathBuf {
+    Path::new(env!("CARGO_MANIFEST_DIR")).join("../../samples")
+}
