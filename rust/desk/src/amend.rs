@@ -3,12 +3,12 @@
 use std::io::Write;
 use std::path::Path;
 
-use mav::{Accepted, Reason, Refusal};
+use mav::{Accepted, Refusal};
 
 use crate::euro::{grouped, shown as euro};
 use crate::failure::{Failure, Outcome};
 use crate::name::shown;
-use crate::output::confirm;
+use crate::output::{confirm, saved};
 use crate::refusal;
 use crate::request::{titles, Request};
 use crate::save::Target;
@@ -104,16 +104,7 @@ impl<'a> Open<'a> {
     /// What the clerk is told where the library refuses the amendment of request `k`.
     fn refused(&self, refusal: &Refusal, k: u64) -> Failure {
         let count = self.numbers.dispositions;
-        let why = match refusal.reason {
-            Reason::NoSuchDisposition => format!("; it has the requests 1 to {count}"),
-            Reason::OnlyDisposition if count > 1 => "; all that it has are named".to_owned(),
-            _ => String::new(),
-        };
-        Failure::refused(format!(
-            "request {k} of {}: {}{why}; nothing was changed.",
-            shown(self.named),
-            refusal::line(refusal),
-        ))
+        refusal::of_request(refusal, self.named, k, count, "; nothing was changed")
     }
 
     /// Shows what will change, asks, and saves.
@@ -135,12 +126,7 @@ impl<'a> Open<'a> {
         }
         out.flush()?;
         self.target.save(Some(&self.flow), amended)?;
-        writeln!(
-            out,
-            "Saved. The flow as it was is kept as {}.",
-            shown(&self.target.kept_as())
-        )?;
-        Ok(())
+        saved(out, "flow", Some(&self.target.kept_as()))
     }
 }
 

@@ -6,7 +6,7 @@ use std::path::PathBuf;
 use crate::euro;
 use crate::failure::{Failure, Outcome};
 use crate::help;
-use crate::name::plain;
+use crate::name::told;
 
 /// What a command line asks for.
 #[derive(Debug, Eq, PartialEq)]
@@ -65,6 +65,7 @@ fn known(name: &OsStr) -> Outcome<(&'static str, &'static [&'static str])> {
         Some("list") => (help::LIST, &["--yes"]),
         Some("write") => (help::WRITE, &["--yes"]),
         Some("explain") => (help::EXPLAIN, &[]),
+        Some("help") => (help::ALL, &[]),
         _ => {
             return Err(Failure::trouble(format!(
                 "there is no command {}; mavdesk --help has them.",
@@ -82,9 +83,11 @@ pub fn read(words: &[OsString]) -> Outcome<Command> {
         ));
     };
     match (name.to_str(), rest) {
-        (Some("--version"), []) => return Ok(Command::Version),
+        (Some("--version"), _) => return Ok(Command::Version),
         (Some("--help" | "-h" | "help"), []) => return Ok(Command::Help(help::ALL)),
-        (Some("help"), [name]) => return known(name).map(|(page, _)| Command::Help(page)),
+        (Some("--help" | "-h" | "help"), [name, ..]) => {
+            return known(name).map(|(page, _)| Command::Help(page))
+        }
         _ => {}
     }
     let (page, options) = known(name)?;
@@ -124,7 +127,7 @@ fn sorted(name: &str, options: &[&str], rest: &[OsString]) -> Outcome<Words> {
                 words.find = Some(wanted.to_owned());
             }
             Some(option) if option.starts_with("--") => {
-                let option = plain(option);
+                let option = told(option.as_ref());
                 return Err(Failure::trouble(format!("{name} has no option {option}.")));
             }
             _ => words.operands.push(word.clone()),
@@ -197,12 +200,4 @@ fn parsed(word: &OsStr, read: impl Fn(&str) -> Option<u64>, what: &str) -> Outco
     word.to_str()
         .and_then(read)
         .ok_or_else(|| Failure::trouble(format!("{} is not {what}.", told(word))))
-}
-
-/// A word as it is shown.
-fn told(word: &OsStr) -> String {
-    match plain(&word.to_string_lossy()) {
-        word if word.is_empty() => "\"\"".to_owned(),
-        word => word,
-    }
 }

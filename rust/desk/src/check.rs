@@ -160,7 +160,9 @@ fn files_of(folder: &Path) -> std::io::Result<Vec<OsString>> {
     let mut names = Vec::new();
     for entry in fs::read_dir(folder)? {
         let name = entry?.file_name();
-        if !is_no_flow(&name) && !folder.join(&name).is_dir() {
+        // What cannot be looked at is judged too, so that it is told.
+        let is_file = fs::metadata(folder.join(&name)).map_or(true, |found| found.is_file());
+        if is_file && !is_no_flow(&name) {
             names.push(name);
         }
     }
@@ -205,6 +207,8 @@ fn in_order(count: usize, verdicts: &mpsc::Receiver<(usize, Verdict)>) -> Vec<Ve
         }
     }
     found.sort_unstable_by_key(|(index, _)| *index);
+    let indices = found.iter().map(|(index, _)| *index);
+    assert!(indices.eq(0..count), "every flow is judged once");
     found.into_iter().map(|(_, verdict)| verdict).collect()
 }
 

@@ -13,16 +13,20 @@ pub fn read(text: &str) -> Option<u64> {
     if needless_zero || cents.is_some_and(|cents| cents.len() != 2) {
         return None;
     }
-    number(whole)?
-        .saturating_mul(100)
-        .saturating_add(cents.map_or(Some(0), number)?)
-        .into()
+    let cents = cents.map_or(Some(0), number)?;
+    is_digits(whole).then(|| {
+        let euros = number(whole).unwrap_or(u64::MAX);
+        euros.saturating_mul(100).saturating_add(cents)
+    })
 }
 
-/// The number of a text of digits, as the largest one where it has too many.
+/// The number of a text of digits, if 64 bits hold it.
 pub fn number(text: &str) -> Option<u64> {
-    let digits = !text.is_empty() && text.bytes().all(|byte| byte.is_ascii_digit());
-    digits.then(|| text.parse().unwrap_or(u64::MAX))
+    is_digits(text).then(|| text.parse().ok())?
+}
+
+fn is_digits(text: &str) -> bool {
+    !text.is_empty() && text.bytes().all(|byte| byte.is_ascii_digit())
 }
 
 /// An amount in euro, as `1.234.567,89`.
@@ -79,6 +83,8 @@ mod tests {
         assert_eq!(read("184467440737095516,16"), Some(u64::MAX));
         assert_eq!(read("184467440737095516,15"), Some(u64::MAX));
         assert_eq!(read("99999999999999999999999999"), Some(u64::MAX));
+        assert_eq!(number("18446744073709551615"), Some(u64::MAX));
+        assert_eq!(number("18446744073709551616"), None);
     }
 
     #[test]

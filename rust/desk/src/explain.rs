@@ -64,7 +64,7 @@ fn place(reason: Reason) -> &'static str {
 /// What a clerk can do.
 fn remedy(reason: Reason) -> &'static str {
     match reason {
-        Reason::Length => "The file was cut short or is no flow. Have it sent again.",
+        Reason::Length => "It was cut short or is no flow. The longest has 9.999.999 records.",
         Reason::Byte => "Often an accent, a tab or a line end. Have it sent in plain characters.",
         Reason::RecordType => "A record is missing before it, or it stands there by mistake.",
         Reason::Ended => "The end of the flow is lost. Have it sent again.",

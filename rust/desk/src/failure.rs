@@ -89,11 +89,10 @@ pub fn cause(error: &io::Error) -> String {
         ErrorKind::OutOfMemory => "there is not enough memory",
         _ => {
             let text = error.to_string();
-            return text
-                .split(" (os error")
-                .next()
-                .unwrap_or("unknown")
-                .to_lowercase();
+            return match text.split_once(" (os error") {
+                Some((system, _)) => system.to_lowercase(),
+                None => text,
+            };
         }
     };
     words.to_owned()

@@ -41,8 +41,8 @@ DESCRIPTION
     shown below a ruler, with the position marked. The flows are judged on all
     cores at once, and at a terminal a line tells how far it is.
 
-    FILE may be a folder: all files in it are judged but hidden ones and those
-    that end in .before or .list. Folders in it are not looked into.
+    FILE may be a folder: all plain files in it are judged but hidden ones and
+    those that end in .before or .list. Folders in it are not looked into.
 
 EXIT STATUS
     0 only if all flows are accepted; 1 if one is refused; 2 if one cannot be
@@ -142,7 +142,7 @@ SYNOPSIS
     mavdesk list [--yes] FLOW LIST
 
 DESCRIPTION
-    Writes the request list of FLOW to the file LIST. If LIST is there already,
+    Writes the request list of FLOW to the file LIST. If LIST is there already
     it is replaced only after a yes, and kept as LIST.before.
 
 OPTIONS
@@ -165,7 +165,7 @@ SYNOPSIS
     mavdesk write [--yes] LIST FLOW
 
 DESCRIPTION
-    Writes the flow that LIST encodes to the file FLOW. If FLOW is there already,
+    Writes the flow that LIST encodes to the file FLOW. If FLOW is there already
     it is replaced only after a yes, and kept as FLOW.before. Where the list is
     refused, the item is shown at the positions of its record.
 

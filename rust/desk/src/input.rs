@@ -22,7 +22,7 @@ impl Unread {
     pub fn failure(self, path: &Path) -> Failure {
         match self {
             Unread::TooLong(length) => Failure::refused(format!(
-                "{} is not read: it has {} bytes, and the longest flow has {}.",
+                "{} is not read: it has {} bytes, and the longest flow has {} (number 1).",
                 shown(path),
                 grouped(length),
                 grouped(MAX_FLOW_LENGTH as u64),

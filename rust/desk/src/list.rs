@@ -10,7 +10,7 @@ use crate::euro::shown as euro;
 use crate::failure::{Failure, Outcome};
 use crate::input::read;
 use crate::name::shown;
-use crate::output::{confirm, counted};
+use crate::output::{confirm, counted, saved};
 use crate::refusal;
 use crate::save::Target;
 
@@ -48,24 +48,14 @@ fn differ(from: &Path, to: &Path) -> Outcome {
 fn save(named: &Path, numbers: Accepted, bytes: &[u8], yes: bool, out: &mut impl Write) -> Outcome {
     let target = Target::lock(named)?;
     let old = target.read()?;
+    let requests = counted(numbers.dispositions, "request", "requests");
+    let (shown_as, total) = (shown(named), euro(numbers.cents));
+    writeln!(out, "{shown_as}: {requests}, {total} euro")?;
     if old.is_some() && !yes {
-        let question = format!("{} is there already. Replace it?", shown(named));
+        let question = format!("{shown_as} is there already. Replace it?");
         confirm(out, &question, "not saved: the file is as it was.")?;
     }
+    out.flush()?;
     target.save(old.as_deref(), bytes)?;
-    let requests = counted(numbers.dispositions, "request", "requests");
-    writeln!(
-        out,
-        "{}: {requests}, {} euro.",
-        shown(named),
-        euro(numbers.cents)
-    )?;
-    if old.is_some() {
-        writeln!(
-            out,
-            "The file as it was is kept as {}.",
-            shown(&target.kept_as())
-        )?;
-    }
-    Ok(())
+    saved(out, "file", old.map(|_| target.kept_as()).as_deref())
 }

@@ -3,16 +3,26 @@
 use std::ffi::{OsStr, OsString};
 use std::path::{Path, PathBuf};
 
-/// A file's name for a terminal: what could move the cursor or change colours is spelled out.
+/// A file's name for a terminal.
 pub fn shown(path: &Path) -> String {
-    plain(&path.to_string_lossy())
+    told(path.as_os_str())
 }
 
-/// A text in which every control character is spelled out.
+/// A word of the command line for a terminal, in quotation marks where its ends could not be seen.
+pub fn told(word: &OsStr) -> String {
+    let word = plain(&word.to_string_lossy());
+    match word.trim().len() == word.len() && !word.is_empty() {
+        true => word,
+        false => format!("\"{word}\""),
+    }
+}
+
+/// A text in which all that moves the cursor, changes colours or turns the direction is spelled out.
 pub fn plain(text: &str) -> String {
     let mut plain = String::with_capacity(text.len());
     for character in text.chars() {
-        if character.is_control() {
+        let turns = matches!(character, '\u{200e}'..='\u{200f}' | '\u{202a}'..='\u{202e}' | '\u{2066}'..='\u{2069}');
+        if character.is_control() || turns {
             plain.extend(character.escape_default());
         } else {
             plain.push(character);
@@ -81,6 +91,9 @@ mod tests {
     #[test]
     fn a_name_cannot_move_the_cursor() {
         assert_eq!(shown(Path::new("a\u{1b}[2Jb\nc")), "a\\u{1b}[2Jb\\nc");
+        assert_eq!(shown(Path::new("a\u{202e}wolf.b")), "a\\u{202e}wolf.b");
         assert_eq!(shown(Path::new("casa è.flow")), "casa è.flow");
+        assert_eq!(shown(Path::new("")), "\"\"");
+        assert_eq!(shown(Path::new("a ")), "\"a \"");
     }
 }

@@ -1,8 +1,11 @@
 //! Standard output, and the question before a save.
 
 use std::io::{self, BufRead, IsTerminal, Write};
+use std::path::Path;
 
+use crate::euro::grouped;
 use crate::failure::{Failure, Outcome};
+use crate::name::shown;
 
 /// Asks whether to go on, and takes `y` or `yes` for yes. Everything written before is seen first; where
 /// nobody answers, the answer is no.
@@ -22,8 +25,18 @@ pub fn confirm(out: &mut impl Write, question: &str, otherwise: &str) -> Outcome
     }
 }
 
+/// Says that a file is saved, and where its old version is kept, if it had one.
+pub fn saved(out: &mut impl Write, what: &str, kept_as: Option<&Path>) -> Outcome {
+    write!(out, "Saved.")?;
+    if let Some(path) = kept_as {
+        write!(out, " The {what} as it was is kept as {}.", shown(path))?;
+    }
+    writeln!(out)?;
+    Ok(())
+}
+
 /// So many things, with the word for one or for several.
 pub fn counted(number: u64, one: &str, several: &str) -> String {
     let word = if number == 1 { one } else { several };
-    format!("{} {word}", crate::euro::grouped(number))
+    format!("{} {word}", grouped(number))
 }

@@ -5,7 +5,7 @@ use std::fmt::Write;
 use mav::RECORD_LENGTH;
 
 /// So many positions stand in a row, so that a row fits a terminal of eighty columns.
-const ROW: usize = 60;
+pub const ROW: usize = 60;
 
 /// The bytes at the positions `first` to `last` of a record, counted from 1 as in document 01.
 pub fn field(record: &[u8], first: usize, last: usize) -> &[u8] {

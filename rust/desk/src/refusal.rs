@@ -5,10 +5,11 @@ use std::path::Path;
 
 use mav::{ItemKind, Reason, Refusal, RECORD_LENGTH};
 
+use crate::euro::grouped;
 use crate::failure::Failure;
 use crate::name::shown;
 use crate::output::counted;
-use crate::record::{characters, drawn, text};
+use crate::record::{characters, drawn, text, ROW};
 
 /// The refusal's number and place, as `refused 9 at record 10, position 4`.
 pub fn place(refusal: &Refusal) -> String {
@@ -36,6 +37,18 @@ pub fn of_flow(refusal: &Refusal, named: &Path, flow: &[u8]) -> Failure {
     told(refusal, named, &in_flow(refusal, flow))
 }
 
+/// The end of a command that is refused request `k` of an accepted flow with so many, and what else to say.
+pub fn of_request(refusal: &Refusal, named: &Path, k: u64, count: u64, also: &str) -> Failure {
+    let why = match (refusal.reason, count) {
+        (Reason::NoSuchDisposition, 1) => "; it has request 1 alone".to_owned(),
+        (Reason::NoSuchDisposition, _) => format!("; it has the requests 1 to {count}"),
+        (Reason::OnlyDisposition, 2..) => "; all that it has are named".to_owned(),
+        _ => String::new(),
+    };
+    let (named, line) = (shown(named), line(refusal));
+    Failure::refused(format!("request {k} of {named}: {line}{why}{also}."))
+}
+
 /// The end of a command whose request list is refused.
 pub fn of_list(refusal: &Refusal, named: &Path, list: &[u8]) -> Failure {
     told(refusal, named, &in_list(refusal, list))
@@ -60,7 +73,7 @@ pub fn in_flow(refusal: &Refusal, flow: &[u8]) -> String {
             format!("Record {} of {count}:", refusal.record),
         ),
     };
-    match nth(flow.chunks_exact(RECORD_LENGTH), number) {
+    match nth(records, number) {
         Some(record) => picture(&title, record, refusal.position, byte(refusal, record)),
         None => String::new(),
     }
@@ -102,16 +115,15 @@ pub fn in_list(refusal: &Refusal, list: &[u8]) -> String {
     picture(&title, &record, refusal.position, byte(refusal, &record))
 }
 
-/// The item that is of unknown kind or cut short: all that is left of the list, up to a record's length.
+/// The item that is of unknown kind or cut short: what is left of the list, as much as a row holds.
 fn cut_item(number: u64, list: &[u8]) -> String {
     let whole: usize = mav::items(list).map(<[u8]>::len).sum();
     let rest = &list[whole..];
-    let seen = &rest[..rest.len().min(RECORD_LENGTH)];
     format!(
         "Item {number} begins at byte {} of the list, and from there it has {}:\n  |{}|\n",
-        whole + 1,
+        grouped(whole as u64 + 1),
         counted(rest.len() as u64, "byte", "bytes"),
-        characters(seen),
+        characters(&rest[..rest.len().min(ROW)]),
     )
 }
 

@@ -72,7 +72,7 @@ pub fn titles() -> String {
 }
 
 fn line([number, due, amount, debtor, reference]: &[&str; 5]) -> String {
-    format!("{number:>7}  {due:<10}  {amount:>17}  {debtor:<30}  {reference}")
+    format!("{number:>7}  {due:<10} {amount:>17}  {debtor:<30} {reference}")
         .trim_end()
         .to_owned()
 }

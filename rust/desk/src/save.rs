@@ -14,6 +14,19 @@ use crate::input::{holds, read_open};
 use crate::lock::{Lock, Refused};
 use crate::name::{self, shown};
 
+/// Why a file was not saved.
+enum Unsaved {
+    /// It is no longer what was read, and no longer ours to replace.
+    Changed,
+    Failed(io::Error),
+}
+
+impl From<io::Error> for Unsaved {
+    fn from(error: io::Error) -> Unsaved {
+        Unsaved::Failed(error)
+    }
+}
+
 /// A file that no other `mavdesk` can save, from the moment it is locked until this is dropped.
 pub struct Target {
     /// As the clerk wrote it.
@@ -60,19 +73,23 @@ impl Target {
 
     /// Puts the new version in the place of the old one, which must still be what was read.
     pub fn save(&self, old: Option<&[u8]>, new: &[u8]) -> Outcome {
-        let new_path = name::new(&self.path);
-        let renamed = self
-            .prepare(old, new)
-            .and_then(|()| fs::rename(&new_path, &self.path));
-        if let Err(error) = renamed {
+        self.replace(old, new).map_err(|unsaved| {
             // What cannot be removed now is removed by the next save.
-            let _ = fs::remove_file(&new_path);
-            let doing = match old {
-                Some(_) => "cannot be saved and is as it was",
-                None => "cannot be saved",
-            };
-            return Err(Failure::of_file(&self.named, doing, &error));
-        }
+            let _ = fs::remove_file(name::new(&self.path));
+            let _ = fs::remove_file(name::old(&self.path));
+            match (unsaved, old) {
+                (Unsaved::Changed, _) => Failure::trouble(format!(
+                    "{} is not saved: another program has changed it since it was read.",
+                    shown(&self.named)
+                )),
+                (Unsaved::Failed(error), Some(_)) => {
+                    Failure::of_file(&self.named, "cannot be saved and is as it was", &error)
+                }
+                (Unsaved::Failed(error), None) => {
+                    Failure::of_file(&self.named, "cannot be saved", &error)
+                }
+            }
+        })?;
         self.flush_folder().map_err(|error| {
             Failure::trouble(format!(
                 "{} is saved, but its folder was not flushed to the disk: {}.",
@@ -91,19 +108,25 @@ impl Target {
         }
     }
 
-    /// Everything before the renaming: the new version on the disk, the old one under its second name.
-    fn prepare(&self, old: Option<&[u8]>, new: &[u8]) -> io::Result<()> {
-        self.write_whole(&name::new(&self.path), new)?;
+    /// The new version on the disk, the old one under its second name, and then the renaming.
+    fn replace(&self, old: Option<&[u8]>, new: &[u8]) -> Result<(), Unsaved> {
+        let new_path = name::new(&self.path);
+        self.write_whole(&new_path, new)?;
         let unchanged = match old {
-            Some(old) => holds(&self.path, old)?,
+            Some(old) => self.path.try_exists()? && holds(&self.path, old)?,
             None => !self.path.try_exists()?,
         };
         if !unchanged {
-            return Err(io::Error::other(
-                "another program has changed it since it was read",
-            ));
+            return Err(Unsaved::Changed);
         }
-        old.map_or(Ok(()), |old| self.keep(old))
+        if let Some(old) = old {
+            self.keep(old).map_err(|error| {
+                let before = shown(&self.kept_as());
+                io::Error::other(format!("{before} cannot be written: {}", cause(&error)))
+            })?;
+        }
+        fs::rename(new_path, &self.path)?;
+        Ok(())
     }
 
     /// Gives the old version the name `NAME.before` too. On a disk without hard links it is a copy.
@@ -142,9 +165,10 @@ impl Target {
     /// Flushes the folder's names to the disk, where the system has that.
     fn flush_folder(&self) -> io::Result<()> {
         let folder = File::open(self.path.parent().unwrap_or(Path::new("/")))?;
-        match folder.sync_all().map_err(|error| error.kind()) {
-            Err(ErrorKind::InvalidInput | ErrorKind::Unsupported) => Ok(()),
-            flushed => flushed.map_err(io::Error::from),
+        let has_none = [ErrorKind::InvalidInput, ErrorKind::Unsupported];
+        match folder.sync_all() {
+            Err(error) if has_none.contains(&error.kind()) => Ok(()),
+            flushed => flushed,
         }
     }
 }
@@ -173,15 +197,22 @@ fn real(named: &Path) -> io::Result<PathBuf> {
         Ok(path) if path.is_dir() => return Err(ErrorKind::IsADirectory.into()),
         found => return found,
     }
+    if named.is_symlink() {
+        return Err(io::Error::other("it is a link to a file that is not there"));
+    }
+    let no_folder = || io::Error::other("there is no such folder");
+    // Such a name asks for a folder, though `file_name` gives the word before it.
+    let bytes = named.as_os_str().as_encoded_bytes();
+    if bytes.ends_with(b"/") || bytes.ends_with(b"/.") {
+        return Err(no_folder());
+    }
     let name = named.file_name().ok_or(ErrorKind::NotFound)?;
     let folder = match named.parent() {
         Some(folder) if !folder.as_os_str().is_empty() => folder,
         _ => Path::new("."),
     };
     match fs::canonicalize(folder) {
-        Err(error) if error.kind() == ErrorKind::NotFound => {
-            Err(io::Error::other("there is no such folder"))
-        }
+        Err(error) if error.kind() == ErrorKind::NotFound => Err(no_folder()),
         found => Ok(found?.join(name)),
     }
 }

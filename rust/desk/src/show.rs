@@ -53,7 +53,9 @@ pub fn table(named: &Path, wanted: Option<&str>, out: &mut impl Write) -> Outcom
 /// Shows one request with all its records.
 pub fn request(named: &Path, k: u64, out: &mut impl Write) -> Outcome {
     let flow = read(named)?;
-    let found = mav::find(&flow, k).map_err(|refusal| refusal::of_flow(&refusal, named, &flow))?;
+    let numbers = mav::read(&flow).map_err(|refusal| refusal::of_flow(&refusal, named, &flow))?;
+    let found = mav::find(&flow, k)
+        .map_err(|refusal| refusal::of_request(&refusal, named, k, numbers.dispositions, ""))?;
     let request = Request::of(found.part, k);
     heading(named, &flow, out)?;
     writeln!(out, "{}\n{}", titles(), request.row())?;

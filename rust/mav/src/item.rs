@@ -61,16 +61,18 @@ impl ItemKind {
             .sum()
     }
 
-    /// The bytes of a body at their positions in a record, and blanks at all others. Of a body of the wrong
-    /// length it takes what there is.
+    /// A record with its type and the bytes of a body at their positions, and blanks at all others. Of a
+    /// body of the wrong length it takes what there is.
     ///
     /// ```
     /// let closing = mav::ItemKind::of(b'Z').unwrap();
     /// let record = closing.placed(b"PNOTTE");
+    /// assert_eq!(&record[..4], b" 70 ");
     /// assert_eq!(&record[93..100], b"P NOTTE");
     /// ```
     pub fn placed(&self, body: &[u8]) -> [u8; RECORD_LENGTH] {
         let mut record = [b' '; RECORD_LENGTH];
+        record[1..3].copy_from_slice(&self.record_type);
         let positions = self.carried.iter().flat_map(|&(first, last)| first..=last);
         for (position, byte) in positions.zip(body) {
             record[position - 1] = *byte;

@@ -123,7 +123,7 @@ impl Reason {
     const fn sentence(self) -> &'static str {
         match self {
             Reason::Length => {
-                "the flow is empty, is not whole records of 120 bytes, or has more than 9999999 of them"
+                "the flow is empty, is not whole records of 120 bytes, or is too long"
             }
             Reason::Byte => "this character is not a plain letter, digit, sign or blank",
             Reason::RecordType => "a record of this type may not stand here",

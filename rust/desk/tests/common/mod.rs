@@ -1,4 +1,5 @@
-//! What the tests of the command share: a folder of their own, and the command run in it.
+//! What the tests of the command share: a folder of their own, the command run in it, and what the second
+//! program makes of a flow.
 
 // Each file of tests is a program of its own and uses some of this.
 #![allow(dead_code)]
@@ -9,6 +10,11 @@ use std::io::Write;
 use std::path::{Path, PathBuf};
 use std::process::{Command, Output, Stdio};
 use std::sync::atomic::{AtomicU32, Ordering};
+
+use oracle::amend::{change, withdraw};
+use oracle::ledger::{Call, Ledger};
+use oracle::list::{items, write_flow, write_list};
+use oracle::Answer;
 
 /// A new folder, which is removed with all in it when this is dropped.
 pub struct Folder(PathBuf);
@@ -130,4 +136,90 @@ pub fn sample(name: &str) -> Vec<u8> {
 /// The folder of the samples.
 pub fn samples() -> PathBuf {
     Path::new(env!("CARGO_MANIFEST_DIR")).join("../../samples")
+}
+
+/// The folder has these files with these bytes, and no other file.
+#[track_caller]
+pub fn left(folder: &Folder, files: &[(&str, &[u8])]) {
+    let mut names: Vec<&str> = files.iter().map(|(name, _)| *name).collect();
+    names.sort_unstable();
+    assert_eq!(folder.names(), names);
+    for (name, bytes) in files {
+        assert!(folder.read(name) == *bytes, "{name} has other bytes");
+    }
+}
+
+/// The flow that the second program leaves after these calls, which it accepts: by its amendments, and by
+/// its ledger where the flow is what its own list encodes.
+#[track_caller]
+pub fn amended(flow: &[u8], calls: &[Call]) -> Vec<u8> {
+    let mut amended = flow.to_vec();
+    for call in calls {
+        let answer = match *call {
+            Call::Change { k, cents } => change(&mut amended, k, cents),
+            Call::Withdraw { k } => {
+                let (answer, length) = withdraw(&mut amended, k);
+                amended.truncate(length);
+                answer
+            }
+        };
+        assert!(matches!(answer, Answer::Accepted { .. }), "{answer}");
+    }
+    let mut ledger = Ledger::new(&list_of(flow)).unwrap();
+    for call in calls {
+        ledger.call(*call);
+    }
+    assert!(ledger.list() == list_of(&amended));
+    if flow_of(&list_of(flow)) == flow {
+        assert!(flow_of(&ledger.list()) == amended);
+    }
+    amended
+}
+
+/// The list of a flow, by the second program, which accepts it.
+#[track_caller]
+pub fn list_of(flow: &[u8]) -> Vec<u8> {
+    let mut list = vec![0; flow.len()];
+    let (answer, length) = write_list(flow, &mut list);
+    assert!(matches!(answer, Answer::Accepted { .. }), "{answer}");
+    list.truncate(length);
+    list
+}
+
+/// The flow of a list, by the second program, which accepts it.
+#[track_caller]
+pub fn flow_of(list: &[u8]) -> Vec<u8> {
+    let mut flow = vec![0; 120 * (items(list).count() + 1)];
+    let (answer, length) = write_flow(list, &mut flow);
+    assert!(matches!(answer, Answer::Accepted { .. }), "{answer}");
+    assert_eq!(length, flow.len());
+    flow
+}
+
+/// The rulers over the two halves of a record.
+pub const RULER_1: &str = "   ----+----1----+----2----+----3----+----4----+----5----+----6";
+pub const RULER_2: &str = "   ----+----7----+----8----+----9----+---10----+---11----+---12";
+
+/// A record in two rows under their rulers. A position other than 0 is marked.
+pub fn drawn(record: &[u8], position: usize) -> String {
+    let shown = |byte: &u8| match byte {
+        b' '..=b'~' => char::from(*byte),
+        _ => '?',
+    };
+    let record: String = record.iter().map(shown).collect();
+    let mark = |column: usize| format!("{}^ {position}\n", " ".repeat(column));
+    let mut drawn = format!("{RULER_1}\n  |{}|\n", &record[..60]);
+    if (1..=60).contains(&position) {
+        drawn += &mark(position + 2);
+    }
+    drawn += &format!("{RULER_2}\n  |{}|\n", &record[60..]);
+    if (61..=120).contains(&position) {
+        drawn += &mark(position - 58);
+    }
+    drawn
+}
+
+/// Record `number` of a flow, from 1.
+pub fn record(flow: &[u8], number: usize) -> &[u8] {
+    &flow[120 * (number - 1)..120 * number]
 }
