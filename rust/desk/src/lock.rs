@@ -21,14 +21,15 @@ use crate::name::plain;
 const ATTEMPTS: u32 = 20;
 const PAUSE: Duration = Duration::from_millis(2);
 
-/// The longest name of a holder that is shown.
-const LONGEST_NAME: u64 = 100;
+/// The longest name of a holder, and the longest signature that is read.
+const LONGEST_NAME: usize = 60;
+const LONGEST_SIGNATURE: u64 = 100;
 
 /// A lock that this process holds, until it is dropped.
 pub struct Lock {
     path: PathBuf,
     /// Open as long as the lock is held.
-    _file: File,
+    file: File,
 }
 
 /// Why the lock could not be taken.
@@ -50,11 +51,12 @@ impl Lock {
         let mut holder = String::from("another process");
         for _ in 0..ATTEMPTS {
             match OpenOptions::new().write(true).create_new(true).open(path) {
-                Ok(mut file) => {
+                Ok(file) => {
                     if holds(&file, path)? {
-                        sign(&mut file)?;
                         let path = path.to_owned();
-                        return Ok(Lock { path, _file: file });
+                        let mut lock = Lock { path, file };
+                        lock.sign()?;
+                        return Ok(lock);
                     }
                 }
                 Err(error) if error.kind() == ErrorKind::AlreadyExists => {
@@ -69,6 +71,20 @@ impl Lock {
         }
         Err(Refused::Held(holder))
     }
+
+    /// Writes into the lock file who holds it, at once, so that nobody reads half a name. All may read it.
+    fn sign(&mut self) -> io::Result<()> {
+        self.file.set_permissions(Permissions::from_mode(0o644))?;
+        let named = ["LOGNAME", "USER"].iter().find_map(std::env::var_os);
+        let mut user = named.unwrap_or_default().to_string_lossy().into_owned();
+        user.truncate(user.floor_char_boundary(LONGEST_NAME));
+        if user.is_empty() {
+            user = format!("user {}", self.file.metadata()?.uid());
+        }
+        let process = std::process::id();
+        let signature = format!("{user} (process {process})");
+        self.file.write_all(signature.as_bytes())
+    }
 }
 
 impl Drop for Lock {
@@ -80,6 +96,9 @@ impl Drop for Lock {
 
 /// Who holds the lock file at the path; or nothing, where nobody does and it is gone now.
 fn held_or_cleared(path: &Path) -> io::Result<Option<String>> {
+    if path.is_symlink() {
+        return Err(io::Error::other("a link stands in the place of its lock"));
+    }
     let mut file = match File::open(path) {
         Err(error) if error.kind() == ErrorKind::NotFound => return Ok(None),
         opened => opened?,
@@ -107,22 +126,11 @@ fn holds(file: &File, path: &Path) -> io::Result<bool> {
     }
 }
 
-/// Writes into the lock file who holds it. All may read it.
-fn sign(file: &mut File) -> io::Result<()> {
-    file.set_permissions(Permissions::from_mode(0o644))?;
-    let user = ["LOGNAME", "USER"].iter().find_map(std::env::var_os);
-    let user = match user {
-        Some(name) => name.to_string_lossy().into_owned(),
-        None => format!("user {}", file.metadata()?.uid()),
-    };
-    write!(file, "{} (process {})", user, std::process::id())
-}
-
 /// Who holds a lock file, and since when.
 fn holder(file: &mut File) -> io::Result<String> {
     let since = file.metadata()?.modified()?;
     let mut name = Vec::new();
-    file.take(LONGEST_NAME).read_to_end(&mut name)?;
+    file.take(LONGEST_SIGNATURE).read_to_end(&mut name)?;
     let name = match String::from_utf8_lossy(&name) {
         name if name.is_empty() => "another process".to_owned(),
         name => plain(&name),

@@ -4,7 +4,7 @@ use std::io::{self, BufRead, IsTerminal, Write};
 use std::path::Path;
 
 use crate::euro::grouped;
-use crate::failure::{Failure, Outcome};
+use crate::failure::{cause, Failure, Outcome};
 use crate::name::shown;
 
 /// Asks whether to go on, and takes `y` or `yes` for yes. Everything written before is seen first; where
@@ -25,14 +25,20 @@ pub fn confirm(out: &mut impl Write, question: &str, otherwise: &str) -> Outcome
     }
 }
 
-/// Says that a file is saved, and where its old version is kept, if it had one.
+/// Says that a file is saved, and where its old version is kept, if it had one. Where that cannot be printed
+/// it is told as an error, so that nobody makes the amendment again.
 pub fn saved(out: &mut impl Write, what: &str, kept_as: Option<&Path>) -> Outcome {
-    write!(out, "Saved.")?;
-    if let Some(path) = kept_as {
-        write!(out, " The {what} as it was is kept as {}.", shown(path))?;
-    }
-    writeln!(out)?;
-    Ok(())
+    let kept = match kept_as {
+        Some(path) => format!(" The {what} as it was is kept as {}.", shown(path)),
+        None => String::new(),
+    };
+    let printed = writeln!(out, "Saved.{kept}").and_then(|()| out.flush());
+    printed.map_err(|error| {
+        let cause = cause(&error);
+        Failure::trouble(format!(
+            "the {what} is saved, but standard output cannot be written: {cause}."
+        ))
+    })
 }
 
 /// So many things, with the word for one or for several.

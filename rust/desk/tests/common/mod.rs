@@ -10,6 +10,7 @@ use std::io::Write;
 use std::path::{Path, PathBuf};
 use std::process::{Command, Output, Stdio};
 use std::sync::atomic::{AtomicU32, Ordering};
+use std::sync::OnceLock;
 
 use oracle::amend::{change, withdraw};
 use oracle::ledger::{Call, Ledger};
@@ -222,4 +223,25 @@ pub fn drawn(record: &[u8], position: usize) -> String {
 /// Record `number` of a flow, from 1.
 pub fn record(flow: &[u8], number: usize) -> &[u8] {
     &flow[120 * (number - 1)..120 * number]
+}
+
+/// The library that `interrupt.c` is, compiled once.
+pub fn interrupt_library() -> &'static Path {
+    static LIBRARY: OnceLock<PathBuf> = OnceLock::new();
+    LIBRARY.get_or_init(|| {
+        let folder = Path::new(env!("CARGO_TARGET_TMPDIR"));
+        let made = folder.join(format!("interrupt-{}.so", std::process::id()));
+        let status = Command::new("cc")
+            .args(["-Wall", "-Wextra", "-Werror", "-shared", "-fPIC", "-o"])
+            .arg(&made)
+            .arg(Path::new(env!("CARGO_MANIFEST_DIR")).join("tests/interrupt.c"))
+            .arg("-ldl")
+            .status()
+            .unwrap();
+        assert!(status.success(), "interrupt.c cannot be compiled");
+        // Renamed, so that another run of these tests never loads half a library.
+        let library = folder.join("interrupt.so");
+        fs::rename(made, &library).unwrap();
+        library
+    })
 }
