@@ -8,8 +8,10 @@ use std::fs;
 use std::io::pipe;
 use std::process::{Command, Stdio};
 
-use common::{amended, drawn, flow_of, left, list_of, record, sample, Ended, Folder};
-use oracle::ledger::Call;
+use common::{
+    amended, change, drawn, flow_of, left, list_of, record, replaced, sample, withdraw, Ended,
+    Folder,
+};
 
 /// The line over the requests.
 const TITLES: &str =
@@ -502,23 +504,14 @@ fn what_only_reads_leaves_every_file_as_it_was() {
 #[test]
 fn an_amount_is_changed_after_a_yes() {
     let old = sample("two-rents.flow");
-    let new = amended(
-        &old,
-        &[Call::Change {
-            k: 2,
-            cents: 40_000,
-        }],
-    );
+    let new = amended(&old, &[change(2, 40_000)]);
     for answer in [
         "y\n", "yes\n", "Y\n", "Yes\n", "YES\n", " y \n", "y", "y\nn\n",
     ] {
         let folder = Folder::with(&["two-rents.flow"]);
         let ended = folder.answer(&["amount", "two-rents.flow", "2", "400"], answer);
         ended.printed(&format!("{TO_400}Save it? [y/N] \n{SAVED}"));
-        left(
-            &folder,
-            &[("two-rents.flow", &new), ("two-rents.flow.before", &old)],
-        );
+        replaced(&folder, "two-rents.flow", &old, &new);
     }
 }
 
@@ -542,13 +535,7 @@ fn an_amount_is_not_changed_without_a_yes() {
 #[test]
 fn with_yes_among_the_words_nothing_is_asked() {
     let old = sample("two-rents.flow");
-    let new = amended(
-        &old,
-        &[Call::Change {
-            k: 2,
-            cents: 40_000,
-        }],
-    );
+    let new = amended(&old, &[change(2, 40_000)]);
     for words in [
         ["amount", "--yes", "two-rents.flow", "2", "400"],
         ["amount", "two-rents.flow", "--yes", "2", "400"],
@@ -558,31 +545,19 @@ fn with_yes_among_the_words_nothing_is_asked() {
         let folder = Folder::with(&["two-rents.flow"]);
         let ended = folder.answer(&words, "n\n");
         ended.printed(&format!("{TO_400}{SAVED}"));
-        left(
-            &folder,
-            &[("two-rents.flow", &new), ("two-rents.flow.before", &old)],
-        );
+        replaced(&folder, "two-rents.flow", &old, &new);
     }
 }
 
 #[test]
 fn an_amount_is_written_in_three_ways() {
     let old = sample("two-rents.flow");
-    let new = amended(
-        &old,
-        &[Call::Change {
-            k: 2,
-            cents: 40_000,
-        }],
-    );
+    let new = amended(&old, &[change(2, 40_000)]);
     for euros in ["400", "400,00", "400.00"] {
         let folder = Folder::with(&["two-rents.flow"]);
         let ended = folder.run(&["amount", "--yes", "two-rents.flow", "2", euros]);
         ended.printed(&format!("{TO_400}{SAVED}"));
-        left(
-            &folder,
-            &[("two-rents.flow", &new), ("two-rents.flow.before", &old)],
-        );
+        replaced(&folder, "two-rents.flow", &old, &new);
     }
 }
 
@@ -591,7 +566,7 @@ fn the_smallest_and_the_largest_amount_are_saved() {
     let folder = Folder::with(&["two-rents.flow"]);
     let old = sample("two-rents.flow");
     let cents = 9_999_999_999_999;
-    let new = amended(&old, &[Call::Change { k: 1, cents }]);
+    let new = amended(&old, &[change(1, cents)]);
     // 9.999.999.999.999 and 38.050 cents.
     let ended = folder.run(&["amount", "--yes", "two-rents.flow", "1", "99999999999,99"]);
     ended.printed(
@@ -607,10 +582,7 @@ trailer, records                              16                      16
 Saved. The flow as it was is kept as two-rents.flow.before.
 ",
     );
-    left(
-        &folder,
-        &[("two-rents.flow", &new), ("two-rents.flow.before", &old)],
-    );
+    replaced(&folder, "two-rents.flow", &old, &new);
     folder.run(&["show", "two-rents.flow"]).printed(
         "\
 two-rents.flow: AB123, 15/03/2026, RENT-MARCH
@@ -622,7 +594,7 @@ two-rents.flow: AB123, 15/03/2026, RENT-MARCH
 2 requests, 100.000.000.380,49 euro, 16 records.
 ",
     );
-    let zero = amended(&new, &[Call::Change { k: 1, cents: 0 }]);
+    let zero = amended(&new, &[change(1, 0)]);
     let ended = folder.run(&["amount", "--yes", "two-rents.flow", "001", "0"]);
     ended.printed(
         "\
@@ -638,10 +610,7 @@ Saved. The flow as it was is kept as two-rents.flow.before.
 ",
     );
     // The version before the last amendment is kept, and no older one.
-    left(
-        &folder,
-        &[("two-rents.flow", &zero), ("two-rents.flow.before", &new)],
-    );
+    replaced(&folder, "two-rents.flow", &new, &zero);
 }
 
 #[test]
@@ -666,13 +635,7 @@ Its amount is 380,50 already; there is nothing to save.
 fn text_at_positions_that_are_not_checked_stays_when_an_amount_is_changed() {
     let folder = Folder::with(&["two-rents-filler.flow"]);
     let old = sample("two-rents-filler.flow");
-    let new = amended(
-        &old,
-        &[Call::Change {
-            k: 1,
-            cents: 45_001,
-        }],
-    );
+    let new = amended(&old, &[change(1, 45_001)]);
     let ended = folder.run(&["amount", "--yes", "two-rents-filler.flow", "1", "450,01"]);
     ended.printed(
         "\
@@ -687,13 +650,7 @@ trailer, records                              16                      16
 Saved. The flow as it was is kept as two-rents-filler.flow.before.
 ",
     );
-    left(
-        &folder,
-        &[
-            ("two-rents-filler.flow", &new),
-            ("two-rents-filler.flow.before", &old),
-        ],
-    );
+    replaced(&folder, "two-rents-filler.flow", &old, &new);
     // Only 34-46 of record 2 and 53-67 of record 16 may differ.
     let differ: Vec<usize> = (0..1_920).filter(|&i| old[i] != new[i]).collect();
     assert_eq!(differ, [120 + 45, 15 * 120 + 66]);
@@ -702,16 +659,13 @@ Saved. The flow as it was is kept as two-rents-filler.flow.before.
 #[test]
 fn a_request_is_withdrawn_after_a_yes() {
     let old = sample("two-rents.flow");
-    let new = amended(&old, &[Call::Withdraw { k: 1 }]);
+    let new = amended(&old, &[withdraw(1)]);
     assert_eq!(new.len(), 1_080);
     for answer in ["y\n", "yes\n"] {
         let folder = Folder::with(&["two-rents.flow"]);
         let ended = folder.answer(&["withdraw", "two-rents.flow", "1"], answer);
         ended.printed(&format!("{WITHOUT_1}Save it? [y/N] \n{SAVED}"));
-        left(
-            &folder,
-            &[("two-rents.flow", &new), ("two-rents.flow.before", &old)],
-        );
+        replaced(&folder, "two-rents.flow", &old, &new);
     }
 }
 
@@ -732,7 +686,7 @@ fn a_request_is_not_withdrawn_without_a_yes() {
 #[test]
 fn with_yes_among_the_words_requests_are_withdrawn_without_asking() {
     let old = sample("two-rents.flow");
-    let new = amended(&old, &[Call::Withdraw { k: 1 }]);
+    let new = amended(&old, &[withdraw(1)]);
     for words in [
         ["withdraw", "--yes", "two-rents.flow", "1"],
         ["withdraw", "two-rents.flow", "--yes", "1"],
@@ -740,10 +694,7 @@ fn with_yes_among_the_words_requests_are_withdrawn_without_asking() {
     ] {
         let folder = Folder::with(&["two-rents.flow"]);
         folder.run(&words).printed(&format!("{WITHOUT_1}{SAVED}"));
-        left(
-            &folder,
-            &[("two-rents.flow", &new), ("two-rents.flow.before", &old)],
-        );
+        replaced(&folder, "two-rents.flow", &old, &new);
     }
 }
 
@@ -751,7 +702,7 @@ fn with_yes_among_the_words_requests_are_withdrawn_without_asking() {
 fn the_last_request_goes_and_no_number_changes() {
     let folder = Folder::with(&["two-rents.flow"]);
     let old = sample("two-rents.flow");
-    let new = amended(&old, &[Call::Withdraw { k: 2 }]);
+    let new = amended(&old, &[withdraw(2)]);
     // What is left is the sample with the first of the two rents alone.
     assert!(new == sample("one-rent.flow"));
     folder
@@ -771,17 +722,14 @@ trailer, records                              16                       9
 Saved. The flow as it was is kept as two-rents.flow.before.
 ",
         );
-    left(
-        &folder,
-        &[("two-rents.flow", &new), ("two-rents.flow.before", &old)],
-    );
+    replaced(&folder, "two-rents.flow", &old, &new);
 }
 
 #[test]
 fn several_requests_are_withdrawn_by_the_numbers_shown_in_any_order() {
     let old = sample("forty-rents.flow");
     // One after the other from the front, each has moved up by those withdrawn before it.
-    let calls = [1, 2, 4, 37].map(|k| Call::Withdraw { k });
+    let calls = [1, 2, 4, 37].map(withdraw);
     let new = amended(&old, &calls);
     // Requests 1, 3, 6 and 40 have 312,50 and 337,50 and 375,00 and 800,00 euro, and 7, 9, 8 and 11 records.
     let rows: String = [1, 3, 6, 40].map(student).concat();
@@ -806,13 +754,7 @@ Saved. The flow as it was is kept as forty-rents.flow.before.
         let folder = Folder::with(&["forty-rents.flow"]);
         let words = [&["withdraw", "forty-rents.flow"], &numbers[..], &["--yes"]].concat();
         folder.run(&words).printed(&due);
-        left(
-            &folder,
-            &[
-                ("forty-rents.flow", &new),
-                ("forty-rents.flow.before", &old),
-            ],
-        );
+        replaced(&folder, "forty-rents.flow", &old, &new);
     }
 }
 
@@ -820,7 +762,7 @@ Saved. The flow as it was is kept as forty-rents.flow.before.
 fn the_last_two_of_forty_go_and_no_number_changes() {
     let folder = Folder::with(&["forty-rents.flow"]);
     let old = sample("forty-rents.flow");
-    let new = amended(&old, &[Call::Withdraw { k: 40 }, Call::Withdraw { k: 39 }]);
+    let new = amended(&old, &[withdraw(40), withdraw(39)]);
     let rows: String = [39, 40].map(student).concat();
     // 787,50 and 800,00 euro, 9 and 11 records.
     let ended = folder.run(&["withdraw", "--yes", "forty-rents.flow", "39", "40"]);
@@ -835,13 +777,7 @@ trailer, records                             368                     348
 Saved. The flow as it was is kept as forty-rents.flow.before.
 "
     ));
-    left(
-        &folder,
-        &[
-            ("forty-rents.flow", &new),
-            ("forty-rents.flow.before", &old),
-        ],
-    );
+    replaced(&folder, "forty-rents.flow", &old, &new);
 }
 
 #[test]
@@ -849,7 +785,7 @@ fn all_requests_but_one_are_withdrawn_at_once() {
     let folder = Folder::with(&["forty-rents.flow"]);
     let old = sample("forty-rents.flow");
     let others = || (1..=40).filter(|&k| k != 17);
-    let calls: Vec<Call> = others().rev().map(|k| Call::Withdraw { k }).collect();
+    let calls: Vec<_> = others().rev().map(withdraw).collect();
     let new = amended(&old, &calls);
     let rows: String = others().map(student).collect();
     let numbers: Vec<String> = others().map(|k| k.to_string()).collect();
@@ -869,13 +805,7 @@ trailer, records                             368                      13
 Saved. The flow as it was is kept as forty-rents.flow.before.
 "
     ));
-    left(
-        &folder,
-        &[
-            ("forty-rents.flow", &new),
-            ("forty-rents.flow.before", &old),
-        ],
-    );
+    replaced(&folder, "forty-rents.flow", &old, &new);
 }
 
 #[test]
@@ -883,13 +813,7 @@ fn words_behind_two_dashes_are_no_options() {
     let folder = Folder::new();
     let old = sample("two-rents.flow");
     fs::write(folder.path("--yes"), &old).unwrap();
-    let new = amended(
-        &old,
-        &[Call::Change {
-            k: 2,
-            cents: 40_000,
-        }],
-    );
+    let new = amended(&old, &[change(2, 40_000)]);
     let due = TO_400.replacen("two-rents.flow", "--yes", 1);
     let ended = folder.run(&["amount", "--", "--yes", "2", "400"]);
     unwanted(
@@ -902,7 +826,7 @@ fn words_behind_two_dashes_are_no_options() {
     ended.printed(&format!(
         "{due}Saved. The flow as it was is kept as --yes.before.\n"
     ));
-    left(&folder, &[("--yes", &new), ("--yes.before", &old)]);
+    replaced(&folder, "--yes", &old, &new);
     let ended = folder.run(&["show", "--find", "rossi", "--", "--yes"]);
     ended.printed(&format!(
         "--yes: AB123, 15/03/2026, RENT-MARCH\n\n{TITLES}{ROSSI}\n1 of 2 requests, 450,00 euro.\n"

@@ -13,8 +13,7 @@ use std::os::unix::process::CommandExt;
 use std::path::{Path, PathBuf};
 use std::process::{Command, Stdio};
 
-use common::{left, sample, Ended, Folder};
-use oracle::amend::{change, withdraw};
+use common::{amended, change, left, replaced, sample, withdraw, Ended, Folder};
 
 /// What `amount FILE 2 400` shows of two-rents.flow behind the file's name.
 const TO_400: &str = ": Request 2, due 31/03/2026, BIANCHI MARCO, reference 0000000023
@@ -48,9 +47,7 @@ fn untouched(folder: &Folder, samples: &[&str]) {
 
 /// The two rents with the second one at 400 euro, by the second program.
 fn at_400() -> Vec<u8> {
-    let mut flow = sample("two-rents.flow");
-    change(&mut flow, 2, 40_000);
-    flow
+    amended(&sample("two-rents.flow"), &[change(2, 40_000)])
 }
 
 fn set_mode(path: &Path, mode: u32) {
@@ -1010,9 +1007,7 @@ fn a_withdrawal_through_a_link_to_another_folder_leaves_nothing_beside_the_link(
     let file = fs::canonicalize(home.path("two-rents.flow")).unwrap();
     symlink(&file, folder.path("first")).unwrap();
     symlink("first", folder.path("second")).unwrap();
-    let mut left_over = sample("two-rents.flow");
-    let (_, length) = withdraw(&mut left_over, 1);
-    left_over.truncate(length);
+    let left_over = amended(&sample("two-rents.flow"), &[withdraw(1)]);
     folder
         .run(&["withdraw", "--yes", "second", "1"])
         .printed(&format!(
@@ -1125,12 +1120,11 @@ fn the_file_saved_has_the_permissions_of_the_old_one() {
         ended.printed(&format!(
             "two-rents.flow{TO_400}Saved. The flow as it was is kept as two-rents.flow.before.\n"
         ));
-        left(
+        replaced(
             &folder,
-            &[
-                ("two-rents.flow", &at_400()),
-                ("two-rents.flow.before", &sample("two-rents.flow")),
-            ],
+            "two-rents.flow",
+            &sample("two-rents.flow"),
+            &at_400(),
         );
         for name in ["two-rents.flow", "two-rents.flow.before"] {
             assert_eq!(mode(&folder.path(name)), permissions, "{name}");

@@ -15,8 +15,9 @@ use std::process::{Command, Stdio};
 use std::thread;
 use std::time::{Duration, Instant};
 
-use common::{amended, flow_of, interrupt_library, list_of, sample, Ended, Folder};
-use oracle::ledger::Call;
+use common::{
+    amended, change, flow_of, interrupt_library, list_of, sample, withdraw, Ended, Folder,
+};
 use oracle::{reader, samples, Answer};
 
 /// More calls than any save makes.
@@ -224,14 +225,6 @@ fn hidden(folder: &Folder) -> Vec<String> {
     let mut names = folder.names();
     names.retain(|name| name.starts_with('.'));
     names
-}
-
-fn change(k: u64, cents: u64) -> Call {
-    Call::Change { k, cents }
-}
-
-fn withdraw(k: u64) -> Call {
-    Call::Withdraw { k }
 }
 
 /// A call that the command has made, or that was kept from it.

@@ -6,8 +6,7 @@ mod common;
 
 use std::fs;
 
-use common::{drawn, left, record, sample, Folder, RULER_1, RULER_2};
-use oracle::amend::change;
+use common::{amended, change, drawn, left, record, sample, Folder, RULER_1, RULER_2};
 use oracle::answer::Answer;
 use oracle::list::write_flow;
 
@@ -569,8 +568,7 @@ fn number_17_is_given_by_an_amount_one_cent_above_the_largest_total() {
         untouched(&folder, "full.flow", &flow);
     }
     // One cent less is saved.
-    let mut less = flow.clone();
-    change(&mut less, 101, 98);
+    let less = amended(&flow, &[change(101, 98)]);
     folder
         .run(&["amount", "--yes", "full.flow", "101", "0,98"])
         .printed(

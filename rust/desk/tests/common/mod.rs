@@ -12,7 +12,7 @@ use std::process::{Command, Output, Stdio};
 use std::sync::atomic::{AtomicU32, Ordering};
 use std::sync::OnceLock;
 
-use oracle::amend::{change, withdraw};
+use oracle::amend;
 use oracle::ledger::{Call, Ledger};
 use oracle::list::{items, write_flow, write_list};
 use oracle::Answer;
@@ -150,6 +150,22 @@ pub fn left(folder: &Folder, files: &[(&str, &[u8])]) {
     }
 }
 
+/// The folder has a file with these bytes, what it was before as its earlier version, and no other file.
+#[track_caller]
+pub fn replaced(folder: &Folder, name: &str, before: &[u8], now: &[u8]) {
+    left(folder, &[(name, now), (&format!("{name}.before"), before)]);
+}
+
+/// The call that gives request `k` another amount.
+pub fn change(k: u64, cents: u64) -> Call {
+    Call::Change { k, cents }
+}
+
+/// The call that takes request `k` out.
+pub fn withdraw(k: u64) -> Call {
+    Call::Withdraw { k }
+}
+
 /// The flow that the second program leaves after these calls, which it accepts: by its amendments, and by
 /// its ledger where the flow is what its own list encodes.
 #[track_caller]
@@ -157,9 +173,9 @@ pub fn amended(flow: &[u8], calls: &[Call]) -> Vec<u8> {
     let mut amended = flow.to_vec();
     for call in calls {
         let answer = match *call {
-            Call::Change { k, cents } => change(&mut amended, k, cents),
+            Call::Change { k, cents } => amend::change(&mut amended, k, cents),
             Call::Withdraw { k } => {
-                let (answer, length) = withdraw(&mut amended, k);
+                let (answer, length) = amend::withdraw(&mut amended, k);
                 amended.truncate(length);
                 answer
             }
