@@ -1,16 +1,18 @@
 //! Amount change and withdrawal: what will change is shown, the clerk is asked, and the flow is saved.
 
-use std::io::Write;
+use std::fs;
+use std::io::{ErrorKind, Write};
 use std::path::Path;
 
 use mav::{Accepted, Refusal};
 
 use crate::euro::{grouped, shown as euro};
 use crate::failure::{Failure, Outcome};
+use crate::input::copy;
 use crate::name::shown;
 use crate::output::{confirm, saved};
 use crate::refusal;
-use crate::request::{titles, Request};
+use crate::request::{requests, titles, Request};
 use crate::save::Target;
 
 /// A flow that is locked and accepted, and that may be amended.
@@ -24,9 +26,10 @@ struct Open<'a> {
 /// Gives request `k` another amount.
 pub fn amount(named: &Path, k: u64, cents: u64, yes: bool, out: &mut impl Write) -> Outcome {
     let open = Open::new(named)?;
-    let request = open.request(k)?;
-    let mut amended = open.flow.clone();
+    let mut amended = copy(&open.flow)?;
     let left = mav::change(&mut amended, k, cents).map_err(|refusal| open.refused(&refusal, k))?;
+    let found = mav::find(&open.flow, k).map_err(|refusal| open.refused(&refusal, k))?;
+    let request = Request::of(found.part, k);
     writeln!(out, "{}: {}\n", shown(named), request.named())?;
     if amended == open.flow {
         writeln!(
@@ -52,11 +55,9 @@ pub fn withdraw(named: &Path, numbers: &[u64], yes: bool, out: &mut impl Write) 
         )));
     }
     let open = Open::new(named)?;
-    let requests = falling.iter().rev().map(|&k| open.request(k));
-    let requests = requests.collect::<Outcome<Vec<_>>>()?;
-    // From the last one on: a withdrawal gives later requests new numbers, and the earlier ones keep theirs.
-    let mut amended = open.flow.clone();
+    let mut amended = copy(&open.flow)?;
     let mut left = open.numbers;
+    // From the last one on: a withdrawal gives later requests new numbers, and the earlier ones keep theirs.
     for &k in &falling {
         let withdrawn =
             mav::withdraw(&mut amended, k).map_err(|refusal| open.refused(&refusal, k))?;
@@ -64,11 +65,13 @@ pub fn withdraw(named: &Path, numbers: &[u64], yes: bool, out: &mut impl Write) 
         left = withdrawn.accepted;
     }
     writeln!(out, "{}: to be withdrawn\n\n{}", shown(named), titles())?;
-    for request in &requests {
-        writeln!(out, "{}", request.row())?;
+    for request in requests(&open.flow) {
+        if falling.binary_search_by(|k| request.number.cmp(k)).is_ok() {
+            writeln!(out, "{}", request.row())?;
+        }
     }
     writeln!(out)?;
-    let first = requests.first().map_or(0, |request| request.number);
+    let first = falling.last().copied().unwrap_or(0);
     if first <= left.dispositions {
         writeln!(
             out,
@@ -81,24 +84,19 @@ pub fn withdraw(named: &Path, numbers: &[u64], yes: bool, out: &mut impl Write) 
 impl<'a> Open<'a> {
     /// Locks and reads a flow, which must be accepted.
     fn new(named: &'a Path) -> Outcome<Open<'a>> {
+        // A file that is not there is told as such, and not that it cannot be locked.
+        let unread = |error| Failure::of_file(named, "cannot be read", &error);
+        fs::metadata(named).map_err(unread)?;
         let target = Target::lock(named)?;
-        let flow = target.read()?.ok_or_else(|| {
-            let error = std::io::ErrorKind::NotFound.into();
-            Failure::of_file(named, "cannot be read", &error)
-        })?;
-        let numbers =
-            mav::read(&flow).map_err(|refusal| refusal::of_flow(&refusal, named, &flow))?;
+        let gone = || unread(ErrorKind::NotFound.into());
+        let flow = target.read()?.ok_or_else(gone)?;
+        let numbers = refusal::accepted(named, &flow)?;
         Ok(Open {
             named,
             target,
             flow,
             numbers,
         })
-    }
-
-    fn request(&self, k: u64) -> Outcome<Request> {
-        let found = mav::find(&self.flow, k).map_err(|refusal| self.refused(&refusal, k))?;
-        Ok(Request::of(found.part, k))
     }
 
     /// What the clerk is told where the library refuses the amendment of request `k`.

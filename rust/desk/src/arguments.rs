@@ -98,7 +98,7 @@ pub fn read(words: &[OsString]) -> Outcome<Command> {
     }
     command(&name, words)?.ok_or_else(|| {
         let usage = synopsis(page).join(", or ");
-        Failure::trouble(format!("the words do not fit; it is {usage}."))
+        Failure::trouble(format!("the words do not fit {usage} as it is used."))
     })
 }
 
@@ -121,10 +121,10 @@ fn sorted(name: &str, options: &[&str], rest: &[OsString]) -> Outcome<Words> {
             Some("--help" | "-h") => words.help = true,
             Some("--yes") if options.contains(&"--yes") => words.yes = true,
             Some("--find") if options.contains(&"--find") => {
-                let wanted = rest.next().and_then(|text| text.to_str());
-                let wanted = wanted.filter(|text| !text.is_empty());
-                let wanted = wanted.ok_or_else(|| Failure::trouble("--find needs a text."))?;
-                words.find = Some(wanted.to_owned());
+                words.find = Some(text(rest.next().and_then(|text| text.to_str()))?);
+            }
+            Some(option) if options.contains(&"--find") && option.starts_with("--find=") => {
+                words.find = Some(text(option.strip_prefix("--find="))?);
             }
             Some(option) if option.starts_with("--") => {
                 let option = told(option.as_ref());
@@ -134,6 +134,14 @@ fn sorted(name: &str, options: &[&str], rest: &[OsString]) -> Outcome<Words> {
         }
     }
     Ok(words)
+}
+
+/// The text of `--find`.
+fn text(word: Option<&str>) -> Outcome<String> {
+    match word {
+        Some(text) if !text.is_empty() => Ok(text.to_owned()),
+        _ => Err(Failure::trouble("--find needs a text.")),
+    }
 }
 
 /// The command of this name on these words, or nothing where there are too few or too many.
@@ -192,7 +200,7 @@ fn cents(word: &OsStr) -> Outcome<u64> {
     parsed(
         word,
         euro::read,
-        "an amount, which is written as 450 or 450,00 or 450.00",
+        "an amount, which is written as 450 or 450,00 or 450.00, and 1450 without a point",
     )
 }
 

@@ -1,12 +1,13 @@
 //! Many flows judged at once: a line for each, then every refusal with its record.
 
+use std::collections::HashSet;
 use std::ffi::OsString;
 use std::fmt;
 use std::fs;
 use std::io::Write;
 use std::path::{Path, PathBuf};
 use std::sync::atomic::{AtomicUsize, Ordering};
-use std::sync::mpsc::{self, RecvTimeoutError};
+use std::sync::mpsc::{self, RecvTimeoutError, Sender};
 use std::thread;
 
 use mav::{Accepted, Reason, Refusal};
@@ -29,7 +30,7 @@ enum Verdict {
 
 /// Judges the flows, and those in the folders, and succeeds only where all are accepted.
 pub fn check(named: &[PathBuf], out: &mut impl Write) -> Outcome {
-    let flows = gathered(named)?;
+    let flows = gathered(named);
     let verdicts = judged(&flows);
     let rows = || flows.iter().zip(&verdicts);
     table(rows(), out)?;
@@ -53,7 +54,7 @@ pub fn check(named: &[PathBuf], out: &mut impl Write) -> Outcome {
     }
     match status {
         0 => Ok(()),
-        status => Err(Failure::told(status)),
+        status => Err(Failure::silent(status)),
     }
 }
 
@@ -135,27 +136,27 @@ impl fmt::Display for Sum {
     }
 }
 
-/// The flows named, and of each folder named its files by name. A folder in a folder is not looked into.
-fn gathered(named: &[PathBuf]) -> Outcome<Vec<PathBuf>> {
+/// The flows named, and of each folder named its files by name, each flow once. A folder in a folder is not
+/// looked into. A folder without a flow stands for itself, so that it is told.
+fn gathered(named: &[PathBuf]) -> Vec<PathBuf> {
     let mut flows = Vec::new();
     for path in named {
-        if !path.is_dir() {
-            flows.push(path.clone());
-            continue;
+        let found = if path.is_dir() {
+            files_of(path)
+        } else {
+            Ok(Vec::new())
+        };
+        match found.unwrap_or_default() {
+            names if names.is_empty() => flows.push(path.clone()),
+            names => flows.extend(names.iter().map(|name| path.join(name))),
         }
-        let found = files_of(path)
-            .map_err(|error| Failure::of_file(path, "cannot be looked into", &error))?;
-        if found.is_empty() {
-            return Err(Failure::trouble(format!(
-                "{} has no flow in it.",
-                shown(path)
-            )));
-        }
-        flows.extend(found.iter().map(|name| path.join(name)));
     }
-    Ok(flows)
+    let mut seen = HashSet::new();
+    flows.retain(|path| fs::canonicalize(path).map_or(true, |file| seen.insert(file)));
+    flows
 }
 
+/// The files of a folder that may be flows, by name.
 fn files_of(folder: &Path) -> std::io::Result<Vec<OsString>> {
     let mut names = Vec::new();
     for entry in fs::read_dir(folder)? {
@@ -177,22 +178,29 @@ fn judged(flows: &[PathBuf]) -> Vec<Verdict> {
     let cores = thread::available_parallelism().map_or(1, usize::from);
     let (done, verdicts) = mpsc::channel();
     thread::scope(|scope| {
-        for _ in 0..cores.min(flows.len()) {
+        let worker = || {
             let (next, done) = (&next, done.clone());
-            scope.spawn(move || {
-                let mut buffer = Vec::new();
-                loop {
-                    let index = next.fetch_add(1, Ordering::Relaxed);
-                    let Some(path) = flows.get(index) else { break };
-                    let verdict = judge(path, &mut buffer);
-                    // The other end stands until all threads have ended.
-                    let _ = done.send((index, verdict));
-                }
-            });
+            move || take_turns(flows, next, &done)
+        };
+        let spawn = |_: &usize| thread::Builder::new().spawn_scoped(scope, worker()).is_ok();
+        // A system that gives fewer threads, or none, only makes it slower.
+        if (0..cores.min(flows.len())).filter(spawn).count() == 0 {
+            worker()();
         }
         drop(done);
         in_order(flows.len(), &verdicts)
     })
+}
+
+/// Judges one flow after the other, as long as there are any that nobody has taken.
+fn take_turns(flows: &[PathBuf], next: &AtomicUsize, done: &Sender<(usize, Verdict)>) {
+    let mut buffer = Vec::new();
+    loop {
+        let index = next.fetch_add(1, Ordering::Relaxed);
+        let Some(path) = flows.get(index) else { break };
+        // The other end stands until all threads have ended.
+        let _ = done.send((index, judge(path, &mut buffer)));
+    }
 }
 
 /// The verdicts in the order of the flows, and meanwhile a line that tells how far it is.
@@ -213,6 +221,9 @@ fn in_order(count: usize, verdicts: &mpsc::Receiver<(usize, Verdict)>) -> Vec<Ve
 }
 
 fn judge(path: &Path, buffer: &mut Vec<u8>) -> Verdict {
+    if path.is_dir() {
+        return Verdict::Unread(no_flow(path));
+    }
     match read_into(path, buffer) {
         Ok(()) => match mav::read(buffer) {
             Ok(numbers) => Verdict::Accepted(numbers),
@@ -227,5 +238,13 @@ fn judge(path: &Path, buffer: &mut Vec<u8>) -> Verdict {
             Verdict::Refused(refusal, refusal::length(length))
         }
         Err(unread) => Verdict::Unread(unread.failure(path)),
+    }
+}
+
+/// Why nothing of a folder is judged.
+fn no_flow(folder: &Path) -> Failure {
+    match files_of(folder) {
+        Err(error) => Failure::of_file(folder, "cannot be looked into", &error),
+        Ok(_) => Failure::trouble(format!("{} has no flow in it.", shown(folder))),
     }
 }

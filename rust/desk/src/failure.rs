@@ -2,10 +2,10 @@
 
 use std::fmt::Display;
 use std::io::{self, ErrorKind};
+use std::path::Path;
 use std::process::ExitCode;
 
 use crate::name::shown;
-use std::path::Path;
 
 /// What a command ends with.
 pub type Outcome<T = ()> = Result<T, Failure>;
@@ -36,8 +36,17 @@ impl Failure {
     }
 
     /// What has been printed already says it all; the exit status says it too.
-    pub fn told(status: u8) -> Failure {
+    pub fn silent(status: u8) -> Failure {
         Failure { status, text: None }
+    }
+
+    /// The same of a command that was to save something, which must not end without a word.
+    pub fn of_saving(self) -> Failure {
+        let silent = "nothing was saved, since who was to read standard output has gone.";
+        Failure {
+            text: self.text.or(Some(silent.to_owned())),
+            ..self
+        }
     }
 
     fn new(status: u8, text: impl Display) -> Failure {
@@ -60,12 +69,12 @@ impl Failure {
     }
 }
 
-/// What is written goes to standard output. Where its reader has gone, as with `| head`, there is nobody to
-/// tell; the status still says that not all was written.
+/// The errors of printing; those of files have a sentence of their own. Where the reader of standard output
+/// has gone, as with `| head`, there is nobody to tell; the status still says that not all was written.
 impl From<io::Error> for Failure {
     fn from(error: io::Error) -> Failure {
         match error.kind() {
-            ErrorKind::BrokenPipe => Failure::told(2),
+            ErrorKind::BrokenPipe => Failure::silent(2),
             _ => Failure::trouble(format!(
                 "standard output cannot be written: {}.",
                 cause(&error)

@@ -21,7 +21,8 @@ DESCRIPTION
     under its name, whole, and the old one is kept as NAME.before. A request is
     what the standard calls a disposition.
 
-    mavdesk COMMAND --help tells more of a command. A word -- ends the options.
+    The commands that save ask first, and with --yes they do not; show has
+    --find TEXT. mavdesk COMMAND --help tells more. A word -- ends the options.
 
 EXIT STATUS
     0  all was done; 1  the rules or the clerk said no, or nothing was found;
@@ -42,7 +43,8 @@ DESCRIPTION
     cores at once, and at a terminal a line tells how far it is.
 
     FILE may be a folder: all plain files in it are judged but hidden ones and
-    those that end in .before or .list. Folders in it are not looked into.
+    those that end in .before or .list. Folders in it are not looked into. A
+    flow that is named twice is judged once.
 
 EXIT STATUS
     0 only if all flows are accepted; 1 if one is refused; 2 if one cannot be
@@ -70,7 +72,7 @@ DESCRIPTION
 OPTIONS
     --find TEXT
         Only the requests that have TEXT somewhere in their row, in capital or
-        small letters.
+        small letters. 1.450,00 is found as 1450 too.
 
 EXIT STATUS
     0 if something is shown; 1 if the flow is refused or nothing is found; 2 if
@@ -100,8 +102,8 @@ OPTIONS
         Save without asking.
 
 EXIT STATUS
-    0 if it is saved; 1 if it is refused or not wanted; 2 if the file cannot be
-    read, locked or saved.
+    0 if it is saved or stands there already; 1 if it is refused or not wanted;
+    2 if the file cannot be read, locked or saved.
 
 EXAMPLE
     mavdesk amount house-07.flow 17 450,00
@@ -117,7 +119,9 @@ SYNOPSIS
 DESCRIPTION
     Shows the requests that will go and the trailer before and after, asks, and
     saves. The numbers K are those that mavdesk show prints; that the later
-    requests get new ones is seen to. All of them are withdrawn, or none.
+    requests get new ones is seen to. All of them are withdrawn, or none. Look
+    at the names before you say yes: where another clerk has withdrawn a request
+    since mavdesk show was run, later requests have other numbers.
 
     While this runs, nobody else can amend the flow with mavdesk: they are told
     who does, and since when. The flow as it was is kept as FILE.before.

@@ -12,7 +12,8 @@ use crate::name::shown;
 
 /// Why a file was not read.
 pub enum Unread {
-    /// It has more bytes than the longest flow. It is not read: the library would refuse it by 1.
+    /// It has more bytes than the longest flow, which the library would refuse by 1, and than any list that
+    /// can be written. It is not read.
     TooLong(u64),
     Failed(io::Error),
 }
@@ -22,7 +23,7 @@ impl Unread {
     pub fn failure(self, path: &Path) -> Failure {
         match self {
             Unread::TooLong(length) => Failure::refused(format!(
-                "{} is not read: it has {} bytes, and the longest flow has {} (number 1).",
+                "{} is not read: it has {} bytes, and the longest flow has {}.",
                 shown(path),
                 grouped(length),
                 grouped(MAX_FLOW_LENGTH as u64),
@@ -48,8 +49,6 @@ pub fn read_into(path: &Path, buffer: &mut Vec<u8>) -> Result<(), Unread> {
 }
 
 /// The same of an open file, from where it stands.
-///
-/// No list that can be written is longer than the longest flow, so that the ceiling serves for both.
 pub fn read_open(mut file: &File, buffer: &mut Vec<u8>) -> Result<(), Unread> {
     const CEILING: u64 = MAX_FLOW_LENGTH as u64;
     buffer.clear();
@@ -75,9 +74,33 @@ pub fn read_open(mut file: &File, buffer: &mut Vec<u8>) -> Result<(), Unread> {
     }
 }
 
-/// Whether a file holds exactly these bytes. It is read in portions, so that a long one is not in memory
+/// A copy of these bytes.
+pub fn copy(bytes: &[u8]) -> Outcome<Vec<u8>> {
+    let mut copy = with_room(bytes.len())?;
+    copy.extend_from_slice(bytes);
+    Ok(copy)
+}
+
+/// So many bytes to be written to.
+pub fn zeros(length: usize) -> Outcome<Vec<u8>> {
+    let mut zeros = with_room(length)?;
+    zeros.resize(length, 0);
+    Ok(zeros)
+}
+
+fn with_room(length: usize) -> Outcome<Vec<u8>> {
+    let mut bytes = Vec::new();
+    match bytes.try_reserve_exact(length) {
+        Ok(()) => Ok(bytes),
+        Err(_) => Err(Failure::trouble(
+            "there is not enough memory; nothing was saved.",
+        )),
+    }
+}
+
+/// Whether a file has exactly these bytes. It is read in portions, so that a long one is not in memory
 /// twice.
-pub fn holds(path: &Path, bytes: &[u8]) -> io::Result<bool> {
+pub fn has_bytes(path: &Path, bytes: &[u8]) -> io::Result<bool> {
     const PORTION: usize = 1 << 20;
     let mut file = File::open(path)?;
     let mut portion = vec![0; PORTION.min(bytes.len() + 1)];

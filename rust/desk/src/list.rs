@@ -8,7 +8,7 @@ use mav::Accepted;
 
 use crate::euro::shown as euro;
 use crate::failure::{Failure, Outcome};
-use crate::input::read;
+use crate::input::{read, zeros};
 use crate::name::shown;
 use crate::output::{confirm, counted, saved};
 use crate::refusal;
@@ -18,18 +18,22 @@ use crate::save::Target;
 pub fn list(flow_named: &Path, list_named: &Path, yes: bool, out: &mut impl Write) -> Outcome {
     differ(flow_named, list_named)?;
     let flow = read(flow_named)?;
-    let (numbers, list) = mav::read_back_to_vec(&flow)
+    let mut list = zeros(mav::list_room(flow.len()))?;
+    let written = mav::read_back(&flow, &mut list)
         .map_err(|refusal| refusal::of_flow(&refusal, flow_named, &flow))?;
-    save(list_named, numbers, &list, yes, out)
+    let list = &list[..written.length];
+    save(list_named, written.accepted, list, yes, out)
 }
 
 /// Writes the flow of a request list to a file.
 pub fn write(list_named: &Path, flow_named: &Path, yes: bool, out: &mut impl Write) -> Outcome {
     differ(list_named, flow_named)?;
     let list = read(list_named)?;
-    let (numbers, flow) = mav::write_to_vec(&list)
+    let mut flow = zeros(mav::flow_room(&list))?;
+    let written = mav::write(&list, &mut flow)
         .map_err(|refusal| refusal::of_list(&refusal, list_named, &list))?;
-    save(flow_named, numbers, &flow, yes, out)
+    let flow = &flow[..written.length];
+    save(flow_named, written.accepted, flow, yes, out)
 }
 
 /// A file cannot become its own list.

@@ -1,11 +1,12 @@
 //! The lock beside a file, which one process at a time can hold.
 //!
 //! The lock is the operating system's, on a small file that says who holds it. The system lets go of it when
-//! its process ends, however it ends, so that a file left behind by a process that is gone blocks nobody.
+//! its process ends, however it ends, so that a file left behind by a process that is gone blocks nobody: the
+//! next one takes it over.
 //!
-//! A process holds the lock when it has locked the file that stands at the path. Only who has done so
-//! removes that file, and a new one is made only where none stands; so what stands at the path cannot change
-//! while somebody holds it, and there is never a second holder.
+//! A process holds the lock when it has locked the file that stands at the path. Only who has done so removes
+//! that file, and a new one is made only where none stands; so what stands at the path does not change while
+//! a `mavdesk` holds it, and there is never a second holder.
 
 use std::fs::{self, File, OpenOptions, Permissions, TryLockError};
 use std::io::{self, ErrorKind, Read, Write};
@@ -16,14 +17,18 @@ use std::time::{Duration, SystemTime};
 
 use crate::name::plain;
 
-/// How often a lock that is held is tried again, and after what time: long enough for a process that only
-/// clears away what another has left, and too short to be noticed.
+/// How often a lock that is held is tried again, and after what time: long enough for a process that is just
+/// ending, and too short to be noticed. One who has not signed yet is waited for longer.
 const ATTEMPTS: u32 = 20;
+const UNSIGNED_ATTEMPTS: u32 = 200;
 const PAUSE: Duration = Duration::from_millis(2);
 
-/// The longest name of a holder, and the longest signature that is read.
+/// A holder who has not signed yet.
+const UNSIGNED: &str = "another process";
+/// The longest name of a holder.
 const LONGEST_NAME: usize = 60;
-const LONGEST_SIGNATURE: u64 = 100;
+/// The length of a signature, with blanks at its end: each covers the whole of the one before.
+const SIGNATURE: usize = 100;
 
 /// A lock that this process holds, until it is dropped.
 pub struct Lock {
@@ -48,79 +53,89 @@ impl From<io::Error> for Refused {
 impl Lock {
     /// Takes the lock at a path, or says who holds it.
     pub fn take(path: &Path) -> Result<Lock, Refused> {
-        let mut holder = String::from("another process");
-        for _ in 0..ATTEMPTS {
-            match OpenOptions::new().write(true).create_new(true).open(path) {
-                Ok(file) => {
-                    if holds(&file, path)? {
-                        let path = path.to_owned();
-                        let mut lock = Lock { path, file };
-                        lock.sign()?;
-                        return Ok(lock);
-                    }
+        let mut told = UNSIGNED.to_owned();
+        for attempt in 1..=UNSIGNED_ATTEMPTS {
+            if let Some(mut file) = open(path)? {
+                if holds(&file, path)? {
+                    let path = path.to_owned();
+                    let mut lock = Lock { path, file };
+                    lock.sign()?;
+                    return Ok(lock);
                 }
-                Err(error) if error.kind() == ErrorKind::AlreadyExists => {
-                    match held_or_cleared(path)? {
-                        Some(found) => holder = found,
-                        None => continue,
-                    }
+                told = holder(&mut file)?;
+                if attempt >= ATTEMPTS && !told.starts_with(UNSIGNED) {
+                    break;
                 }
-                Err(error) => return Err(error.into()),
             }
             thread::sleep(PAUSE);
         }
-        Err(Refused::Held(holder))
+        Err(Refused::Held(told))
     }
 
-    /// Writes into the lock file who holds it, at once, so that nobody reads half a name. All may read it.
+    /// Writes into the lock file who holds it, in one write, so that nobody reads half a name. All who may
+    /// write in the folder may take the file over; of one that was taken over this has been said.
     fn sign(&mut self) -> io::Result<()> {
-        self.file.set_permissions(Permissions::from_mode(0o644))?;
-        let named = ["LOGNAME", "USER"].iter().find_map(std::env::var_os);
-        let mut user = named.unwrap_or_default().to_string_lossy().into_owned();
-        user.truncate(user.floor_char_boundary(LONGEST_NAME));
-        if user.is_empty() {
-            user = format!("user {}", self.file.metadata()?.uid());
-        }
-        let process = std::process::id();
-        let signature = format!("{user} (process {process})");
-        self.file.write_all(signature.as_bytes())
+        let _ = self.file.set_permissions(Permissions::from_mode(0o666));
+        let mut names = ["LOGNAME", "USER"].iter().filter_map(std::env::var_os);
+        let mut name = match names.find(|name| !name.is_empty()) {
+            Some(name) => name.to_string_lossy().into_owned(),
+            None => format!("user {}", self.file.metadata()?.uid()),
+        };
+        name.truncate(name.floor_char_boundary(LONGEST_NAME));
+        let mut signature = format!("{name} (process {})", std::process::id()).into_bytes();
+        signature.resize(SIGNATURE, b' ');
+        self.file.write_all(&signature)
     }
 }
 
 impl Drop for Lock {
     fn drop(&mut self) {
         // What cannot be removed is left behind, and blocks nobody.
-        let _ = fs::remove_file(&self.path);
+        if stands_at(&self.file, &self.path).unwrap_or(false) {
+            let _ = fs::remove_file(&self.path);
+        }
     }
 }
 
-/// Who holds the lock file at the path; or nothing, where nobody does and it is gone now.
-fn held_or_cleared(path: &Path) -> io::Result<Option<String>> {
-    if path.is_symlink() {
-        return Err(io::Error::other("a link stands in the place of its lock"));
+/// Opens the lock file at a path, or makes one; nothing where it is gone again, or its maker has not yet let
+/// others use it. It is opened for writing, which a disk of the network wants of a file that is locked.
+fn open(path: &Path) -> io::Result<Option<File>> {
+    let mut options = OpenOptions::new();
+    options.read(true).write(true);
+    match options.clone().create_new(true).open(path) {
+        Ok(file) => return Ok(Some(file)),
+        Err(error) if error.kind() == ErrorKind::AlreadyExists => {}
+        Err(error) => return Err(error),
     }
-    let mut file = match File::open(path) {
-        Err(error) if error.kind() == ErrorKind::NotFound => return Ok(None),
-        opened => opened?,
-    };
-    if holds(&file, path)? {
-        fs::remove_file(path)?;
-        return Ok(None);
+    match fs::symlink_metadata(path) {
+        Ok(found) if !found.is_file() => {
+            return Err(io::Error::other(
+                "something else stands in the place of its lock",
+            ))
+        }
+        _ => {}
     }
-    holder(&mut file).map(Some)
+    match options.open(path).map_err(|error| (error.kind(), error)) {
+        Err((ErrorKind::NotFound | ErrorKind::PermissionDenied, _)) => Ok(None),
+        opened => opened.map(Some).map_err(|(_, error)| error),
+    }
 }
 
 /// Locks a file and says whether this process now holds the lock of the path: not where another has locked
 /// it, and not where what stands at the path has become another file meanwhile.
 fn holds(file: &File, path: &Path) -> io::Result<bool> {
     match file.try_lock() {
-        Err(TryLockError::WouldBlock) => return Ok(false),
-        Err(TryLockError::Error(error)) => return Err(error),
-        Ok(()) => {}
+        Err(TryLockError::WouldBlock) => Ok(false),
+        Err(TryLockError::Error(error)) => Err(error),
+        Ok(()) => stands_at(file, path),
     }
-    let locked = file.metadata()?;
+}
+
+/// Whether an open file is the one that stands at a path.
+fn stands_at(file: &File, path: &Path) -> io::Result<bool> {
+    let file = file.metadata()?;
     match fs::symlink_metadata(path) {
-        Ok(there) => Ok((there.dev(), there.ino()) == (locked.dev(), locked.ino())),
+        Ok(there) => Ok((there.dev(), there.ino()) == (file.dev(), file.ino())),
         Err(error) if error.kind() == ErrorKind::NotFound => Ok(false),
         Err(error) => Err(error),
     }
@@ -130,10 +145,10 @@ fn holds(file: &File, path: &Path) -> io::Result<bool> {
 fn holder(file: &mut File) -> io::Result<String> {
     let since = file.metadata()?.modified()?;
     let mut name = Vec::new();
-    file.take(LONGEST_SIGNATURE).read_to_end(&mut name)?;
-    let name = match String::from_utf8_lossy(&name) {
-        name if name.is_empty() => "another process".to_owned(),
-        name => plain(&name),
+    file.take(SIGNATURE as u64).read_to_end(&mut name)?;
+    let name = match String::from_utf8_lossy(&name).trim() {
+        "" => UNSIGNED.to_owned(),
+        name => plain(name),
     };
     Ok(format!("{name} {}", told_since(since, SystemTime::now())))
 }

@@ -29,7 +29,7 @@ use std::io::{self, BufWriter, Write};
 use std::process::ExitCode;
 
 use arguments::Command;
-use failure::Outcome;
+use failure::{Failure, Outcome};
 
 fn main() -> ExitCode {
     let words: Vec<_> = std::env::args_os().skip(1).collect();
@@ -48,18 +48,26 @@ fn run(command: &Command) -> Outcome {
         Command::Check(named) => check::check(named, out)?,
         Command::Table { flow, wanted } => show::table(flow, wanted.as_deref(), out)?,
         Command::Request { flow, k } => show::request(flow, *k, out)?,
+        Command::Explain(None) => explain::table(out)?,
+        Command::Explain(Some(number)) => explain::number(*number, out)?,
+        saving => save(saving, out).map_err(Failure::of_saving)?,
+    }
+    out.flush()?;
+    Ok(())
+}
+
+/// The commands that save.
+fn save(command: &Command, out: &mut impl Write) -> Outcome {
+    match command {
         Command::Amount {
             flow,
             k,
             cents,
             yes,
-        } => amend::amount(flow, *k, *cents, *yes, out)?,
-        Command::Withdraw { flow, numbers, yes } => amend::withdraw(flow, numbers, *yes, out)?,
-        Command::List { flow, list, yes } => list::list(flow, list, *yes, out)?,
-        Command::Write { list, flow, yes } => list::write(list, flow, *yes, out)?,
-        Command::Explain(None) => explain::table(out)?,
-        Command::Explain(Some(number)) => explain::number(*number, out)?,
+        } => amend::amount(flow, *k, *cents, *yes, out),
+        Command::Withdraw { flow, numbers, yes } => amend::withdraw(flow, numbers, *yes, out),
+        Command::List { flow, list, yes } => list::list(flow, list, *yes, out),
+        Command::Write { list, flow, yes } => list::write(list, flow, *yes, out),
+        _ => Ok(()),
     }
-    out.flush()?;
-    Ok(())
 }

@@ -1,11 +1,14 @@
 //! Standard output, and the question before a save.
 
-use std::io::{self, BufRead, IsTerminal, Write};
+use std::io::{self, BufRead, IsTerminal, Read, Write};
 use std::path::Path;
 
 use crate::euro::grouped;
 use crate::failure::{cause, Failure, Outcome};
 use crate::name::shown;
+
+/// More of an answer is not read.
+const LONGEST_ANSWER: u64 = 1_000;
 
 /// Asks whether to go on, and takes `y` or `yes` for yes. Everything written before is seen first; where
 /// nobody answers, the answer is no.
@@ -14,8 +17,8 @@ pub fn confirm(out: &mut impl Write, question: &str, otherwise: &str) -> Outcome
     out.flush()?;
     let mut answer = String::new();
     let stdin = io::stdin();
-    // What is no text is no yes either.
-    let read = stdin.lock().read_line(&mut answer);
+    // What is no text, or longer than any answer, is no yes either.
+    let read = stdin.lock().take(LONGEST_ANSWER).read_line(&mut answer);
     if !stdin.is_terminal() || !answer.ends_with('\n') {
         writeln!(out)?;
     }

@@ -3,10 +3,10 @@
 use std::fmt::Write;
 use std::path::Path;
 
-use mav::{ItemKind, Reason, Refusal, RECORD_LENGTH};
+use mav::{Accepted, ItemKind, Reason, Refusal, RECORD_LENGTH};
 
 use crate::euro::grouped;
-use crate::failure::Failure;
+use crate::failure::{Failure, Outcome};
 use crate::name::shown;
 use crate::output::counted;
 use crate::record::{characters, drawn, text, ROW};
@@ -30,6 +30,11 @@ pub fn place(refusal: &Refusal) -> String {
 /// The same with what the number means. It begins in small letters and has no period.
 pub fn line(refusal: &Refusal) -> String {
     format!("{}: {}", place(refusal), refusal.reason)
+}
+
+/// The numbers of a flow; or the end of a command, where it is refused.
+pub fn accepted(named: &Path, flow: &[u8]) -> Outcome<Accepted> {
+    mav::read(flow).map_err(|refusal| of_flow(&refusal, named, flow))
 }
 
 /// The end of a command whose flow is refused.

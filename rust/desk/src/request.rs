@@ -4,7 +4,7 @@
 use mav::RECORD_LENGTH;
 
 use crate::euro;
-use crate::record::{field, record_type, text};
+use crate::record::{characters, field, record_type, text};
 
 /// A request as a row of the table.
 pub struct Request {
@@ -43,10 +43,12 @@ impl Request {
         }
     }
 
-    /// Whether one of the cells has the text, in capital or small letters.
+    /// Whether one of the cells has the text, in capital or small letters. An amount has it with the points
+    /// between thousands and without them.
     pub fn has(&self, wanted: &str) -> bool {
         let wanted = wanted.to_ascii_uppercase();
-        let mut cells = self.cells.iter();
+        let amount = self.cells[2].replace('.', "");
+        let mut cells = self.cells.iter().chain([&amount]);
         cells.any(|cell| cell.to_ascii_uppercase().contains(&wanted))
     }
 
@@ -102,9 +104,6 @@ pub fn requests(flow: &[u8]) -> impl Iterator<Item = Request> + '_ {
 
 /// A date GGMMAA as day, month and year, of the years 2000 to 2099.
 pub fn date(digits: &[u8]) -> String {
-    let digits = text(digits);
-    match (digits.get(..2), digits.get(2..4), digits.get(4..)) {
-        (Some(day), Some(month), Some(year)) => format!("{day}/{month}/20{year}"),
-        _ => digits,
-    }
+    let [day, month, year] = [0..2, 2..4, 4..6].map(|range| characters(&digits[range]));
+    format!("{day}/{month}/20{year}")
 }

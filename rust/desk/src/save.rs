@@ -4,13 +4,13 @@
 //! The old version gets a second name, `NAME.before`. Then the new file is renamed over the old one, which
 //! the system does in one step, and the folder is flushed. The file under its name is never written to.
 
-use std::fs::{self, File, OpenOptions};
+use std::fs::{self, File, Metadata, OpenOptions};
 use std::io::{self, ErrorKind, Write};
-use std::os::unix::fs::{fchown, MetadataExt};
+use std::os::unix::fs::{fchown, MetadataExt, OpenOptionsExt};
 use std::path::{Path, PathBuf};
 
 use crate::failure::{cause, Failure, Outcome};
-use crate::input::{holds, read_open};
+use crate::input::{has_bytes, read_open};
 use crate::lock::{Lock, Refused};
 use crate::name::{self, shown};
 
@@ -45,6 +45,10 @@ impl Target {
         let unchanged = |error| Failure::of_file(named, "cannot be changed", &error);
         let path = real(named).map_err(unchanged)?;
         let lock = Lock::take(&name::lock(&path)).map_err(|refused| match refused {
+            Refused::Failed(error) if error.kind() == ErrorKind::PermissionDenied => {
+                let error = io::Error::other("there is no permission to write in its folder");
+                Failure::of_file(named, "cannot be locked", &error)
+            }
             Refused::Failed(error) => Failure::of_file(named, "cannot be locked", &error),
             Refused::Held(holder) => Failure::trouble(format!(
                 "{} is locked by {holder}; nothing was changed, so try again when they are done.",
@@ -73,30 +77,35 @@ impl Target {
 
     /// Puts the new version in the place of the old one, which must still be what was read.
     pub fn save(&self, old: Option<&[u8]>, new: &[u8]) -> Outcome {
-        self.replace(old, new).map_err(|unsaved| {
-            // What cannot be removed now is removed by the next save.
-            let _ = fs::remove_file(name::new(&self.path));
-            let _ = fs::remove_file(name::old(&self.path));
-            match (unsaved, old) {
-                (Unsaved::Changed, _) => Failure::trouble(format!(
-                    "{} is not saved: another program has changed it since it was read.",
-                    shown(&self.named)
-                )),
-                (Unsaved::Failed(error), Some(_)) => {
-                    Failure::of_file(&self.named, "cannot be saved and is as it was", &error)
-                }
-                (Unsaved::Failed(error), None) => {
-                    Failure::of_file(&self.named, "cannot be saved", &error)
-                }
-            }
-        })?;
-        self.flush_folder().map_err(|error| {
+        let folder = File::open(self.path.parent().unwrap_or(Path::new("/")))
+            .map_err(|error| Failure::of_file(&self.named, "cannot be saved", &error))?;
+        self.replace(old, new, &folder)
+            .map_err(|unsaved| self.unsaved(unsaved, old.is_some()))?;
+        flush(&folder).map_err(|error| {
             Failure::trouble(format!(
                 "{} is saved, but its folder was not flushed to the disk: {}.",
                 shown(&self.named),
                 cause(&error)
             ))
         })
+    }
+
+    /// Clears away what was prepared, and says why the file is not saved.
+    fn unsaved(&self, unsaved: Unsaved, had_old: bool) -> Failure {
+        // What cannot be removed now is removed by the next save.
+        let _ = fs::remove_file(name::new(&self.path));
+        let _ = fs::remove_file(name::old(&self.path));
+        match unsaved {
+            Unsaved::Changed => Failure::trouble(format!(
+                "{} is not saved: another program has changed it since it was read.",
+                shown(&self.named)
+            )),
+            Unsaved::Failed(error) => {
+                let as_it_was = if had_old { " and is as it was" } else { "" };
+                let doing = format!("cannot be saved{as_it_was}");
+                Failure::of_file(&self.named, &doing, &error)
+            }
+        }
     }
 
     /// The name under which the old version is kept, as the clerk can use it.
@@ -109,28 +118,40 @@ impl Target {
     }
 
     /// The new version on the disk, the old one under its second name, and then the renaming.
-    fn replace(&self, old: Option<&[u8]>, new: &[u8]) -> Result<(), Unsaved> {
+    fn replace(&self, old: Option<&[u8]>, new: &[u8], folder: &File) -> Result<(), Unsaved> {
         let new_path = name::new(&self.path);
         self.write_whole(&new_path, new)?;
-        let unchanged = match old {
-            Some(old) => self.path.try_exists()? && holds(&self.path, old)?,
-            None => !self.path.try_exists()?,
+        let Some(old) = old else {
+            return self.name_first(&new_path);
         };
-        if !unchanged {
+        if !self.path.try_exists()? || !has_bytes(&self.path, old)? {
             return Err(Unsaved::Changed);
         }
-        if let Some(old) = old {
-            self.keep(old).map_err(|error| {
-                let before = shown(&self.kept_as());
-                io::Error::other(format!("{before} cannot be written: {}", cause(&error)))
-            })?;
-        }
+        self.keep(old, folder).map_err(|error| {
+            let before = shown(&self.kept_as());
+            io::Error::other(format!("{before} cannot be written: {}", cause(&error)))
+        })?;
         fs::rename(new_path, &self.path)?;
         Ok(())
     }
 
+    /// Gives a file its name where nothing has that name: by a hard link, which never replaces a file, or by
+    /// a renaming on a disk without them.
+    fn name_first(&self, new_path: &Path) -> Result<(), Unsaved> {
+        let linked = fs::hard_link(new_path, &self.path);
+        if linked.is_err() && self.path.try_exists()? {
+            return Err(Unsaved::Changed);
+        }
+        match linked {
+            // It has its name. That it has the other one too is mended by the next save at the latest.
+            Ok(()) => drop(fs::remove_file(new_path)),
+            Err(_) => fs::rename(new_path, &self.path)?,
+        }
+        Ok(())
+    }
+
     /// Gives the old version the name `NAME.before` too. On a disk without hard links it is a copy.
-    fn keep(&self, old: &[u8]) -> io::Result<()> {
+    fn keep(&self, old: &[u8], folder: &File) -> io::Result<()> {
         let second = name::old(&self.path);
         remove_if_there(&second)?;
         if fs::hard_link(&self.path, &second).is_err() {
@@ -139,37 +160,50 @@ impl Target {
         fs::rename(&second, name::before(&self.path))?;
         // A renaming onto another name of the same file leaves both.
         remove_if_there(&second)?;
-        self.flush_folder()
+        flush(folder)
     }
 
-    /// Writes a new file, flushes it to the disk, reads it back and compares. It gets the permissions of the
-    /// old version and, where the system allows it, its group.
+    /// Writes a new file, flushes it to the disk, reads it back and compares. It is as open to others as the
+    /// old version, and not before it is so.
     fn write_whole(&self, path: &Path, bytes: &[u8]) -> io::Result<()> {
         remove_if_there(path)?;
-        let mut file = OpenOptions::new().write(true).create_new(true).open(path)?;
-        if let Some(old) = &self.old {
-            let metadata = old.metadata()?;
-            let _ = fchown(&file, None, Some(metadata.gid()));
-            file.set_permissions(metadata.permissions())?;
-        }
+        let mut options = OpenOptions::new();
+        options.write(true).create_new(true);
+        let mut file = match &self.old {
+            Some(old) => alike(options.mode(0o600).open(path)?, &old.metadata()?)?,
+            None => options.open(path)?,
+        };
         file.write_all(bytes)?;
         file.sync_all()?;
-        match holds(path, bytes)? {
+        match has_bytes(path, bytes)? {
             true => Ok(()),
             false => Err(io::Error::other(
                 "the disk gives back other bytes than were written",
             )),
         }
     }
+}
 
-    /// Flushes the folder's names to the disk, where the system has that.
-    fn flush_folder(&self) -> io::Result<()> {
-        let folder = File::open(self.path.parent().unwrap_or(Path::new("/")))?;
-        let has_none = [ErrorKind::InvalidInput, ErrorKind::Unsupported];
-        match folder.sync_all() {
-            Err(error) if has_none.contains(&error.kind()) => Ok(()),
-            flushed => flushed,
-        }
+/// Gives a file the owner, the group and the permissions of another. The owner is kept where the system allows
+/// it; the group has to be, unless the group may do no more than everybody.
+fn alike(file: File, old: &Metadata) -> io::Result<File> {
+    if fchown(&file, Some(old.uid()), Some(old.gid())).is_err() {
+        let _ = fchown(&file, None, Some(old.gid()));
+    }
+    let (of_group, of_others) = (old.mode() >> 3 & 0o7, old.mode() & 0o7);
+    if of_group != of_others && file.metadata()?.gid() != old.gid() {
+        return Err(io::Error::other("its group cannot be kept"));
+    }
+    file.set_permissions(old.permissions())?;
+    Ok(file)
+}
+
+/// Flushes a folder's names to the disk, where the system has that.
+fn flush(folder: &File) -> io::Result<()> {
+    let has_none = [ErrorKind::InvalidInput, ErrorKind::Unsupported];
+    match folder.sync_all() {
+        Err(error) if has_none.contains(&error.kind()) => Ok(()),
+        flushed => flushed,
     }
 }
 

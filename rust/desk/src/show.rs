@@ -17,7 +17,7 @@ use crate::request::{date, requests, titles, Request};
 /// Shows the requests of a flow, or those that have a text in their row.
 pub fn table(named: &Path, wanted: Option<&str>, out: &mut impl Write) -> Outcome {
     let flow = read(named)?;
-    let numbers = mav::read(&flow).map_err(|refusal| refusal::of_flow(&refusal, named, &flow))?;
+    let numbers = refusal::accepted(named, &flow)?;
     let (mut found, mut cents) = (0_u64, 0_u64);
     for request in requests(&flow) {
         if wanted.is_none_or(|wanted| request.has(wanted)) {
@@ -53,7 +53,7 @@ pub fn table(named: &Path, wanted: Option<&str>, out: &mut impl Write) -> Outcom
 /// Shows one request with all its records.
 pub fn request(named: &Path, k: u64, out: &mut impl Write) -> Outcome {
     let flow = read(named)?;
-    let numbers = mav::read(&flow).map_err(|refusal| refusal::of_flow(&refusal, named, &flow))?;
+    let numbers = refusal::accepted(named, &flow)?;
     let found = mav::find(&flow, k)
         .map_err(|refusal| refusal::of_request(&refusal, named, k, numbers.dispositions, ""))?;
     let request = Request::of(found.part, k);

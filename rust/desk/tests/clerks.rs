@@ -9,16 +9,16 @@
 mod common;
 
 use std::collections::BTreeSet;
-use std::fs::{self, File};
+use std::fs::{self, File, Permissions};
 use std::io::{BufRead, BufReader, Read, Write};
-use std::os::unix::fs::symlink;
+use std::os::unix::fs::{chown, symlink, PermissionsExt};
 use std::path::Path;
-use std::process::{Child, ChildStderr, ChildStdout, Stdio};
+use std::process::{Child, ChildStderr, ChildStdout, Command, Stdio};
 use std::sync::atomic::{AtomicBool, Ordering};
 use std::thread;
 use std::time::{Duration, SystemTime};
 
-use common::{amended, interrupt_library, sample, Ended, Folder};
+use common::{amended, are_root, interrupt_library, run_as_clerk, sample, Ended, Folder};
 use oracle::ledger::Call;
 use oracle::record::put;
 use oracle::{reader, samples, Answer};
@@ -477,14 +477,20 @@ fn a_lock_file_made_by_hand_blocks_nobody() {
 }
 
 #[test]
-fn a_link_in_the_place_of_the_lock_is_told_and_left() {
+fn a_link_or_a_pipe_in_the_place_of_the_lock_is_told_and_left() {
     let (folder, flow) = forty();
     fs::write(folder.path("private"), "a text of its own").unwrap();
-    for target in ["private", "nowhere"] {
-        symlink(target, folder.path(LOCK)).unwrap();
+    let pipe = |path: &Path| {
+        let made = Command::new("mkfifo").arg(path).status();
+        assert!(made.unwrap().success());
+    };
+    let links = ["private", "nowhere"].map(|to| move |path: &Path| symlink(to, path).unwrap());
+    let [link, dangling] = links;
+    for make in [&pipe as &dyn Fn(&Path), &link, &dangling] {
+        make(&folder.path(LOCK));
         amount(2, 222).try_by(&folder, "bruno").failed(
             2,
-            "mavdesk: house.flow cannot be locked: a link stands in the place of its lock.\n",
+            "mavdesk: house.flow cannot be locked: something else stands in the place of its lock.\n",
         );
         assert_eq!(folder.names(), [LOCK, "house.flow", "private"]);
         fs::remove_file(folder.path(LOCK)).unwrap();
@@ -507,6 +513,44 @@ fn a_holder_without_a_name_or_with_a_long_one_is_told_with_its_process() {
         }
         holder.answer("n\n");
     }
+}
+
+#[test]
+fn a_lock_file_removed_by_hand_is_not_made_up_for_by_removing_another() {
+    let (folder, flow) = forty();
+    let anna = Asked::new(&folder, "anna", amount(1, 111));
+    fs::remove_file(folder.path(LOCK)).unwrap();
+    let bruno = Asked::new(&folder, "bruno", amount(2, 222));
+    assert_eq!(anna.answer("n\n").status, Some(1));
+    // Bruno's lock stands.
+    let named = Some(("bruno".to_owned(), bruno.process()));
+    assert_eq!(holder_of(&amount(3, 333).try_by(&folder, "carla")), named);
+    assert_saved(&bruno.answer("y\n"));
+    assert_flow(&folder, &amended(&flow, &[amount(2, 222).0]));
+    assert_cleared(&folder);
+}
+
+#[test]
+fn a_lock_file_of_another_user_that_cannot_be_removed_is_taken_over() {
+    let (folder, flow) = forty();
+    // Only root can act as two others.
+    if !are_root() {
+        return;
+    }
+    // In such a folder only the owner of a file removes it.
+    fs::set_permissions(folder.path(""), Permissions::from_mode(0o1777)).unwrap();
+    let lock = folder.path(LOCK);
+    fs::write(&lock, "carla (process 1)").unwrap();
+    fs::set_permissions(&lock, Permissions::from_mode(0o666)).unwrap();
+    chown(&lock, Some(1_234), Some(1_234)).unwrap();
+    for name in ["", "house.flow"] {
+        let owner = if name.is_empty() { 4_321 } else { 65_534 };
+        chown(folder.path(name), Some(owner), Some(owner)).unwrap();
+    }
+    let words = ["amount", "--yes", "house.flow", "2", "2,22"];
+    assert_saved(&run_as_clerk(&folder, ":", &words));
+    assert_flow(&folder, &amended(&flow, &[amount(2, 222).0]));
+    assert_eq!(folder.names(), [LOCK, "house.flow", "house.flow.before"]);
 }
 
 #[test]

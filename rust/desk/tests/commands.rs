@@ -6,6 +6,7 @@ mod common;
 
 use std::fs;
 use std::io::pipe;
+use std::os::unix::fs::symlink;
 use std::process::{Command, Stdio};
 
 use common::{
@@ -263,34 +264,71 @@ north/house.flow          1                 450,00          9
 }
 
 #[test]
-fn every_one_of_twenty_thousand_flows_is_judged_once() {
+fn every_one_of_two_thousand_flows_is_judged_once() {
     let folder = Folder::new();
-    fs::write(folder.path("a"), sample("one-rent.flow")).unwrap();
-    fs::write(folder.path("b"), sample("two-rents.flow")).unwrap();
     // Two flows by turns, so that one judged twice or left out would stand beside the wrong name.
-    let words = [vec!["check"], ["a", "b"].repeat(10_000)].concat();
-    let rows = "a             1                 450,00          9
-b             2                 830,50         16
-";
-    folder.run(&words).printed(&format!(
-        "FLOW   REQUESTS                  TOTAL    RECORDS\n{}\n\
-         20.000 flows accepted: 30.000 requests, 12.805.000,00 euro.\n",
-        rows.repeat(10_000)
+    let mut rows = String::new();
+    for number in 1..=1_000 {
+        let (one, two) = (format!("{number:04}-a"), format!("{number:04}-b"));
+        fs::write(folder.path(&one), sample("one-rent.flow")).unwrap();
+        fs::write(folder.path(&two), sample("two-rents.flow")).unwrap();
+        rows += &format!(
+            "./{one}          1                 450,00          9
+./{two}          2                 830,50         16
+"
+        );
+    }
+    folder.run(&["check", "."]).printed(&format!(
+        "FLOW       REQUESTS                  TOTAL    RECORDS\n{rows}\n\
+         2.000 flows accepted: 3.000 requests, 1.280.500,00 euro.\n",
     ));
 }
 
 #[test]
-fn a_folder_without_a_flow_is_an_error() {
+fn a_flow_that_is_named_twice_is_counted_once() {
+    let folder = Folder::with(&["two-rents.flow", "one-rent.flow"]);
+    symlink("two-rents.flow", folder.path("link.flow")).unwrap();
+    let words = ["check", "two-rents.flow", ".", "./two-rents.flow"];
+    folder.run(&words).printed(
+        "\
+FLOW              REQUESTS                  TOTAL    RECORDS
+two-rents.flow           2                 830,50         16
+./one-rent.flow          1                 450,00          9
+
+2 flows accepted: 3 requests, 1.280,50 euro.
+",
+    );
+}
+
+#[test]
+fn a_folder_without_a_flow_is_an_error_and_the_others_are_judged() {
     let folder = Folder::with(&["two-rents.flow"]);
     fs::create_dir(folder.path("night")).unwrap();
+    let titles = "REQUESTS                  TOTAL    RECORDS";
+    let none = "mavdesk: night has no flow in it.\n";
     let ended = folder.run(&["check", "night"]);
-    ended.failed(2, "mavdesk: night has no flow in it.\n");
+    assert_eq!(
+        ended.out,
+        format!("FLOW    {titles}\nnight   not read\n\n0 flows accepted: 0 requests, 0,00 euro. 1 not read.\n")
+    );
+    assert_eq!((ended.status, &ended.err[..]), (Some(2), none));
     for name in ["night/a.list", "night/a.before", "night/.a"] {
         fs::write(folder.path(name), sample("one-rent.flow")).unwrap();
     }
     fs::create_dir(folder.path("night/a.flow")).unwrap();
-    let ended = folder.run(&["check", "two-rents.flow", "night"]);
-    ended.failed(2, "mavdesk: night has no flow in it.\n");
+    let ended = folder.run(&["check", "night", "two-rents.flow"]);
+    assert_eq!(
+        ended.out,
+        format!(
+            "FLOW             {titles}
+night            not read
+two-rents.flow          2                 830,50         16
+
+1 flow accepted: 2 requests, 830,50 euro. 1 not read.
+"
+        )
+    );
+    assert_eq!((ended.status, &ended.err[..]), (Some(2), none));
 }
 
 #[test]
@@ -594,6 +632,20 @@ two-rents.flow: AB123, 15/03/2026, RENT-MARCH
 2 requests, 100.000.000.380,49 euro, 16 records.
 ",
     );
+    // An amount is found as it is shown and as it is written.
+    for text in ["99.999.999.999,99", "99999999999,99", "--find=99999"] {
+        let option = if text.starts_with("--") {
+            &[text][..]
+        } else {
+            &["--find", text]
+        };
+        let words = [&["show", "two-rents.flow"], option].concat();
+        let found = folder.run(&words).out;
+        assert!(
+            found.ends_with("\n1 of 2 requests, 99.999.999.999,99 euro.\n"),
+            "{found}"
+        );
+    }
     let zero = amended(&new, &[change(1, 0)]);
     let ended = folder.run(&["amount", "--yes", "two-rents.flow", "001", "0"]);
     ended.printed(
@@ -1100,28 +1152,30 @@ fn two_thousand() -> Vec<u8> {
 }
 
 #[test]
-fn a_reader_that_has_gone_ends_the_command_in_silence() {
+fn a_reader_that_has_gone_ends_what_only_shows_in_silence_and_a_save_with_a_word() {
     let folder = Folder::with(&["two-rents.flow", "refused-09-block-twice.flow"]);
     let flow = flow_of(&two_thousand());
     assert_eq!(flow.len(), 120 * 14_002);
     fs::write(folder.path("large.flow"), &flow).unwrap();
-    for words in [
-        &["show", "large.flow"][..],
-        &["show", "large.flow", "--find", "rossi"],
-        &["show", "two-rents.flow", "1"],
-        &["check", "large.flow", "refused-09-block-twice.flow"],
-        &["explain"],
-        &["--help"],
-        &["amount", "two-rents.flow", "2", "400"],
-        &["amount", "--yes", "two-rents.flow", "2", "400"],
-        &["withdraw", "--yes", "two-rents.flow", "2"],
+    let unsaved = "mavdesk: nothing was saved, since who was to read standard output has gone.\n";
+    for (words, told) in [
+        (&["show", "large.flow"][..], ""),
+        (&["show", "large.flow", "--find", "rossi"], ""),
+        (&["show", "two-rents.flow", "1"], ""),
+        (&["check", "large.flow", "refused-09-block-twice.flow"], ""),
+        (&["explain"], ""),
+        (&["--help"], ""),
+        (&["amount", "two-rents.flow", "2", "400"], unsaved),
+        (&["amount", "--yes", "two-rents.flow", "2", "400"], unsaved),
+        (&["withdraw", "--yes", "two-rents.flow", "2"], unsaved),
+        (&["list", "two-rents.flow", "new.list"], unsaved),
     ] {
         let (reader, writer) = pipe().unwrap();
         drop(reader);
         let mut command = folder.command(words);
         command.stdin(Stdio::null()).stdout(writer);
         let ended = Ended::of(command.output().unwrap());
-        ended.failed(2, "");
+        ended.failed(2, told);
     }
     // What could not be shown was not saved either.
     left(

@@ -9,11 +9,13 @@ use std::fs::{self, File, OpenOptions, Permissions};
 use std::io::{Read, Write};
 use std::os::unix::ffi::OsStrExt;
 use std::os::unix::fs::{chown, symlink, MetadataExt, PermissionsExt};
-use std::os::unix::process::CommandExt;
 use std::path::{Path, PathBuf};
 use std::process::{Command, Stdio};
 
-use common::{amended, change, left, replaced, sample, withdraw, Ended, Folder};
+use common::{
+    amended, are_root, change, flow_of, left, replaced, run_as_clerk, run_limited, sample,
+    withdraw, Ended, Folder,
+};
 
 /// What `amount FILE 2 400` shows of two-rents.flow behind the file's name.
 const TO_400: &str = ": Request 2, due 31/03/2026, BIANCHI MARCO, reference 0000000023
@@ -56,35 +58,6 @@ fn set_mode(path: &Path, mode: u32) {
 
 fn mode(path: &Path) -> u32 {
     fs::metadata(path).unwrap().mode() & 0o7777
-}
-
-/// Whether the tests run as root, whom no permission stops.
-fn are_root() -> bool {
-    fs::metadata(Folder::new().path(".")).unwrap().uid() == 0
-}
-
-/// Runs the command as a user whom permissions can stop. Root runs a copy of it as another user.
-fn run_as_clerk(folder: &Folder, words: &[&str]) -> Ended {
-    let mut command = folder.command(words);
-    let home = Folder::new();
-    if are_root() {
-        let copy = home.path("mavdesk");
-        // No process of ours has the copy open for writing when it is run.
-        let copied = Command::new("cp")
-            .arg(command.get_program())
-            .arg(&copy)
-            .status();
-        assert!(copied.unwrap().success());
-        set_mode(&copy, 0o755);
-        set_mode(&home.path("."), 0o755);
-        command = Command::new(copy);
-        command
-            .args(words)
-            .current_dir(folder.path("."))
-            .uid(65_534)
-            .gid(65_534);
-    }
-    Ended::of(command.stdin(Stdio::null()).output().unwrap())
 }
 
 #[test]
@@ -172,13 +145,21 @@ fn a_missing_folder_is_told() {
     for words in [
         &["list", "two-rents.flow", "night/house"][..],
         &["write", "two-rents.list", "night/house"],
-        &["amount", "night/house", "1", "450"],
-        &["withdraw", "night/house", "1"],
     ] {
         told(
             &folder.run(words),
             2,
             "night/house cannot be changed: there is no such folder.",
+        );
+    }
+    for words in [
+        &["amount", "night/house", "1", "450"][..],
+        &["withdraw", "night/house", "1"],
+    ] {
+        told(
+            &folder.run(words),
+            2,
+            "night/house cannot be read: there is no such file.",
         );
     }
     untouched(&folder, &["two-rents.flow", "two-rents.list"]);
@@ -219,7 +200,6 @@ fn a_file_in_the_path_is_no_folder() {
     for words in [
         &["list", "two-rents.flow", "two-rents.list/house"][..],
         &["write", "two-rents.list", "two-rents.list/house"],
-        &["amount", "two-rents.list/house", "1", "450"],
     ] {
         told(
             &folder.run(words),
@@ -227,11 +207,16 @@ fn a_file_in_the_path_is_no_folder() {
             "two-rents.list/house cannot be changed: a part of its path is not a folder.",
         );
     }
-    told(
-        &folder.run(&["show", "two-rents.list/house"]),
-        2,
-        "two-rents.list/house cannot be read: a part of its path is not a folder.",
-    );
+    for words in [
+        &["show", "two-rents.list/house"][..],
+        &["amount", "two-rents.list/house", "1", "450"],
+    ] {
+        told(
+            &folder.run(words),
+            2,
+            "two-rents.list/house cannot be read: a part of its path is not a folder.",
+        );
+    }
     untouched(&folder, &["two-rents.flow", "two-rents.list"]);
 }
 
@@ -332,7 +317,7 @@ fn a_file_that_may_not_be_read_is_told() {
         ),
         (&["withdraw", "--yes", "two-rents.flow", "2"], "changed"),
     ] {
-        let ended = run_as_clerk(&folder, words);
+        let ended = run_as_clerk(&folder, ":", words);
         assert_eq!(folder.names(), ["two-rents.flow"]);
         told(
             &ended,
@@ -340,7 +325,7 @@ fn a_file_that_may_not_be_read_is_told() {
             &format!("two-rents.flow cannot be {doing}: there is no permission."),
         );
     }
-    let ended = run_as_clerk(&folder, &["check", "."]);
+    let ended = run_as_clerk(&folder, ":", &["check", "."]);
     assert_eq!(
         ended.out,
         "\
@@ -369,7 +354,7 @@ fn a_file_that_may_only_be_read_is_shown_and_not_changed() {
         &["withdraw", "--yes", "two-rents.flow", "2"],
         &["list", "--yes", "one-rent.flow", "two-rents.flow"],
     ] {
-        let ended = run_as_clerk(&folder, words);
+        let ended = run_as_clerk(&folder, ":", words);
         told(
             &ended,
             2,
@@ -378,7 +363,12 @@ fn a_file_that_may_only_be_read_is_shown_and_not_changed() {
         untouched(&folder, &["one-rent.flow", "two-rents.flow"]);
         assert_eq!(mode(&folder.path("two-rents.flow")), 0o444);
     }
-    run_as_clerk(&folder, &["show", "two-rents.flow", "--find", "bianchi"]).printed(
+    run_as_clerk(
+        &folder,
+        ":",
+        &["show", "two-rents.flow", "--find", "bianchi"],
+    )
+    .printed(
         "\
 two-rents.flow: AB123, 15/03/2026, RENT-MARCH
 
@@ -407,12 +397,12 @@ fn in_a_folder_that_may_only_be_read_nothing_is_changed() {
         (&["write", "two-rents.list", "new.flow"], "new.flow"),
     ] {
         set_mode(&folder.path("."), 0o555);
-        let ended = run_as_clerk(&folder, words);
+        let ended = run_as_clerk(&folder, ":", words);
         set_mode(&folder.path("."), 0o755);
         told(
             &ended,
             2,
-            &format!("{name} cannot be locked: there is no permission."),
+            &format!("{name} cannot be locked: there is no permission to write in its folder."),
         );
         untouched(&folder, &["two-rents.flow", "two-rents.list"]);
     }
@@ -425,13 +415,14 @@ fn a_folder_that_may_not_be_looked_into_is_told() {
     fs::create_dir(&night).unwrap();
     fs::write(night.join("house.flow"), sample("one-rent.flow")).unwrap();
     set_mode(&night, 0o311);
-    let ended = run_as_clerk(&folder, &["check", "night"]);
+    let ended = run_as_clerk(&folder, ":", &["check", "night"]);
     set_mode(&night, 0o755);
-    told(
-        &ended,
-        2,
-        "night cannot be looked into: there is no permission.",
+    assert_eq!(
+        ended.err,
+        "mavdesk: night cannot be looked into: there is no permission.\n"
     );
+    assert!(ended.out.contains("\nnight   not read\n"));
+    assert_eq!(ended.status, Some(2));
 }
 
 /// A flow one record longer than the longest. It has no bytes on the disk.
@@ -442,16 +433,7 @@ fn too_long(folder: &Folder) {
 
 /// Runs the command with less memory than the file has bytes.
 fn run_in_little_memory(folder: &Folder, words: &[&str]) -> Ended {
-    let script = "ulimit -v 500000; exec \"$0\" \"$@\"";
-    let command = folder.command(words);
-    let output = Command::new("sh")
-        .args(["-c", script])
-        .arg(command.get_program())
-        .args(words)
-        .current_dir(folder.path("."))
-        .stdin(Stdio::null())
-        .output();
-    Ended::of(output.unwrap())
+    run_limited(folder, "ulimit -v 500000", words)
 }
 
 #[test]
@@ -469,8 +451,7 @@ fn a_flow_above_the_ceiling_is_refused_without_being_read() {
         told(
             &run_in_little_memory(&folder, words),
             1,
-            "long.flow is not read: it has 1.200.000.000 bytes, and the longest flow has 1.199.999.880 \
-             (number 1).",
+            "long.flow is not read: it has 1.200.000.000 bytes, and the longest flow has 1.199.999.880.",
         );
         assert_eq!(folder.names(), ["long.flow"]);
     }
@@ -654,7 +635,7 @@ fn a_wrong_amount_is_told() {
         told(
             &folder.run(&["amount", "--yes", "two-rents.flow", "2", euros]),
             2,
-            &format!("{shown} is not an amount, which is written as 450 or 450,00 or 450.00."),
+            &format!("{shown} is not an amount, which is written as 450 or 450,00 or 450.00, and 1450 without a point."),
         );
         untouched(&folder, &["two-rents.flow"]);
     }
@@ -729,7 +710,7 @@ fn a_word_that_is_no_text_is_told() {
             word(b"4\xFF0"),
         ]),
         2,
-        "4\u{FFFD}0 is not an amount, which is written as 450 or 450,00 or 450.00.",
+        "4\u{FFFD}0 is not an amount, which is written as 450 or 450,00 or 450.00, and 1450 without a point.",
     );
     told(
         &folder.run(&[word(b"show"), word(b"two-rents.flow"), word(b"\xFF")]),
@@ -816,9 +797,9 @@ fn an_option_that_a_command_does_not_have_is_told() {
         ),
         (&["show", "two-rents.flow", "--yes"], "show", "--yes"),
         (
-            &["show", "two-rents.flow", "--find=rossi"],
+            &["show", "two-rents.flow", "--finder=rossi"],
             "show",
-            "--find=rossi",
+            "--finder=rossi",
         ),
         (
             &["show", "--Find", "rossi", "two-rents.flow"],
@@ -919,7 +900,7 @@ fn too_few_and_too_many_words_are_told() {
         told(
             &folder.run(&words),
             2,
-            &format!("the words do not fit; it is {form}."),
+            &format!("the words do not fit {form} as it is used."),
         );
         untouched(&folder, &["two-rents.flow"]);
     }
@@ -1075,7 +1056,12 @@ fn a_link_to_nothing_and_a_link_to_itself_are_told() {
     let folder = Folder::new();
     symlink("nowhere", folder.path("link")).unwrap();
     symlink("circle", folder.path("circle")).unwrap();
-    for words in [&["show", "link"][..], &["list", "link", "new.list"]] {
+    for words in [
+        &["show", "link"][..],
+        &["list", "link", "new.list"],
+        &["amount", "--yes", "link", "1", "450"],
+        &["withdraw", "--yes", "link", "1"],
+    ] {
         told(
             &folder.run(words),
             2,
@@ -1085,27 +1071,21 @@ fn a_link_to_nothing_and_a_link_to_itself_are_told() {
     }
     let flow = Folder::with(&["two-rents.flow"]);
     let flow = flow.path("two-rents.flow").into_os_string().into_string();
+    told(
+        &folder.run(&["list", &flow.unwrap(), "link"]),
+        2,
+        "link cannot be changed: it is a link to a file that is not there.",
+    );
+    assert_eq!(folder.names(), ["circle", "link"]);
     for words in [
-        &["amount", "--yes", "link", "1", "450"][..],
-        &["withdraw", "--yes", "link", "1"],
-        &["list", &flow.unwrap(), "link"],
+        &["show", "circle"][..],
+        &["amount", "--yes", "circle", "1", "450"],
+        &["list", "circle", "new.list"],
     ] {
         told(
             &folder.run(words),
             2,
-            "link cannot be changed: it is a link to a file that is not there.",
-        );
-        assert_eq!(folder.names(), ["circle", "link"]);
-    }
-    for (words, doing) in [
-        (&["show", "circle"][..], "read"),
-        (&["amount", "--yes", "circle", "1", "450"], "changed"),
-        (&["list", "circle", "new.list"], "read"),
-    ] {
-        told(
-            &folder.run(words),
-            2,
-            &format!("circle cannot be {doing}: too many levels of symbolic links."),
+            "circle cannot be read: too many levels of symbolic links.",
         );
         assert_eq!(folder.names(), ["circle", "link"]);
     }
@@ -1164,6 +1144,115 @@ fn the_file_saved_has_the_group_of_the_old_one() {
             "{name}"
         );
     }
+}
+
+#[test]
+fn a_group_that_cannot_be_kept_is_told_where_it_matters() {
+    // Only root can make a file of a group that the clerk is not in.
+    if !are_root() {
+        return;
+    }
+    for (permissions, kept) in [(0o660, false), (0o640, false), (0o666, true), (0o600, true)] {
+        let folder = Folder::with(&["two-rents.flow"]);
+        let flow = folder.path("two-rents.flow");
+        chown(folder.path("."), Some(65_534), None).unwrap();
+        chown(&flow, Some(65_534), Some(5_000)).unwrap();
+        set_mode(&flow, permissions);
+        let ended = run_as_clerk(
+            &folder,
+            ":",
+            &["amount", "--yes", "two-rents.flow", "2", "400"],
+        );
+        if kept {
+            assert_eq!((ended.status, &ended.err[..]), (Some(0), ""));
+            let before = sample("two-rents.flow");
+            replaced(&folder, "two-rents.flow", &before, &at_400());
+        } else {
+            assert_eq!(
+                ended.err,
+                "mavdesk: two-rents.flow cannot be saved and is as it was: its group cannot be kept.\n"
+            );
+            assert_eq!(ended.status, Some(2));
+            untouched(&folder, &["two-rents.flow"]);
+        }
+        assert_eq!(mode(&flow), permissions);
+    }
+}
+
+#[test]
+fn root_leaves_a_flow_to_its_owner() {
+    if !are_root() {
+        return;
+    }
+    let folder = Folder::with(&["two-rents.flow"]);
+    let flow = folder.path("two-rents.flow");
+    chown(&flow, Some(1_234), Some(5_678)).unwrap();
+    set_mode(&flow, 0o600);
+    let ended = folder.run(&["amount", "--yes", "two-rents.flow", "2", "400"]);
+    assert_eq!(ended.status, Some(0));
+    let saved = fs::metadata(&flow).unwrap();
+    assert_eq!(
+        (saved.uid(), saved.gid(), mode(&flow)),
+        (1_234, 5_678, 0o600)
+    );
+}
+
+#[test]
+fn too_little_memory_is_told_and_nothing_is_saved() {
+    // Two rents 50,000 times: a flow of 84 MB, for which there is room once and not twice.
+    let folder = Folder::new();
+    let list = sample("two-rents.list");
+    let rents = list[50..].repeat(50_000);
+    fs::write(
+        folder.path("large.flow"),
+        flow_of(&[&list[..50], &rents].concat()),
+    )
+    .unwrap();
+    let length = fs::metadata(folder.path("large.flow")).unwrap().len();
+    assert_eq!(length, 120 * (2 + 14 * 50_000));
+    for words in [
+        &["amount", "--yes", "large.flow", "1", "1"][..],
+        &["withdraw", "--yes", "large.flow", "1"],
+        &["list", "large.flow", "new.list"],
+    ] {
+        told(
+            &run_limited(&folder, "ulimit -v 150000", words),
+            2,
+            "there is not enough memory; nothing was saved.",
+        );
+        assert_eq!(folder.names(), ["large.flow"]);
+    }
+}
+
+#[test]
+fn a_system_that_gives_no_threads_only_makes_a_check_slower() {
+    let folder = Folder::with(&["one-rent.flow", "two-rents.flow"]);
+    let limits = "ulimit -u 1";
+    run_as_clerk(
+        &folder,
+        limits,
+        &["check", "one-rent.flow", "two-rents.flow"],
+    )
+    .printed(
+        "\
+FLOW             REQUESTS                  TOTAL    RECORDS
+one-rent.flow           1                 450,00          9
+two-rents.flow          2                 830,50         16
+
+2 flows accepted: 3 requests, 1.280,50 euro.
+",
+    );
+}
+
+#[test]
+fn an_answer_without_an_end_is_no_yes() {
+    let folder = Folder::with(&["two-rents.flow"]);
+    let mut command = folder.command(&["amount", "two-rents.flow", "2", "400"]);
+    let endless = File::open("/dev/zero").unwrap();
+    let ended = Ended::of(command.stdin(endless).output().unwrap());
+    assert_eq!(ended.status, Some(1));
+    assert_eq!(ended.err, "mavdesk: not saved: the flow is as it was.\n");
+    untouched(&folder, &["two-rents.flow"]);
 }
 
 #[test]

@@ -16,7 +16,8 @@ use std::thread;
 use std::time::{Duration, Instant};
 
 use common::{
-    amended, change, flow_of, interrupt_library, list_of, sample, withdraw, Ended, Folder,
+    amended, change, flow_of, interrupt_library, list_of, run_limited, sample, withdraw, Ended,
+    Folder,
 };
 use oracle::{reader, samples, Answer};
 
@@ -346,7 +347,8 @@ fn may_fail(call: &Line) -> bool {
         // The group and a copy's hard link are given where the system allows it; the others tell nothing
         // that a save relies on, or close a file that is on the disk already.
         "fchown" | "link" | "close" | "statx" | "realpath" => true,
-        "unlink" => call.path.ends_with("-lock"),
+        "fchmod" => call.path.ends_with("-lock"),
+        "unlink" => call.path.ends_with("-lock") || call.path.ends_with("-new"),
         _ => false,
     }
 }
@@ -517,10 +519,12 @@ fn places(calls: &[Line], call: &str, path: &str) -> Vec<usize> {
     (0..calls.len()).filter(|&i| is_it(&calls[i])).collect()
 }
 
-/// The renaming by which a file gets a name: where it stands in the log, and the file's name before.
+/// The renaming by which a file gets a name, or the link by which a new one does: where it stands in the
+/// log, and the file's name before.
 fn renaming_to(calls: &[Line], path: &str) -> (usize, String) {
+    let names = ["rename", "link"];
     let mut found =
-        (0..calls.len()).filter(|&i| calls[i].call == "rename" && calls[i].third == path);
+        (0..calls.len()).filter(|&i| names.contains(&&calls[i].call[..]) && calls[i].third == path);
     let place = found
         .next()
         .unwrap_or_else(|| panic!("nothing is renamed to {path}"));
@@ -745,23 +749,12 @@ fn a_large_save_killed_at_moments_spread_over_its_time() {
     assert_eq!(folder.names(), ["house.flow", "house.flow.before"]);
 }
 
-/// Runs an amount change through the shell, which first sets limits.
-fn run_limited(folder: &Folder, limits: &str) -> Ended {
-    let script = format!("ulimit -c 0; {limits}; exec \"$@\"");
-    let mut shell = Command::new("sh");
-    shell.args(["-c", &script, "sh", env!("CARGO_BIN_EXE_mavdesk")]);
-    shell
-        .args(Save::amount().words)
-        .current_dir(folder.path(""));
-    Ended::of(shell.stdin(Stdio::null()).output().unwrap())
-}
-
 #[test]
 fn a_flow_that_is_larger_than_the_system_allows_stays_as_it_was() {
     let folder = Folder::new();
     let old = sample("forty-rents.flow");
     fs::write(folder.path("house.flow"), &old).unwrap();
-    let ended = run_limited(&folder, "trap '' XFSZ; ulimit -f 1");
+    let ended = run_limited(&folder, "trap '' XFSZ; ulimit -f 1", Save::amount().words);
     let sentence = "mavdesk: house.flow cannot be saved and is as it was: \
                     the file would be larger than the system allows.\n";
     assert_eq!((ended.status, &ended.err[..]), (Some(2), sentence));
@@ -774,7 +767,7 @@ fn a_flow_that_is_larger_than_the_system_allows_stays_as_it_was() {
 fn a_process_ended_for_a_file_too_large_leaves_the_old_flow() {
     let save = Save::amount();
     let folder = save.folder();
-    let ended = run_limited(&folder, "ulimit -f 1");
+    let ended = run_limited(&folder, "ulimit -f 1", save.words);
     assert_eq!((ended.status, &ended.err[..]), (None, ""));
     assert_eq!(save.is_saved(&folder), Ok(false));
     // It was ended while it wrote the new version.

@@ -497,7 +497,8 @@ fn number_15_tells_which_requests_there_are() {
         (&["withdraw", "two-rents.flow", "3"][..], 3),
         (&["withdraw", "two-rents.flow", "0"], 0),
         (&["withdraw", "--yes", "two-rents.flow", "1", "3"], 3),
-        (&["withdraw", "--yes", "two-rents.flow", "3", "0"], 0),
+        (&["withdraw", "--yes", "two-rents.flow", "0", "3"], 3),
+        (&["withdraw", "--yes", "two-rents.flow", "0", "2"], 0),
         (&["amount", "two-rents.flow", "3", "400"], 3),
         (&["amount", "--yes", "two-rents.flow", "0", "400"], 0),
         // 15 comes before 16.

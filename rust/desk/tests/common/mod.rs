@@ -5,8 +5,10 @@
 #![allow(dead_code)]
 
 use std::ffi::OsStr;
-use std::fs;
+use std::fs::{self, Permissions};
 use std::io::Write;
+use std::os::unix::fs::{MetadataExt, PermissionsExt};
+use std::os::unix::process::CommandExt;
 use std::path::{Path, PathBuf};
 use std::process::{Command, Output, Stdio};
 use std::sync::atomic::{AtomicU32, Ordering};
@@ -260,4 +262,51 @@ pub fn interrupt_library() -> &'static Path {
         fs::rename(made, &library).unwrap();
         library
     })
+}
+
+/// Whether the tests run as root, whom no permission stops.
+pub fn are_root() -> bool {
+    fs::metadata(Folder::new().path(".")).unwrap().uid() == 0
+}
+
+/// Runs the command behind these words of the shell, which may limit it.
+pub fn run_limited(folder: &Folder, limits: &str, words: &[&str]) -> Ended {
+    let command = limited(Path::new(env!("CARGO_BIN_EXE_mavdesk")), limits, words);
+    ended(command, folder)
+}
+
+/// The same as a user whom permissions can stop. Root runs a copy of the command as another user, since that
+/// one may not be allowed to come near the command itself.
+pub fn run_as_clerk(folder: &Folder, limits: &str, words: &[&str]) -> Ended {
+    if !are_root() {
+        return run_limited(folder, limits, words);
+    }
+    let home = Folder::new();
+    let copy = home.path("mavdesk");
+    // No process of ours has the copy open for writing when it is run.
+    let copied = Command::new("cp")
+        .arg(env!("CARGO_BIN_EXE_mavdesk"))
+        .arg(&copy)
+        .status();
+    assert!(copied.unwrap().success());
+    for path in [&copy, &home.path(".")] {
+        fs::set_permissions(path, Permissions::from_mode(0o755)).unwrap();
+    }
+    let mut command = limited(&copy, limits, words);
+    command.uid(65_534).gid(65_534);
+    ended(command, folder)
+}
+
+fn limited(program: &Path, limits: &str, words: &[&str]) -> Command {
+    let mut shell = Command::new("bash");
+    shell
+        .args(["-c", &format!("ulimit -c 0; {limits}; exec \"$0\" \"$@\"")])
+        .arg(program)
+        .args(words);
+    shell
+}
+
+fn ended(mut command: Command, folder: &Folder) -> Ended {
+    let command = command.current_dir(folder.path(".")).stdin(Stdio::null());
+    Ended::of(command.output().unwrap())
 }
