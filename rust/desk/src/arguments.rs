@@ -9,7 +9,6 @@ use crate::help;
 use crate::name::told;
 
 /// What a command line asks for.
-#[derive(Debug, Eq, PartialEq)]
 pub enum Command {
     Help(&'static str),
     Version,
@@ -22,28 +21,20 @@ pub enum Command {
         flow: PathBuf,
         k: u64,
     },
-    Amount {
-        flow: PathBuf,
-        k: u64,
-        cents: u64,
-        yes: bool,
-    },
-    Withdraw {
-        flow: PathBuf,
-        numbers: Vec<u64>,
-        yes: bool,
-    },
-    List {
-        flow: PathBuf,
-        list: PathBuf,
-        yes: bool,
-    },
-    Write {
-        list: PathBuf,
-        flow: PathBuf,
-        yes: bool,
-    },
     Explain(Option<u64>),
+    /// With or without a question.
+    Save {
+        saving: Saving,
+        yes: bool,
+    },
+}
+
+/// The commands that save.
+pub enum Saving {
+    Amount { flow: PathBuf, k: u64, cents: u64 },
+    Withdraw { flow: PathBuf, numbers: Vec<u64> },
+    List { flow: PathBuf, list: PathBuf },
+    Write { list: PathBuf, flow: PathBuf },
 }
 
 /// The words behind a command's name: its options, which may stand anywhere, and the others in order.
@@ -159,33 +150,32 @@ fn command(name: &str, words: Words) -> Outcome<Option<Command>> {
         },
         ("explain", []) => Command::Explain(None),
         ("explain", [number]) => Command::Explain(Some(parsed(number, euro::number, "a number")?)),
-        (_, operands) => return saving(name, operands, words.yes),
+        (_, operands) => {
+            let yes = words.yes;
+            return Ok(saving(name, operands)?.map(|saving| Command::Save { saving, yes }));
+        }
     }))
 }
 
 /// The same of the commands that save.
-fn saving(name: &str, operands: &[OsString], yes: bool) -> Outcome<Option<Command>> {
+fn saving(name: &str, operands: &[OsString]) -> Outcome<Option<Saving>> {
     Ok(Some(match (name, operands) {
-        ("amount", [flow, k, euros]) => Command::Amount {
+        ("amount", [flow, k, euros]) => Saving::Amount {
             flow: flow.into(),
             k: request(k)?,
             cents: cents(euros)?,
-            yes,
         },
-        ("withdraw", [flow, numbers @ ..]) if !numbers.is_empty() => Command::Withdraw {
+        ("withdraw", [flow, numbers @ ..]) if !numbers.is_empty() => Saving::Withdraw {
             flow: flow.into(),
             numbers: numbers.iter().map(|k| request(k)).collect::<Outcome<_>>()?,
-            yes,
         },
-        ("list", [flow, list]) => Command::List {
+        ("list", [flow, list]) => Saving::List {
             flow: flow.into(),
             list: list.into(),
-            yes,
         },
-        ("write", [list, flow]) => Command::Write {
+        ("write", [list, flow]) => Saving::Write {
             list: list.into(),
             flow: flow.into(),
-            yes,
         },
         _ => return Ok(None),
     }))

@@ -1,4 +1,4 @@
-//! Amounts as clerks write and read them. All of it is done on digits and whole cents.
+//! Amounts and numbers as clerks write and read them. All of it is done on digits and whole cents.
 
 /// The cents of an amount in euro: `450`, `450,00` or `450.00`, and nothing else. There is no sign, no blank,
 /// no point between thousands and no needless zero in front.

@@ -11,7 +11,6 @@ use crate::name::shown;
 pub type Outcome<T = ()> = Result<T, Failure>;
 
 /// The end of a command that has not done what it was asked.
-#[derive(Debug, Eq, PartialEq)]
 pub struct Failure {
     /// 1 where the rules or the clerk said no, 2 where the command could not be carried out.
     status: u8,

@@ -28,7 +28,7 @@ mod show;
 use std::io::{self, BufWriter, Write};
 use std::process::ExitCode;
 
-use arguments::Command;
+use arguments::{Command, Saving};
 use failure::{Failure, Outcome};
 
 fn main() -> ExitCode {
@@ -50,24 +50,17 @@ fn run(command: &Command) -> Outcome {
         Command::Request { flow, k } => show::request(flow, *k, out)?,
         Command::Explain(None) => explain::table(out)?,
         Command::Explain(Some(number)) => explain::number(*number, out)?,
-        saving => save(saving, out).map_err(Failure::of_saving)?,
+        Command::Save { saving, yes } => save(saving, *yes, out).map_err(Failure::of_saving)?,
     }
     out.flush()?;
     Ok(())
 }
 
-/// The commands that save.
-fn save(command: &Command, out: &mut impl Write) -> Outcome {
-    match command {
-        Command::Amount {
-            flow,
-            k,
-            cents,
-            yes,
-        } => amend::amount(flow, *k, *cents, *yes, out),
-        Command::Withdraw { flow, numbers, yes } => amend::withdraw(flow, numbers, *yes, out),
-        Command::List { flow, list, yes } => list::list(flow, list, *yes, out),
-        Command::Write { list, flow, yes } => list::write(list, flow, *yes, out),
-        _ => Ok(()),
+fn save(saving: &Saving, yes: bool, out: &mut impl Write) -> Outcome {
+    match saving {
+        Saving::Amount { flow, k, cents } => amend::amount(flow, *k, *cents, yes, out),
+        Saving::Withdraw { flow, numbers } => amend::withdraw(flow, numbers, yes, out),
+        Saving::List { flow, list } => list::list(flow, list, yes, out),
+        Saving::Write { list, flow } => list::write(list, flow, yes, out),
     }
 }

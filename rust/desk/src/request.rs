@@ -84,11 +84,7 @@ pub fn requests(flow: &[u8]) -> impl Iterator<Item = Request> + '_ {
     let mut records = flow.chunks_exact(RECORD_LENGTH).enumerate();
     let mut starts = std::iter::from_fn(move || {
         records
-            .find(|(_, record)| {
-                [b"14", b"EF"]
-                    .iter()
-                    .any(|wanted| record_type(record) == *wanted)
-            })
+            .find(|(_, record)| matches!(record_type(record), b"14" | b"EF"))
             .map(|(index, _)| index * RECORD_LENGTH)
     });
     // A request ends where the next one begins, and the last one at the trailer.

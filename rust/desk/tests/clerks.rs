@@ -379,6 +379,9 @@ fn a_clerk_is_told_who_holds_the_lock_and_since_when() {
     let possible = [earliest, latest].map(time_of_day);
     assert!(possible.contains(&holder.since), "{possible:?}: {holder:?}");
     assert!(holder.ago.contains("second"), "{holder:?}");
+    // Whoever may write in the folder may take it over, if Anna's process dies.
+    let lock = fs::metadata(folder.path(LOCK)).unwrap();
+    assert_eq!(lock.permissions().mode() & 0o777, 0o666);
     assert_flow(&folder, &flow);
     assert_eq!(folder.names(), [LOCK, "house.flow"]);
     anna.answer("n\n");
@@ -554,9 +557,14 @@ fn a_lock_file_of_another_user_that_cannot_be_removed_is_taken_over() {
 }
 
 #[test]
-fn a_lock_file_left_behind_is_cleared_away_before_the_question() {
+fn a_lock_file_left_behind_is_taken_over_before_the_question() {
     let (folder, _) = forty();
-    fs::write(folder.path(LOCK), "carla (process 1)").unwrap();
+    // Longer than what Anna writes over it.
+    fs::write(
+        folder.path(LOCK),
+        "carla (process 1), and more words behind",
+    )
+    .unwrap();
     let anna = Asked::new(&folder, "anna", amount(1, 111));
     let named = Some(("anna".to_owned(), anna.process()));
     assert_eq!(holder_of(&amount(2, 222).try_by(&folder, "bruno")), named);
@@ -723,12 +731,18 @@ impl Waiting {
         amendment: Amendment,
         at: usize,
     ) -> Result<Waiting, Ended> {
-        let mut child = folder
-            .command(&amendment.words_with_yes())
+        let mut command = folder.command(&amendment.words_with_yes());
+        command
             .env("LOGNAME", clerk)
+            .env("INTERRUPT_AT", at.to_string());
+        Waiting::of(command)
+    }
+
+    /// The same of a command that is told where to wait.
+    fn of(mut command: Command) -> Result<Waiting, Ended> {
+        let mut child = command
             .env("LD_PRELOAD", interrupt_library())
             .env("INTERRUPT_HOW", "wait")
-            .env("INTERRUPT_AT", at.to_string())
             .stdin(Stdio::piped())
             .stdout(Stdio::piped())
             .stderr(Stdio::piped())
@@ -755,6 +769,25 @@ impl Waiting {
         ended.err = err;
         ended
     }
+}
+
+#[test]
+fn a_file_made_by_another_program_at_the_last_moment_is_not_replaced() {
+    let (folder, flow) = forty();
+    let mut command = folder.command(&["list", "house.flow", "new.list"]);
+    // The link is what gives a new file its name.
+    command
+        .env("INTERRUPT_ONLY", "link")
+        .env("INTERRUPT_AT", "1");
+    let anna = Waiting::of(command).unwrap_or_else(|ended| panic!("{ended:?}"));
+    fs::write(folder.path("new.list"), "of another program").unwrap();
+    let ended = anna.go_on();
+    let sentence = "mavdesk: new.list is not saved: \
+                    another program has changed it since it was read.\n";
+    assert_eq!((ended.status, &ended.err[..]), (Some(2), sentence));
+    assert_eq!(folder.read("new.list"), b"of another program");
+    assert_flow(&folder, &flow);
+    assert_eq!(folder.names(), ["house.flow", "new.list"]);
 }
 
 /// What they amend. The order in which they do does not matter.
