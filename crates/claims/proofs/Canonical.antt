@@ -10,11 +10,10 @@ use Rattle.sequences.specs.Counted.{Counted}
 use Rattle.sequences.proofs.Append.{append-same}
 use Rattle.sequences.proofs.Counted.{counted-before, counted-behind, counted-append}
 use Rattle.records.specs.Context.{headerOf}
-use Rattle.records.specs.Kinds.{heads}
+use Rattle.records.specs.Kinds.{heads, opened}
 use Rattle.records.specs.declared.kind.Kind.{Kind}
 use Rattle.records.specs.declared.kind.Kind.the-variants.{Im}
 use Rattle.flow.specs.Records.{recordsOf}
-use Rattle.flow.specs.Steps.{opened}
 use Rattle.grammar.specs.Grammar.{Typed, kindsOf, recordsIn, Numbered, RightDisposition, Grammar}
 use Rattle.grammar.proofs.Dispositions.{Detail, each-detail, detail-opens, Opened, opened-by, opened-so, Member, InShape}
 use Rattle.grammar.proofs.Grammar.{grammar-shape}

@@ -23,7 +23,7 @@ use Rattle.records.specs.Finding.{Check, check, right, firstFault}
 use Rattle.records.specs.Finding.{refused as Finding·refused}
 use Rattle.records.specs.Judge.{asked}
 use Rattle.records.specs.Judge.{judge as Record·judge}
-use Rattle.records.specs.Kinds.{typeOf}
+use Rattle.records.specs.Kinds.{typeOf, opened}
 use Rattle.records.specs.declared.kind.Kind.{Kind}
 use Rattle.records.specs.declared.kind.Kind.the-variants.{Ef}
 use Rattle.records.proofs.ByKind.{types-differ}
@@ -34,7 +34,7 @@ use Rattle.flow.specs.Find.{IsNumber, find}
 use Rattle.flow.specs.Find.{refused as Located·refused}
 use Rattle.flow.specs.Judge.{judge}
 use Rattle.flow.specs.Records.{recordsOf}
-use Rattle.flow.specs.Steps.{opened, judgeRecord}
+use Rattle.flow.specs.Steps.{judgeRecord}
 use Rattle.flow.specs.Verdict.{accepted, refused}
 use Rattle.flow.specs.declared.walk.Walk.{Walk}
 use Rattle.flow.proofs.Cut.{joined-records}

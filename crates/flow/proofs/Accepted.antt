@@ -13,7 +13,7 @@ use Rattle.records.specs.Context.{Header, context, headerOf}
 use Rattle.records.specs.Field.{field}
 use Rattle.records.specs.Finding.{Finding, right}
 use Rattle.records.specs.Finding.{refused as Finding·refused}
-use Rattle.records.specs.Kinds.{hasType}
+use Rattle.records.specs.Kinds.{hasType, opened}
 use Rattle.records.specs.declared.kind.Kind.{Kind}
 use Rattle.records.specs.declared.kind.Kind.the-variants.{R14}
 use Rattle.records.proofs.ByKind.{right-asked, opens-type}
@@ -22,7 +22,7 @@ use Rattle.flow.specs.Judge.{after, ended, go, judge}
 use Rattle.flow.specs.Records.{RightLength, isLength, recordsOf}
 use Rattle.flow.specs.Laws.{LengthRefused, Ceiling, AcceptedExact, AnswerDetermined}
 use Rattle.flow.specs.Order.{permitted, isDue, among}
-use Rattle.flow.specs.Steps.{start, opened, countsAt, step, latest, typed, judgeRecord}
+use Rattle.flow.specs.Steps.{start, countsAt, step, latest, typed, judgeRecord}
 use Rattle.flow.specs.Sums.{dispositionsOf, centsOf}
 use Rattle.flow.specs.Verdict.{Verdict, accepted, refused}
 use Rattle.flow.specs.declared.answer.Answer.the-variants.{Accepted, Refused}

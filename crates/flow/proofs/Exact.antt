@@ -11,7 +11,7 @@ use Rattle.records.specs.Bytes.{badByte}
 use Rattle.records.specs.Context.{Header, context}
 use Rattle.records.specs.Finding.{Finding, right, refused}
 use Rattle.records.specs.Judge.{judge}
-use Rattle.records.specs.Kinds.{hasType}
+use Rattle.records.specs.Kinds.{hasType, opened}
 use Rattle.records.specs.Limits.{countLimit, centsLimit, stoppedCounts}
 use Rattle.records.specs.declared.judged.Counts.{Counts}
 use Rattle.records.specs.declared.kind.Kind.{Kind}
@@ -20,7 +20,7 @@ use Rattle.records.proofs.ByKind.{right-asked}
 use Rattle.records.proofs.FirstFault.{right-not-refused}
 use Rattle.records.proofs.Stopping.{limits-unseen, trailer-exact}
 use Rattle.flow.specs.Order.{In, permitted, isDue, place, placeAfter, among}
-use Rattle.flow.specs.Steps.{opened, counted, step, countsAt, typed, judgeRecord, stopped}
+use Rattle.flow.specs.Steps.{counted, step, countsAt, typed, judgeRecord, stopped}
 use Rattle.flow.specs.declared.order.Due.{Due}
 use Rattle.flow.specs.declared.order.Due.the-variants.{OnlyIm, OnlyR14, R16OrR20, OnlyR20, OnlyR30, OnlyR40, R50OrR59, R59OrR51, OnlyR51, OnlyR70, R14OrEf, Nothing}
 use Rattle.flow.specs.declared.order.Found.{Found}

@@ -14,7 +14,7 @@ use Rattle.records.specs.Context.{Header, Context, context}
 use Rattle.records.specs.Field.{field}
 use Rattle.records.specs.Finding.{right, Hold}
 use Rattle.records.specs.Judge.{judge}
-use Rattle.records.specs.Kinds.{closes}
+use Rattle.records.specs.Kinds.{opened, closes}
 use Rattle.records.specs.Limits.{countLimit}
 use Rattle.records.specs.Seen.{seenRight}
 use Rattle.records.specs.declared.kind.Kind.{Kind}
@@ -26,7 +26,7 @@ use Rattle.flow.specs.FastPath.{isInside, Inside, Numbered, atPlace, Pas
 use Rattle.flow.specs.Judge.{go}
 use Rattle.flow.specs.Order.{permitted, isDue, placeAfter, among}
 use Rattle.flow.specs.Records.{recordAt, recordsFrom}
-use Rattle.flow.specs.Steps.{opened, counted, step, latest, judgeRecord, stopped}
+use Rattle.flow.specs.Steps.{counted, step, latest, judgeRecord, stopped}
 use Rattle.flow.specs.Verdict.{Verdict}
 use Rattle.flow.specs.declared.order.Due.{Due}
 use Rattle.flow.specs.declared.order.Due.the-variants.{OnlyIm, OnlyR14, R16OrR20, OnlyR20, OnlyR30, OnlyR40, R50OrR59, R59OrR51, OnlyR51, OnlyR70, R14OrEf, Nothing}

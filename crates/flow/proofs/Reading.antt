@@ -7,11 +7,11 @@ use native.Mathlib.Omega.{arith}
 use Rattle.records.specs.Context.{Header}
 use Rattle.records.specs.Finding.{right}
 use Rattle.records.specs.Finding.{refused as Finding·refused}
-use Rattle.records.specs.Kinds.{opens}
+use Rattle.records.specs.Kinds.{opens, opened}
 use Rattle.records.specs.declared.kind.Kind.{Kind}
 use Rattle.flow.specs.Judge.{ended, go}
 use Rattle.flow.specs.Order.{permitted, isDue}
-use Rattle.flow.specs.Steps.{start, opened, step, latest, judgeRecord, stopped}
+use Rattle.flow.specs.Steps.{start, step, latest, judgeRecord, stopped}
 use Rattle.flow.specs.Verdict.{Verdict, refused}
 use Rattle.flow.specs.declared.walk.Walk.{Walk}
 use Rattle.flow.proofs.Exact.{record-alike, stopped-step, exact-at-end}

@@ -11,7 +11,7 @@ use Rattle.records.specs.Context.{Header, context}
 use Rattle.records.specs.Field.{field}
 use Rattle.records.specs.Finding.{Finding, refused}
 use Rattle.records.specs.Judge.{judge}
-use Rattle.records.specs.Kinds.{opens}
+use Rattle.records.specs.Kinds.{opens, opened}
 use Rattle.records.specs.Limits.{countLimit, centsLimit}
 use Rattle.records.specs.declared.judged.Counts.{Counts}
 use Rattle.records.specs.declared.kind.Kind.{Kind}
@@ -24,10 +24,7 @@ use Rattle.flow.specs.declared.walk.Walk.{Walk}
 abbrev pub start : Walk
 start = record { place = place OnlyIm; dispositions = 0; cents = 0 }
 
--- the dispositions that a record of the kind opens, and those up to and with it
-abbrev pub opened : Kind → ℕ
-opened k = cond (opens k) 1 0
-
+-- the dispositions up to and with a record of the kind
 abbrev pub counted : Walk → Kind → ℕ
 counted w k = w .dispositions + opened k
 

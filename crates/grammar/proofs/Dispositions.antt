@@ -14,10 +14,10 @@ use Rattle.records.specs.Checks.{isPresent, agrees}
 use Rattle.records.specs.Context.{Header}
 use Rattle.records.specs.Field.{field}
 use Rattle.records.specs.Judge.{asked}
-use Rattle.records.specs.Kinds.{opens}
+use Rattle.records.specs.Kinds.{opens, opened}
 use Rattle.records.specs.declared.kind.Kind.{Kind}
 use Rattle.records.specs.declared.kind.Kind.the-variants.{Im, R14, R16, R20, R30, R40, R50, R59, R51, R70, Ef}
-use Rattle.flow.specs.Steps.{opened, step, latest}
+use Rattle.flow.specs.Steps.{step, latest}
 use Rattle.flow.specs.declared.order.Place.{Place}
 use Rattle.flow.specs.declared.walk.Walk.{Walk}
 use Rattle.grammar.specs.Grammar.{Typed, kindsOf, amountOf, codeOf, RightDisposition, Numbered}

@@ -12,11 +12,11 @@ use Rattle.records.specs.Checks.{isPresent}
 use Rattle.records.specs.Context.{Header}
 use Rattle.records.specs.Field.{field}
 use Rattle.records.specs.Judge.{asked}
-use Rattle.records.specs.Kinds.{hasType, opens}
+use Rattle.records.specs.Kinds.{hasType, opens, opened}
 use Rattle.records.specs.declared.kind.Kind.the-variants.{R14}
 use Rattle.records.proofs.ByKind.{type-tested, opens-type}
 use Rattle.flow.specs.Judge.{go}
-use Rattle.flow.specs.Steps.{opened, step, latest}
+use Rattle.flow.specs.Steps.{step, latest}
 use Rattle.flow.specs.Sums.{dispositionsOf, centsOf}
 use Rattle.flow.specs.Verdict.{Verdict}
 use Rattle.flow.specs.Verdict.{refused as Verdict·refused}

@@ -15,12 +15,11 @@ use Rattle.fields.specs.Digits.{digits}
 use Rattle.fields.proofs.Decimal.{written-length}
 use Rattle.records.specs.Constants.{currency}
 use Rattle.records.specs.Field.{field}
-use Rattle.records.specs.Kinds.{typeOf}
+use Rattle.records.specs.Kinds.{typeOf, opened}
 use Rattle.records.specs.declared.kind.Kind.{Kind}
 use Rattle.records.specs.declared.kind.Kind.the-variants.{Im, Ef}
 use Rattle.records.proofs.EachKind.{each-kind}
 use Rattle.flow.specs.Records.{recordsOf}
-use Rattle.flow.specs.Steps.{opened}
 use Rattle.flow.proofs.Cut.{Whole, flatten-length, joined-records}
 use Rattle.list.specs.Encode.{blanks, carriedAt, headerBehind, lastHeader, dispositionsOf, centsOf, encodeItem, trailerPlaced, encodeTrailer, encodeFrom, recordsFor, trailerFor, encode}
 use Rattle.list.specs.Items.{Item, Proper}

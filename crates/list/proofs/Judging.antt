@@ -11,14 +11,14 @@ use Rattle.sequences.proofs.All.{all-at}
 use Rattle.fields.specs.Digits.{number}
 use Rattle.records.specs.Context.{headerOf}
 use Rattle.records.specs.Field.{field}
-use Rattle.records.specs.Kinds.{hasType, heads, opens, closes}
+use Rattle.records.specs.Kinds.{hasType, heads, opens, opened, closes}
 use Rattle.records.specs.declared.kind.Kind.{Kind}
 use Rattle.records.specs.declared.kind.Kind.the-variants.{R14, Ef}
 use Rattle.records.proofs.ByKind.{type-tested, opens-type}
 use Rattle.records.proofs.EachKind.{opens-14, closes-ef}
 use Rattle.flow.specs.Judge.{go}
 use Rattle.flow.specs.Order.{In, mayClose}
-use Rattle.flow.specs.Steps.{start, opened}
+use Rattle.flow.specs.Steps.{start}
 use Rattle.flow.specs.Sums.{dispositionsOf as Sums·dispositionsOf, centsOf as Sums·centsOf}
 use Rattle.flow.specs.Verdict.{refused}
 use Rattle.flow.proofs.Cut.{Whole}

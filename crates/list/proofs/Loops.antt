@@ -18,14 +18,14 @@ use Rattle.records.specs.Context.{Header}
 use Rattle.records.specs.Field.{field}
 use Rattle.records.specs.Finding.{right}
 use Rattle.records.specs.Finding.{refused as Finding·refused}
-use Rattle.records.specs.Kinds.{opens}
+use Rattle.records.specs.Kinds.{opens, opened}
 use Rattle.records.specs.Limits.{countLimit, centsLimit}
 use Rattle.records.specs.declared.kind.Kind.{Kind}
 use Rattle.records.specs.declared.kind.Kind.the-variants.{R14}
 use Rattle.records.proofs.ByKind.{types-differ, type-said}
 use Rattle.records.proofs.EachKind.{opens-14}
 use Rattle.flow.specs.Judge.{go}
-use Rattle.flow.specs.Steps.{start, opened, step, latestOf, latest, judgeRecord, stopped}
+use Rattle.flow.specs.Steps.{start, step, latestOf, latest, judgeRecord, stopped}
 use Rattle.flow.specs.Verdict.{refused}
 use Rattle.flow.specs.declared.walk.Walk.{Walk}
 use Rattle.flow.proofs.Cut.{Whole, flatten-length}

@@ -11,11 +11,11 @@ use Rattle.records.specs.Checked.{checked, Alike}
 use Rattle.records.specs.Context.{Header}
 use Rattle.records.specs.Field.{field}
 use Rattle.records.specs.Judge.{asked}
-use Rattle.records.specs.Kinds.{typeOf, heads}
+use Rattle.records.specs.Kinds.{typeOf, heads, opened}
 use Rattle.records.specs.declared.kind.Kind.{Kind}
 use Rattle.records.specs.declared.kind.Kind.the-variants.{Im}
 use Rattle.records.proofs.ByKind.{types-differ}
-use Rattle.flow.specs.Steps.{opened, counted, step, latest}
+use Rattle.flow.specs.Steps.{counted, step, latest}
 use Rattle.flow.specs.declared.walk.Walk.{Walk}
 use Rattle.grammar.specs.Grammar.{Typed, kindsOf, recordsIn}
 use Rattle.grammar.proofs.Walked.{stateBehind, Walked, AllFormed}

@@ -19,13 +19,13 @@ use Rattle.fields.specs.Digits.{number}
 use Rattle.records.specs.Checked.{checked, Alike}
 use Rattle.records.specs.Context.{Header, headerOf, headed}
 use Rattle.records.specs.Field.{field}
-use Rattle.records.specs.Kinds.{typeOf, heads, closes}
+use Rattle.records.specs.Kinds.{typeOf, heads, opened, closes}
 use Rattle.records.specs.declared.kind.Kind.{Kind}
 use Rattle.records.specs.declared.kind.Kind.the-variants.{Im, Ef}
 use Rattle.flow.specs.Judge.{judge}
 use Rattle.flow.specs.Order.{permitted, mayClose, place}
 use Rattle.flow.specs.Records.{recordAt, recordsOf}
-use Rattle.flow.specs.Steps.{start, opened, counted, step}
+use Rattle.flow.specs.Steps.{start, counted, step}
 use Rattle.flow.specs.Verdict.{Verdict, accepted}
 use Rattle.flow.specs.declared.order.Due.the-variants.{OnlyIm}
 use Rattle.flow.specs.declared.walk.Walk.{Walk}

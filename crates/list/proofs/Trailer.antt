@@ -14,10 +14,9 @@ use Rattle.records.specs.Bytes.{badFrom, badByte}
 use Rattle.records.specs.Constants.{currency}
 use Rattle.records.specs.Context.{headerOf}
 use Rattle.records.specs.Field.{_to_, width, field}
-use Rattle.records.specs.Kinds.{typeOf}
+use Rattle.records.specs.Kinds.{typeOf, opened}
 use Rattle.records.specs.declared.kind.Kind.the-variants.{Im, Ef}
 use Rattle.records.proofs.Checked.{field-within}
-use Rattle.flow.specs.Steps.{opened}
 use Rattle.flow.specs.declared.walk.Walk.{Walk}
 use Rattle.grammar.specs.Rules.{Says, Printable, Formed, TrailerRules}
 use Rattle.grammar.proofs.AtPlace.{asks, May, RightAt}

@@ -16,13 +16,13 @@ use Rattle.records.specs.Constants.{currency}
 use Rattle.records.specs.Context.{headerOf}
 use Rattle.records.specs.Field.{field}
 use Rattle.records.specs.Finding.{Hold}
-use Rattle.records.specs.Kinds.{heads}
+use Rattle.records.specs.Kinds.{heads, opened}
 use Rattle.records.specs.declared.kind.Kind.{Kind}
 use Rattle.records.specs.declared.kind.Kind.the-variants.{Im, Ef}
 use Rattle.flow.specs.Judge.{ended, judge}
 use Rattle.flow.specs.Order.{permitted, mayClose, place}
 use Rattle.flow.specs.Records.{RightLength}
-use Rattle.flow.specs.Steps.{start, opened}
+use Rattle.flow.specs.Steps.{start}
 use Rattle.flow.specs.Verdict.{accepted, refused}
 use Rattle.flow.specs.declared.order.Due.the-variants.{OnlyIm}
 use Rattle.flow.specs.declared.walk.Walk.{Walk}

@@ -8,10 +8,9 @@ use Rattle.sequences.specs.Part.{part, put}
 use Rattle.fields.specs.Digits.{number, digits}
 use Rattle.records.specs.Constants.{causale, sign, currency}
 use Rattle.records.specs.Field.{Span, _to_, width}
-use Rattle.records.specs.Kinds.{typeOf, heads, opens}
+use Rattle.records.specs.Kinds.{typeOf, heads, opens, opened}
 use Rattle.records.specs.declared.kind.Kind.{Kind}
 use Rattle.records.specs.declared.kind.Kind.the-variants.{Im, R14, R16, R20, R30, R40, R50, R59, R51, R70, Ef}
-use Rattle.flow.specs.Steps.{opened}
 use Rattle.list.specs.Items.{Item}
 use Rattle.list.specs.Table.{carried}
 

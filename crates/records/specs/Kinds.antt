@@ -1,6 +1,6 @@
 -- The eleven record types (document 01, "The flow as bytes": the record type is at 2-3). Assumes nothing.
 use Prim.Native.Nat.{ℕ}
-use mathlib.Core.Bool.{Bool, true, false}
+use mathlib.Core.Bool.{Bool, true, false, cond}
 use mathlib.Core.List.{List}
 use Rattle.sequences.specs.Text.{text}
 use Rattle.fields.specs.Bytes.{isEqual}
@@ -52,6 +52,10 @@ opens R59 = false
 opens R51 = false
 opens R70 = false
 opens Ef = false
+
+-- the dispositions that it opens: one or none
+abbrev pub opened : Kind → ℕ
+opened k = cond (opens k) 1 0
 
 -- the record that closes a flow
 abbrev pub closes : Kind → Bool

@@ -6,8 +6,8 @@ use native.Mathlib.Omega.{arith}
 use lib.ListN.{length}
 use borrow.Author.Needs.{needs}
 use Rattle.sequences.specs.Part.{part}
+use Rattle.records.specs.Kinds.{opened}
 use Rattle.records.specs.declared.kind.Kind.{Kind}
-use Rattle.flow.specs.Steps.{opened}
 use Rattle.list.specs.Encode.{encodeItem}
 use Rattle.list.specs.Items.{item, itemsIn}
 use Rattle.list.specs.Table.{bodyLength}

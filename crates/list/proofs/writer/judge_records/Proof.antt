@@ -9,11 +9,11 @@ use lib.ListN.{length}
 use borrow.Author.Needs.{needs}
 use Rattle.records.specs.Context.{Header, headed}
 use Rattle.records.specs.Field.{field}
-use Rattle.records.specs.Kinds.{heads}
+use Rattle.records.specs.Kinds.{heads, opened}
 use Rattle.records.specs.Finding.{finding}
 use Rattle.records.specs.declared.kind.Kind.{Kind}
 use Rattle.records.specs.declared.kind.Kind.the-variants.{R14}
-use Rattle.flow.specs.Steps.{opened, latestOf, judgeRecord}
+use Rattle.flow.specs.Steps.{latestOf, judgeRecord}
 use Rattle.list.specs.Encode.{carriedAt, encodeItem}
 use Rattle.list.specs.Items.{itemsIn}
 use Rattle.list.specs.Table.{bodyLength}

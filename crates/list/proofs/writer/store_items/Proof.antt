@@ -9,9 +9,8 @@ use lib.ListN.{length}
 use borrow.Author.Needs.{needs}
 use Rattle.sequences.specs.Part.{put}
 use Rattle.sequences.proofs.Part.{put-length}
-use Rattle.records.specs.Kinds.{heads}
+use Rattle.records.specs.Kinds.{heads, opened}
 use Rattle.records.specs.declared.kind.Kind.{Kind}
-use Rattle.flow.specs.Steps.{opened}
 use Rattle.list.specs.Encode.{encodeItem, encodeTrailer, trailerFor, encode}
 use Rattle.list.specs.Items.{itemsIn}
 use Rattle.list.specs.Table.{bodyLength}
