@@ -104,7 +104,9 @@ uint8_t mav_read(const uint8_t *flow, size_t length, uint64_t answer[MAV_ENTRIES
 uint8_t mav_find(const uint8_t *flow, size_t length, uint64_t k, uint64_t answer[MAV_ENTRIES]);
 
 /* Writes the flow that a request list encodes at the front of out, which has 120 * (items + 1) bytes or
- * more, and leaves the rest of out as it was. Refused: 20, 1, 21, then as mav_read, then 17. */
+ * more, and leaves the rest of out as it was. Refused: 20, 1, 21, then as mav_read by 2, 3, 5 to 8, 10
+ * or 11, then 17. The call itself numbers the records and writes the trailer, so that 4, 9 and 12 to 14
+ * cannot come. */
 uint8_t mav_write(const uint8_t *list, size_t length, uint8_t *out, size_t room,
                   uint64_t answer[MAV_ENTRIES]);
 

@@ -7,7 +7,7 @@ use mathlib.Core.Path.{_≡_, refl, sym, _∙_, ap, subst}
 use native.Mathlib.Omega.{arith}
 use lib.Dec.{eqb}
 use lib.ListN.{length}
-use borrow.Author.Tests.{eqb-true, eq-eqb}
+use borrow.Author.Tests.{eqb-true, eq-eqb, ne-eqb}
 use Rattle.sequences.specs.All.{All}
 use Rattle.sequences.specs.Every.{every}
 use Rattle.sequences.proofs.All.{all-at}
@@ -49,8 +49,10 @@ use Rattle.list.specs.Laws.{WriteFault, no-item, too-many, no-room, no-trailer,
 use Rattle.list.specs.Laws.{in-record as Write·in-record}
 use Rattle.list.specs.ReadBack.{listOf}
 use Rattle.list.specs.Table.{hasItem}
+use Rattle.list.specs.Write.{judgeList}
 use Rattle.list.proofs.AllRecords.{encoded-whole, encoded-count}
 use Rattle.list.proofs.Answered.{read-back-refused}
+use Rattle.list.proofs.DispositionNumbers.{numbers-supplied}
 use Rattle.list.proofs.ListItems.{items-exact}
 use Rattle.list.proofs.OneRecord.{encoded-type}
 use Rattle.list.proofs.WriteRefused.{write-refused}
@@ -71,6 +73,11 @@ among ns (m ∷ ms) n all h = by (eqb n m) refl (isListed m ns) refl all h (amon
     by true e true l all h rest = subst (OneOf ns) (sym (eqb-true n m e)) l
     by false e true l all h rest = rest all h
     by a e false l all h rest = absurd (true≢false (sym all))
+
+-- and one that is not the first of some is one of the others
+other-than : (m : ℕ) (ns : List ℕ) (n : ℕ) → ¬ (n ≡ m) → OneOf (m ∷ ns) n → OneOf ns n
+unfolding isListed
+other-than m ns n differs h = rw (ne-eqb n m differs) at h
 
 -- a check's number is one of theirs
 broken-number : (held others : List Check) (n p : ℕ) → OneOf (numbersOf (held ++ (check false n p ∷ others))) n
@@ -146,11 +153,14 @@ finding f k n r p e = by (find-refused f k n r p .0 e)
     by (inl wrong) = among findingNumbers readingNumbers n refl (reading f n r p wrong)
     by (inr (d, c, m, read, none, number, none-of, position)) = rw number
 
--- writing: those of every row but that of EF, which no item encodes
-writing-row : (ctx : Context) (rec : List ℕ) (k : Kind) → ¬ (k ≡ Ef) → areAmong writingNumbers (numbersOf (checks k ctx rec)) ≡ true
+-- writing: those of every row but that of EF, which no item encodes; 9, which stands in them, is taken out at the end
+abbrev rowNumbers : List ℕ
+rowNumbers = 9 ∷ writingNumbers
+
+writing-row : (ctx : Context) (rec : List ℕ) (k : Kind) → ¬ (k ≡ Ef) → areAmong rowNumbers (numbersOf (checks k ctx rec)) ≡ true
 unfolding every isListed checks
 writing-row ctx rec =
-    each-kind (λ (k : Kind). ¬ (k ≡ Ef) → areAmong writingNumbers (numbersOf (checks k ctx rec)) ≡ true)
+    each-kind (λ (k : Kind). ¬ (k ≡ Ef) → areAmong rowNumbers (numbersOf (checks k ctx rec)) ≡ true)
     (λ h. refl, (λ h. refl, (λ h. refl, (λ h. refl, (λ h. refl, (λ h. refl, (λ h. refl, (λ h. refl, (λ h. refl, (λ h. refl, (λ h. absurd (h refl), tt)))))))))))
 
 no-trailers : (n : ℕ) (header : List ℕ) (is : List Item) → All Proper is → All (λ (rec : List ℕ). ¬ (field 2 3 rec ≡ typeOf Ef)) (encodeFrom n header is)
@@ -167,17 +177,17 @@ module _ (is : List Item) (proper : All Proper is) where
   abbrev own : recordsOf (flatten (recordsFor is)) ≡ recordsFor is
   own = joined-records (recordsFor is) (encoded-whole 0 [] is proper)
 
-  encoded-number : {n r p : ℕ} → FirstFault (flatten (recordsFor is)) n r p → 1 ≤ r → r ≤ length is → OneOf writingNumbers n
+  encoded-number : {n r p : ℕ} → FirstFault (flatten (recordsFor is)) n r p → 1 ≤ r → r ≤ length is → OneOf rowNumbers n
   unfolding every isListed
   encoded-number (wrong-length wrong) some within = absurd (omega arith)
   encoded-number (in-record before rec behind n p sized same each fault) some within =
       let other = all-at (λ (l : List ℕ). ¬ (field 2 3 l ≡ typeOf Ef)) before rec behind (subst (All (λ (l : List ℕ). ¬ (field 2 3 l ≡ typeOf Ef))) (sym own ∙ same) (no-trailers 0 [] is proper)) in
-      fault-number writingNumbers refl (λ k type m h. among writingNumbers (numbersOf (checks k _ rec)) m (writing-row _ rec k (λ e. other (type ∙ ap typeOf e))) h) fault
+      fault-number rowNumbers refl (λ k type m h. among rowNumbers (numbersOf (checks k _ rec)) m (writing-row _ rec k (λ e. other (type ∙ ap typeOf e))) h) fault
   encoded-number (still-due sized each none) some within =
       let count : length (recordsOf (flatten (recordsFor is))) ≡ length is = ap (λ (l : List (List ℕ)). length l) own ∙ encoded-count 0 [] is in
       absurd (omega arith)
 
-write-number : {list : List ℕ} {room n r p : ℕ} → WriteFault list room n r p → OneOf writingNumbers n
+write-number : {list : List ℕ} {room n r p : ℕ} → WriteFault list room n r p → OneOf rowNumbers n
 unfolding isListed
 write-number (no-item n at) = refl
 write-number (too-many is said many) = refl
@@ -186,6 +196,9 @@ write-number {list} (Write·in-record is n r p fits e some within) =
     encoded-number is (items-exact list is .0 (fits .said) .1) (first-fault-exact (flatten (recordsFor is)) n r p .0 e) some within
 write-number (no-trailer is fits each none) = refl
 write-number (too-much is fits each follows much) = refl
+
+writing : (list : List ℕ) (room n r p : ℕ) → judgeList list room ≡ refused n r p → OneOf writingNumbers n
+writing list room n r p e = other-than 9 writingNumbers n (λ nine. numbers-supplied list room r p (e ∙ ap (λ (m : ℕ). refused m r p) nine)) (write-number (write-refused list room n r p .0 e))
 
 -- the calls that read first, and then have numbers of their own
 change-number : {f : List ℕ} {k new n r p : ℕ} → ChangeFault f k new n r p → OneOf changeNumbers n
@@ -213,7 +226,7 @@ numbers-given =
       reading = reading;
       finding = finding;
       seeking = λ f k n r p e. finding f k n r p (seek-exact f k .1 n r p .0 e);
-      writing = λ list room n r p e. write-number (write-refused list room n r p .0 e);
+      writing = writing;
       reading-back = λ f room n r p e. by-room f room n r p (read-back-refused f room n r p .0 e);
       changing = λ f k new n r p e. change-number (change-refused f k new n r p .0 e);
       withdrawing = λ f k n r p e. withdraw-number (withdraw-refused f k n r p .0 e);

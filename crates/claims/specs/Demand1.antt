@@ -47,9 +47,10 @@ recordNumbers = 1 ∷ 5 ∷ 6 ∷ 7 ∷ 8 ∷ 9 ∷ 10 ∷ 11 ∷ 12 ∷ 13 ∷ 
 abbrev pub placeNumbers : List ℕ
 placeNumbers = 2 ∷ 3 ∷ recordNumbers
 
--- writing gives none of 4, 12, 13 and 14: the flow always ends with EF, which is not judged
+-- writing gives none of 4, 9, 12, 13 and 14: the flow always ends with EF, which is not judged, and the writer itself gives each record its
+-- number
 abbrev pub writingNumbers : List ℕ
-writingNumbers = 20 ∷ 1 ∷ 21 ∷ 2 ∷ 3 ∷ 5 ∷ 6 ∷ 7 ∷ 8 ∷ 9 ∷ 10 ∷ 11 ∷ 17 ∷ []
+writingNumbers = 20 ∷ 1 ∷ 21 ∷ 2 ∷ 3 ∷ 5 ∷ 6 ∷ 7 ∷ 8 ∷ 10 ∷ 11 ∷ 17 ∷ []
 
 abbrev pub readingBackNumbers : List ℕ
 readingBackNumbers = readingNumbers ++ (21 ∷ [])

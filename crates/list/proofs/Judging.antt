@@ -103,7 +103,7 @@ encoded-amount n header it proper = by (opens (it .kind)) refl
         ap number (encoded-at n header it proper 34 46 inside ∙ stands)
     by false e = refl
 
-encoded-opens : (n : ℕ) (header : List ℕ) (it : Item) → Proper it → hasType R14 (encodeItem n header it) ≡ opens (it .kind)
+pub encoded-opens : (n : ℕ) (header : List ℕ) (it : Item) → Proper it → hasType R14 (encodeItem n header it) ≡ opens (it .kind)
 encoded-opens n header it proper =
     sym (opens-type (it .kind) (encodeItem n header it) (type-tested (it .kind) (encodeItem n header it) (encoded-type n header it proper)))
 

@@ -2,6 +2,7 @@ pub mod AllRecords
 pub mod Answered
 pub mod Carried
 pub mod Covering
+pub mod DispositionNumbers
 pub mod Examples
 pub mod Filling
 pub mod Gathering

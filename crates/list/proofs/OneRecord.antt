@@ -1,9 +1,9 @@
--- The record that an item encodes: its length, its type, and its carried bytes. Assumes nothing.
+-- The record that an item encodes: its length, its type, its number, and its carried bytes. Assumes nothing.
 use Prim.Native.Nat.{ℕ, _+_, _-_, _≤_}
-use mathlib.Core.Bool.{true}
-use mathlib.Core.List.{List, _++_}
+use mathlib.Core.Bool.{true, false, true≢false}
+use mathlib.Core.List.{List, [], _∷_, _++_}
 use mathlib.Core.Logic.{inl}
-use mathlib.Core.Path.{_≡_, refl, sym, _∙_, ap}
+use mathlib.Core.Path.{_≡_, refl, sym, _∙_, ap, subst}
 use native.Mathlib.Omega.{arith}
 use lib.ListN.{length}
 use Rattle.sequences.specs.All.{All}
@@ -13,17 +13,17 @@ use Rattle.sequences.proofs.Part.{part-at-most, part-put, put-length}
 use Rattle.fields.specs.Digits.{digits}
 use Rattle.fields.proofs.Decimal.{written-length}
 use Rattle.records.specs.Field.{field}
-use Rattle.records.specs.Kinds.{typeOf}
+use Rattle.records.specs.Kinds.{typeOf, heads}
 use Rattle.records.specs.declared.kind.Kind.{Kind}
 use Rattle.records.specs.declared.kind.Kind.the-variants.{Im}
 use Rattle.records.proofs.EachKind.{each-kind}
-use Rattle.list.specs.Encode.{Placed, fill, blanks, carriedAt, supplied, bodyPlaced, encodeItem}
+use Rattle.list.specs.Encode.{Placed, place, fill, blanks, carriedAt, supplied, bodyPlaced, encodeItem}
 use Rattle.list.specs.Items.{Item, Proper}
 use Rattle.list.specs.ReadBack.{gather}
-use Rattle.list.specs.Table.{carried, bodyLength}
+use Rattle.list.specs.Table.{carried, bodyLength, hasItem}
 use Rattle.list.proofs.Carried.{body-fits, body-outside, gather-placed, inOne, gather-at}
 use Rattle.list.proofs.Placing.{Fits, Outside, fill-length, fill-outside, fill-append}
-use Rattle.list.proofs.TableSpans.{carried-within, carried-rising, carried-behind}
+use Rattle.list.proofs.TableSpans.{carried-within, carried-rising, carried-behind, carried-behind-number}
 
 -- a type has two bytes
 pub type-length : (k : Kind) → length (typeOf k) ≡ 2
@@ -42,6 +42,17 @@ module _ (n : ℕ) (abi : List ℕ) (short : length abi ≤ 5) where
 
 supplied-outside : (n : ℕ) (abi : List ℕ) (k : Kind) → All (Outside 1 2) (supplied k n abi)
 supplied-outside n abi = each-kind (λ (k : Kind). All (Outside 1 2) (supplied k n abi)) ((inl (omega arith), tt), ((inl (omega arith), (inl (omega arith), (inl (omega arith), (inl (omega arith), (inl (omega arith), tt))))), ((inl (omega arith), tt), ((inl (omega arith), tt), ((inl (omega arith), tt), ((inl (omega arith), tt), ((inl (omega arith), tt), ((inl (omega arith), tt), ((inl (omega arith), tt), ((inl (omega arith), tt), (tt, tt)))))))))))
+
+-- a record of a disposition is supplied with its number, and with nothing more at 4-10
+record NumberFirst (n : ℕ) (ps : List Placed) : Type 0 where
+  others : List Placed
+  first : ps ≡ place 4 (digits 7 n) ∷ others
+  outside : All (Outside 3 7) others
+
+supplied-number : (n : ℕ) (abi : List ℕ) (k : Kind) → heads k ≡ false → hasItem k ≡ true → NumberFirst n (supplied k n abi)
+supplied-number n abi =
+    let alone : NumberFirst n (place 4 (digits 7 n) ∷ []) = record { others = []; first = refl; outside = tt } in
+    each-kind (λ (k : Kind). heads k ≡ false → hasItem k ≡ true → NumberFirst n (supplied k n abi)) (λ e l. absurd (true≢false e), (λ e l. record { others = _; first = refl; outside = (inl (omega arith), (inl (omega arith), (inl (omega arith), (inl (omega arith), tt)))) }, (λ e l. alone, (λ e l. alone, (λ e l. alone, (λ e l. alone, (λ e l. alone, (λ e l. alone, (λ e l. alone, (λ e l. alone, (λ e l. absurd (true≢false (sym l)), tt)))))))))))
 
 -- the ABI that is copied has five bytes, or none
 pub abi-short : (header : List ℕ) → length (carriedAt Im 9 13 header) ≤ 5
@@ -87,6 +98,20 @@ module _ (n : ℕ) (header : List ℕ) (it : Item) (proper : Proper it) where
       fill-outside 1 2 (own ++ body) withType all-fit type-size outside
       ∙ ap (λ (m : ℕ). part 1 m withType) (sym (type-length kind))
       ∙ part-put 1 (typeOf kind) blanks type-within
+
+  -- a record of a disposition has its number at 4-10
+  pub encoded-number : heads kind ≡ false → field 4 10 (encodeItem n header it) ≡ digits 7 n
+  unfolding encodeItem fill
+  encoded-number member =
+      let numbered = supplied-number n (carriedAt Im 9 13 header) kind member (proper .listed) in
+      let qs = numbered .others in
+      let fits : All Fits (qs ++ body) = all-append Fits qs body (subst (All Fits) (numbered .first) own-fits .1) (body-fits (carried kind) (it .body) (carried-within kind) body-size) in
+      let outside : All (Outside 3 7) (qs ++ body) = all-append (Outside 3 7) qs body (numbered .outside) (body-outside 3 7 (carried kind) (it .body) (carried-behind-number kind member)) in
+      let within : 3 + length (digits 7 n) ≤ length withType = omega (arith, written-length 7 n, type-size) in
+      ap (λ (ps : List Placed). field 4 10 (fill (ps ++ body) withType)) (numbered .first)
+      ∙ fill-outside 3 7 (qs ++ body) (put 3 (digits 7 n) withType) fits (put-length 3 (digits 7 n) withType within ∙ type-size) outside
+      ∙ ap (λ (m : ℕ). part 3 m (put 3 (digits 7 n) withType)) (sym (written-length 7 n))
+      ∙ part-put 3 (digits 7 n) withType within
 
   pub encoded-body : gather (carried kind) (encodeItem n header it) ≡ it .body
   unfolding encodeItem fill

@@ -1,6 +1,6 @@
 -- The spans of the table as the code keeps them: four to a kind, each within the record. Assumes nothing.
 use Prim.Native.Nat.{ℕ, zero, suc, _+_, _-_, _*_, _≤_, _<_}
-use mathlib.Core.Bool.{Bool, true, _&&_, and-eq-true-iff}
+use mathlib.Core.Bool.{Bool, true, false, _&&_, and-eq-true-iff, true≢false}
 use mathlib.Core.List.{List, [], _∷_, _++_, map}
 use mathlib.Core.Path.{_≡_, refl, sym, _∙_, subst}
 use native.Mathlib.Nat.{le-of-suc-le-suc, not-suc-le-zero}
@@ -14,6 +14,7 @@ use Rattle.sequences.specs.All.{All}
 use Rattle.sequences.specs.Sum.{sum}
 use Rattle.sequences.proofs.All.{all-getD}
 use Rattle.records.specs.Field.{Span, _to_, width}
+use Rattle.records.specs.Kinds.{heads}
 use Rattle.records.specs.declared.kind.Kind.{Kind}
 use Rattle.records.proofs.EachKind.{each-kind}
 use Rattle.list.specs.Table.{carried, bodyLength, fourOf, bounds, boundsOf}
@@ -138,3 +139,7 @@ carried-rising k = rising-so (carried k) (each-kind (λ (k : Kind). is-rising (c
 -- no kind carries position 3 or one before it
 pub carried-behind : (k : Kind) → All (λ (t : Span). 3 ≤ first t - 1) (carried k)
 carried-behind k = from-so 3 (carried k) (each-kind (λ (k : Kind). all-from 3 (carried k) ≡ true) (refl, (refl, (refl, (refl, (refl, (refl, (refl, (refl, (refl, (refl, (refl, tt))))))))))) k)
+
+-- nor does one but IM carry a position of the number
+pub carried-behind-number : (k : Kind) → heads k ≡ false → All (λ (t : Span). 10 ≤ first t - 1) (carried k)
+carried-behind-number k member = from-so 10 (carried k) (each-kind (λ (k : Kind). heads k ≡ false → all-from 10 (carried k) ≡ true) (λ e. absurd (true≢false e), (λ e. refl, (λ e. refl, (λ e. refl, (λ e. refl, (λ e. refl, (λ e. refl, (λ e. refl, (λ e. refl, (λ e. refl, (λ e. refl, tt))))))))))) k member)

@@ -89,6 +89,10 @@ pub record WriteAccepts (list : List ℕ) (room d c n : ℕ) : Type 0 where
 abbrev pub WriteAccepted : Type 0
 WriteAccepted = (list : List ℕ) (room d c n : ℕ) → (judgeList list room ≡ accepted d c n) ↔ WriteAccepts list room d c n
 
+-- no list is refused by 9: the writer itself gives each record its number, and counts as the reader does
+abbrev pub NumbersSupplied : Type 0
+NumbersSupplied = (list : List ℕ) (room r p : ℕ) → ¬ (judgeList list room ≡ refused 9 r p)
+
 -- what a call leaves in the output: bytes at its front and the rest as it was, or all of it as it was
 pub record Leaves (o : Output) (bytes out : List ℕ) : Type 0 where
   pub length-said : o .written ≡ length bytes

@@ -29,8 +29,9 @@ impl Written {
 /// would have more than [`MAX_RECORDS`](crate::MAX_RECORDS) records, then by
 /// [`Room`](crate::Reason::Room) where `out` is shorter than [`flow_room`], then as [`read`](crate::read)
 /// refuses the records but the trailer, or by [`RecordType`](crate::Reason::RecordType) where the trailer
-/// may not stand, then by [`TotalTooLarge`](crate::Reason::TotalTooLarge). The list is judged whole before
-/// a byte is written.
+/// may not stand, then by [`TotalTooLarge`](crate::Reason::TotalTooLarge). The call itself numbers the
+/// records and writes the trailer, so that the numbers 4, 9 and 12 to 14 cannot come. The list is judged
+/// whole before a byte is written.
 ///
 /// ```
 /// use mav::{Accepted, Reason};
