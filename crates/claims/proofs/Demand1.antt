@@ -4,7 +4,7 @@ use Rattle.fields.proofs.Gregorian.{date-refused}
 use Rattle.records.proofs.Found.{checks-in-order, broken-exact}
 use Rattle.records.proofs.Numbers.{one-for-length}
 use Rattle.flow.proofs.Accepted.{length-refused}
-use Rattle.flow.proofs.Dispositions.{find-refused}
+use Rattle.flow.proofs.Dispositions.{find-refused, part-placed}
 use Rattle.flow.proofs.Sought.{seek-exact}
 use Rattle.grammar.proofs.AtPlace.{place-fault-exact}
 use Rattle.grammar.proofs.FirstFault.{first-fault-exact}
@@ -16,14 +16,13 @@ use Rattle.list.proofs.WriteRefused.{write-refused}
 use Rattle.amend.proofs.Answered.{change-refused, withdraw-refused, refused-untouched}
 use Rattle.capi.proofs.Replies.{refused-leaves, replies-tell}
 use Rattle.claims.specs.Demand1.{Demand1}
-use Rattle.claims.proofs.EntryPoints.{entry-points, ask-nothing}
+use Rattle.claims.proofs.EntryPoints.{entry-points}
 use Rattle.claims.proofs.Numbers.{numbers-given}
 
 pub demand1 : Demand1
 demand1 =
     record {
-      answers = entry-points;
-      asks-nothing = ask-nothing;
+      entry-points = entry-points;
       numbers = numbers-given;
       digits = field-refused;
       amount = amount-refused;
@@ -37,6 +36,7 @@ demand1 =
       length-refused = length-refused;
       find = find-refused;
       part = part-empty;
+      part-placed = part-placed;
       seek-exact = seek-exact;
       faulty = faulty-exact;
       write = write-refused;

@@ -1,5 +1,6 @@
 -- Demand 2, from the laws of each crate. Assumes nothing.
 use Rattle.flow.proofs.Accepted.{accepted-exact}
+use Rattle.flow.proofs.Dispositions.{part-placed}
 use Rattle.grammar.proofs.Grammar.{grammar-exact}
 use Rattle.grammar.proofs.Parts.{parts-exact, places-exact, opening-exact}
 use Rattle.list.proofs.Answered.{write-answers, write-leaves, read-back-accepted, read-back-answers, read-back-leaves}
@@ -15,6 +16,7 @@ demand2 =
       accepted-exactly = grammar-exact;
       sums = accepted-exact;
       parts = parts-exact;
+      part-placed = part-placed;
       places = places-exact;
       openings = opening-exact;
       items = items-exact;

@@ -39,90 +39,47 @@ use Rattle.capi.proofs.mav_write.Met.{met as mav-write-met}
 use Rattle.capi.proofs.mav_list.Met.{met as mav-list-met}
 use Rattle.capi.proofs.mav_change.Met.{met as mav-change-met}
 use Rattle.capi.proofs.mav_withdraw.Met.{met as mav-withdraw-met}
-use Rattle.claims.specs.EntryPoints.{EntryPoints, AskNothing}
+use Rattle.claims.specs.EntryPoints.{EntryPoints}
 
 pub entry-points : EntryPoints
 entry-points =
     record {
-      read-digits = λ M. read-digits-met;
-      write-digits = λ M. write-digits-met;
-      read-amount = λ M. read-amount-met;
-      read-date = λ M. read-date-met;
-      all-blank = λ M. all-blank-met;
-      equal = λ M. equal-met;
-      record-judge = λ M. record-judge-met;
-      seen-right = λ M. seen-right-met;
-      bad-byte = λ M. bad-byte-met;
-      field = λ M. field-met;
-      type-of = λ M. type-of-met;
-      has-type = λ M. has-type-met;
-      heads = λ M. heads-met;
-      opens = λ M. opens-met;
-      closes = λ M. closes-met;
-      read = λ M. read-met;
-      latest-company = λ M. latest-company-met;
-      walk-start = λ M. walk-start-met;
-      walk-judge = λ M. walk-judge-met;
-      walk-next = λ M. walk-next-met;
-      walk-complete = λ M. walk-complete-met;
-      walk-may-close = λ M. walk-may-close-met;
-      find = λ M. find-met;
-      disposition = λ M. disposition-met;
-      seek = λ M. seek-met;
-      write = λ M. write-met;
-      read-back = λ M. read-back-met;
-      change = λ M. change-met;
-      withdraw = λ M. withdraw-met;
-      mav-digits = λ M. mav-digits-met;
-      mav-amount = λ M. mav-amount-met;
-      mav-date = λ M. mav-date-met;
-      mav-read = λ M. mav-read-met;
-      mav-find = λ M. mav-find-met;
-      mav-write = λ M. mav-write-met;
-      mav-list = λ M. mav-list-met;
-      mav-change = λ M. mav-change-met;
-      mav-withdraw = λ M. mav-withdraw-met;
-    }
-
-pub ask-nothing : AskNothing
-ask-nothing =
-    record {
-      read-digits = λ κs a g w. refl;
-      write-digits = λ κs a g w. refl;
-      read-amount = λ κs a g w. refl;
-      read-date = λ κs a g w. refl;
-      all-blank = λ κs a g w. refl;
-      equal = λ κs a g w. refl;
-      record-judge = λ κs a g w. refl;
-      seen-right = λ κs a g w. refl;
-      bad-byte = λ κs a g w. refl;
-      field = λ κs a g w. refl;
-      type-of = λ κs a g w. refl;
-      has-type = λ κs a g w. refl;
-      heads = λ κs a g w. refl;
-      opens = λ κs a g w. refl;
-      closes = λ κs a g w. refl;
-      read = λ κs a g w. refl;
-      latest-company = λ κs a g w. refl;
-      walk-start = λ κs a g w. refl;
-      walk-judge = λ κs a g w. refl;
-      walk-next = λ κs a g w. refl;
-      walk-complete = λ κs a g w. refl;
-      walk-may-close = λ κs a g w. refl;
-      find = λ κs a g w. refl;
-      disposition = λ κs a g w. refl;
-      seek = λ κs a g w. refl;
-      write = λ κs a g w. refl;
-      read-back = λ κs a g w. refl;
-      change = λ κs a g w. refl;
-      withdraw = λ κs a g w. refl;
-      mav-digits = λ κs a g w. refl;
-      mav-amount = λ κs a g w. refl;
-      mav-date = λ κs a g w. refl;
-      mav-read = λ κs a g w. refl;
-      mav-find = λ κs a g w. refl;
-      mav-write = λ κs a g w. refl;
-      mav-list = λ κs a g w. refl;
-      mav-change = λ κs a g w. refl;
-      mav-withdraw = λ κs a g w. refl;
+      read-digits = (λ M. read-digits-met, λ κs a g w. refl);
+      write-digits = (λ M. write-digits-met, λ κs a g w. refl);
+      read-amount = (λ M. read-amount-met, λ κs a g w. refl);
+      read-date = (λ M. read-date-met, λ κs a g w. refl);
+      all-blank = (λ M. all-blank-met, λ κs a g w. refl);
+      equal = (λ M. equal-met, λ κs a g w. refl);
+      record-judge = (λ M. record-judge-met, λ κs a g w. refl);
+      seen-right = (λ M. seen-right-met, λ κs a g w. refl);
+      bad-byte = (λ M. bad-byte-met, λ κs a g w. refl);
+      field = (λ M. field-met, λ κs a g w. refl);
+      type-of = (λ M. type-of-met, λ κs a g w. refl);
+      has-type = (λ M. has-type-met, λ κs a g w. refl);
+      heads = (λ M. heads-met, λ κs a g w. refl);
+      opens = (λ M. opens-met, λ κs a g w. refl);
+      closes = (λ M. closes-met, λ κs a g w. refl);
+      read = (λ M. read-met, λ κs a g w. refl);
+      latest-company = (λ M. latest-company-met, λ κs a g w. refl);
+      walk-start = (λ M. walk-start-met, λ κs a g w. refl);
+      walk-judge = (λ M. walk-judge-met, λ κs a g w. refl);
+      walk-next = (λ M. walk-next-met, λ κs a g w. refl);
+      walk-complete = (λ M. walk-complete-met, λ κs a g w. refl);
+      walk-may-close = (λ M. walk-may-close-met, λ κs a g w. refl);
+      find = (λ M. find-met, λ κs a g w. refl);
+      disposition = (λ M. disposition-met, λ κs a g w. refl);
+      seek = (λ M. seek-met, λ κs a g w. refl);
+      write = (λ M. write-met, λ κs a g w. refl);
+      read-back = (λ M. read-back-met, λ κs a g w. refl);
+      change = (λ M. change-met, λ κs a g w. refl);
+      withdraw = (λ M. withdraw-met, λ κs a g w. refl);
+      mav-digits = (λ M. mav-digits-met, λ κs a g w. refl);
+      mav-amount = (λ M. mav-amount-met, λ κs a g w. refl);
+      mav-date = (λ M. mav-date-met, λ κs a g w. refl);
+      mav-read = (λ M. mav-read-met, λ κs a g w. refl);
+      mav-find = (λ M. mav-find-met, λ κs a g w. refl);
+      mav-write = (λ M. mav-write-met, λ κs a g w. refl);
+      mav-list = (λ M. mav-list-met, λ κs a g w. refl);
+      mav-change = (λ M. mav-change-met, λ κs a g w. refl);
+      mav-withdraw = (λ M. mav-withdraw-met, λ κs a g w. refl);
     }

@@ -17,7 +17,7 @@ use Rattle.records.specs.declared.kind.Kind.{Kind}
 use Rattle.flow.specs.Find.{find}
 use Rattle.flow.specs.Find.{refused as Located·refused}
 use Rattle.flow.specs.Judge.{judge}
-use Rattle.flow.specs.Laws.{LengthRefused, FindRefused, SeekExact}
+use Rattle.flow.specs.Laws.{LengthRefused, FindRefused, PartPlaced, SeekExact}
 use Rattle.flow.specs.Seek.{seek}
 use Rattle.flow.specs.Seek.{refused as Target·refused}
 use Rattle.flow.specs.Steps.{judgeRecord}
@@ -31,7 +31,7 @@ use Rattle.amend.specs.Change.{change}
 use Rattle.amend.specs.Laws.{ChangeRefused, WithdrawRefused, RefusedUntouched}
 use Rattle.amend.specs.Withdraw.{withdraw}
 use Rattle.capi.specs.Laws.{RefusedLeaves, RepliesTell}
-use Rattle.claims.specs.EntryPoints.{EntryPoints, AskNothing}
+use Rattle.claims.specs.EntryPoints.{EntryPoints}
 
 -- the numbers that document 01 gives to each call; 19 is given to none
 abbrev pub readingNumbers : List ℕ
@@ -81,8 +81,7 @@ pub record NumbersGiven : Type 0 where
 
 pub record Demand1 : Type 2 where
   -- "whatever bytes we lend, every entry point ends with an answer and asks nothing of us first"
-  pub answers : EntryPoints
-  pub asks-nothing : AskNothing
+  pub entry-points : EntryPoints
   -- "a refusal gives one number, one record and one position from the table, always the first fault in the stated order, and no lent byte
   -- has changed"
   pub numbers : NumbersGiven
@@ -101,9 +100,10 @@ pub record Demand1 : Type 2 where
   pub read : FirstFaultExact
   pub right-or-faulty : RightOrFaulty
   pub length-refused : LengthRefused
-  -- where a disposition is: the reader's refusals, then 15; and a refusal's part is empty
+  -- where a disposition is: the reader's refusals, then 15; and a refusal's part is empty, at the start of the flow
   pub find : FindRefused
   pub part : PartEmpty
+  pub part-placed : PartPlaced
   pub seek-exact : SeekExact
   -- a list: which item is none, and each refusal of writing where those before it do not apply
   pub faulty : FaultyExact

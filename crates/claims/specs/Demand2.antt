@@ -1,5 +1,5 @@
 -- Demand 2. Assumes nothing.
-use Rattle.flow.specs.Laws.{AcceptedExact}
+use Rattle.flow.specs.Laws.{AcceptedExact, PartPlaced}
 use Rattle.grammar.specs.Laws.{GrammarExact, PartsExact, PlacesExact, OpeningExact}
 use Rattle.list.specs.Laws.{ItemsExact, WriteAccepted, WriteAnswers, WriteLeaves, WrittenExact, OwnList, OwnItems, ReadBackAccepted, ReadBackAnswers, ReadBackLeaves, RewrittenExact, RewrittenSame, UncheckedOnly}
 
@@ -8,8 +8,9 @@ pub record Demand2 : Type 0 where
   -- records": the answer is accepted with these numbers exactly where the flow is one of the grammar, and they are its sums
   pub accepted-exactly : GrammarExact
   pub sums : AcceptedExact
-  -- where each disposition of it stands: together all that is between header and trailer, in order
+  -- where each disposition of it stands: together all that is between header and trailer, in order, each at its own place in the flow
   pub parts : PartsExact
+  pub part-placed : PartPlaced
   pub places : PlacesExact
   pub openings : OpeningExact
   -- "our request list becomes exactly the flow it spells": which items a list is, when they are accepted, with the counts and the sum of

@@ -80,98 +80,53 @@ use Rattle.capi.proofs.mav_change.Statement.{statement as mav-change-statement}
 use Rattle.capi.proofs.mav_withdraw.Reads.{requires as mav-withdraw-requires}
 use Rattle.capi.proofs.mav_withdraw.Statement.{statement as mav-withdraw-statement}
 
+-- an entry point: the function meets its contract in every model of the logic, and the contract's `requires`, whatever the caller lends, is
+-- the empty assertion
+abbrev pub EntryPoint : {L : Type 0} {A : L → Type 0} {G : Type 0} → (Type 1 → Type 2) → ((κs : L) → A κs → G → (w : World) → Pr w) → Type 2
+EntryPoint {L} {A} {G} statement requires = ((M : Type 1) → statement M) × ((κs : L) (a : A κs) (g : G) (w : World) → requires κs a g w ≡ emp (w .𝓤))
+
 pub record EntryPoints : Type 2 where
   -- fields: the field rules
-  pub read-digits : (M : Type 1) → read-digits-statement M
-  pub write-digits : (M : Type 1) → write-digits-statement M
-  pub read-amount : (M : Type 1) → read-amount-statement M
-  pub read-date : (M : Type 1) → read-date-statement M
-  pub all-blank : (M : Type 1) → all-blank-statement M
-  pub equal : (M : Type 1) → equal-statement M
+  pub read-digits : EntryPoint read-digits-statement read-digits-requires
+  pub write-digits : EntryPoint write-digits-statement write-digits-requires
+  pub read-amount : EntryPoint read-amount-statement read-amount-requires
+  pub read-date : EntryPoint read-date-statement read-date-requires
+  pub all-blank : EntryPoint all-blank-statement all-blank-requires
+  pub equal : EntryPoint equal-statement equal-requires
   -- records: the rules of one record
-  pub record-judge : (M : Type 1) → record-judge-statement M
-  pub seen-right : (M : Type 1) → seen-right-statement M
-  pub bad-byte : (M : Type 1) → bad-byte-statement M
-  pub field : (M : Type 1) → field-statement M
-  pub type-of : (M : Type 1) → type-of-statement M
-  pub has-type : (M : Type 1) → has-type-statement M
-  pub heads : (M : Type 1) → heads-statement M
-  pub opens : (M : Type 1) → opens-statement M
-  pub closes : (M : Type 1) → closes-statement M
+  pub record-judge : EntryPoint record-judge-statement record-judge-requires
+  pub seen-right : EntryPoint seen-right-statement seen-right-requires
+  pub bad-byte : EntryPoint bad-byte-statement bad-byte-requires
+  pub field : EntryPoint field-statement field-requires
+  pub type-of : EntryPoint type-of-statement type-of-requires
+  pub has-type : EntryPoint has-type-statement has-type-requires
+  pub heads : EntryPoint heads-statement heads-requires
+  pub opens : EntryPoint opens-statement opens-requires
+  pub closes : EntryPoint closes-statement closes-requires
   -- flow: a flow: reading it, the walk, and where a disposition is
-  pub read : (M : Type 1) → read-statement M
-  pub latest-company : (M : Type 1) → latest-company-statement M
-  pub walk-start : (M : Type 1) → walk-start-statement M
-  pub walk-judge : (M : Type 1) → walk-judge-statement M
-  pub walk-next : (M : Type 1) → walk-next-statement M
-  pub walk-complete : (M : Type 1) → walk-complete-statement M
-  pub walk-may-close : (M : Type 1) → walk-may-close-statement M
-  pub find : (M : Type 1) → find-statement M
-  pub disposition : (M : Type 1) → disposition-statement M
-  pub seek : (M : Type 1) → seek-statement M
+  pub read : EntryPoint read-statement read-requires
+  pub latest-company : EntryPoint latest-company-statement latest-company-requires
+  pub walk-start : EntryPoint walk-start-statement walk-start-requires
+  pub walk-judge : EntryPoint walk-judge-statement walk-judge-requires
+  pub walk-next : EntryPoint walk-next-statement walk-next-requires
+  pub walk-complete : EntryPoint walk-complete-statement walk-complete-requires
+  pub walk-may-close : EntryPoint walk-may-close-statement walk-may-close-requires
+  pub find : EntryPoint find-statement find-requires
+  pub disposition : EntryPoint disposition-statement disposition-requires
+  pub seek : EntryPoint seek-statement seek-requires
   -- list: a list: writing it, and reading a flow back
-  pub write : (M : Type 1) → write-statement M
-  pub read-back : (M : Type 1) → read-back-statement M
+  pub write : EntryPoint write-statement write-requires
+  pub read-back : EntryPoint read-back-statement read-back-requires
   -- amend: the amendments
-  pub change : (M : Type 1) → change-statement M
-  pub withdraw : (M : Type 1) → withdraw-statement M
+  pub change : EntryPoint change-statement change-requires
+  pub withdraw : EntryPoint withdraw-statement withdraw-requires
   -- capi: the C interface
-  pub mav-digits : (M : Type 1) → mav-digits-statement M
-  pub mav-amount : (M : Type 1) → mav-amount-statement M
-  pub mav-date : (M : Type 1) → mav-date-statement M
-  pub mav-read : (M : Type 1) → mav-read-statement M
-  pub mav-find : (M : Type 1) → mav-find-statement M
-  pub mav-write : (M : Type 1) → mav-write-statement M
-  pub mav-list : (M : Type 1) → mav-list-statement M
-  pub mav-change : (M : Type 1) → mav-change-statement M
-  pub mav-withdraw : (M : Type 1) → mav-withdraw-statement M
-
--- a contract's `requires`, whatever the caller lends and in every model of the logic, is the empty assertion
-abbrev pub AsksNothing : {L : Type 0} {A : L → Type 0} {G : Type 0} → ((κs : L) → A κs → G → (w : World) → Pr w) → Type 2
-AsksNothing {L} {A} {G} requires = (κs : L) (a : A κs) (g : G) (w : World) → requires κs a g w ≡ emp (w .𝓤)
-
-pub record AskNothing : Type 2 where
-  -- fields
-  pub read-digits : AsksNothing read-digits-requires
-  pub write-digits : AsksNothing write-digits-requires
-  pub read-amount : AsksNothing read-amount-requires
-  pub read-date : AsksNothing read-date-requires
-  pub all-blank : AsksNothing all-blank-requires
-  pub equal : AsksNothing equal-requires
-  -- records
-  pub record-judge : AsksNothing record-judge-requires
-  pub seen-right : AsksNothing seen-right-requires
-  pub bad-byte : AsksNothing bad-byte-requires
-  pub field : AsksNothing field-requires
-  pub type-of : AsksNothing type-of-requires
-  pub has-type : AsksNothing has-type-requires
-  pub heads : AsksNothing heads-requires
-  pub opens : AsksNothing opens-requires
-  pub closes : AsksNothing closes-requires
-  -- flow
-  pub read : AsksNothing read-requires
-  pub latest-company : AsksNothing latest-company-requires
-  pub walk-start : AsksNothing walk-start-requires
-  pub walk-judge : AsksNothing walk-judge-requires
-  pub walk-next : AsksNothing walk-next-requires
-  pub walk-complete : AsksNothing walk-complete-requires
-  pub walk-may-close : AsksNothing walk-may-close-requires
-  pub find : AsksNothing find-requires
-  pub disposition : AsksNothing disposition-requires
-  pub seek : AsksNothing seek-requires
-  -- list
-  pub write : AsksNothing write-requires
-  pub read-back : AsksNothing read-back-requires
-  -- amend
-  pub change : AsksNothing change-requires
-  pub withdraw : AsksNothing withdraw-requires
-  -- capi
-  pub mav-digits : AsksNothing mav-digits-requires
-  pub mav-amount : AsksNothing mav-amount-requires
-  pub mav-date : AsksNothing mav-date-requires
-  pub mav-read : AsksNothing mav-read-requires
-  pub mav-find : AsksNothing mav-find-requires
-  pub mav-write : AsksNothing mav-write-requires
-  pub mav-list : AsksNothing mav-list-requires
-  pub mav-change : AsksNothing mav-change-requires
-  pub mav-withdraw : AsksNothing mav-withdraw-requires
+  pub mav-digits : EntryPoint mav-digits-statement mav-digits-requires
+  pub mav-amount : EntryPoint mav-amount-statement mav-amount-requires
+  pub mav-date : EntryPoint mav-date-statement mav-date-requires
+  pub mav-read : EntryPoint mav-read-statement mav-read-requires
+  pub mav-find : EntryPoint mav-find-statement mav-find-requires
+  pub mav-write : EntryPoint mav-write-statement mav-write-requires
+  pub mav-list : EntryPoint mav-list-statement mav-list-requires
+  pub mav-change : EntryPoint mav-change-statement mav-change-requires
+  pub mav-withdraw : EntryPoint mav-withdraw-statement mav-withdraw-requires

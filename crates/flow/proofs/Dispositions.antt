@@ -14,6 +14,7 @@ use borrow.Author.Tests.{leb-true, le-leb}
 use Rattle.sequences.specs.Groups.{lead, groups}
 use Rattle.sequences.proofs.DropLast.{dropLast-length, dropLast-getD}
 use Rattle.sequences.proofs.Groups.{lead-next, lead-end, startOf, Group, group-at, start-next, start-within}
+use Rattle.sequences.proofs.Part.{part-length}
 use Rattle.fields.specs.Digits.{isDigits}
 use Rattle.records.specs.Checks.{checks}
 use Rattle.records.specs.Context.{Header, Context, context, headerOf}
@@ -27,11 +28,11 @@ use Rattle.records.specs.declared.kind.Kind.{Kind}
 use Rattle.records.specs.declared.kind.Kind.the-variants.{Im, R14, Ef}
 use Rattle.records.proofs.ByKind.{one-type, opens-type}
 use Rattle.records.proofs.FirstFault.{right-not-refused, kept, behind}
-use Rattle.flow.specs.Find.{Located, standing, dispositionsIn, startsAt, standsAt, behindReading, find, Stands, openingFrom}
+use Rattle.flow.specs.Find.{Located, standing, dispositionsIn, startsAt, standsAt, behindReading, find, bytesAt, partOf, offsetAt, offsetOf, Stands, openingFrom}
 use Rattle.flow.specs.Find.{refused as Located·refused}
 use Rattle.flow.specs.Judge.{after, ended, go, judge}
 use Rattle.flow.specs.Records.{isLength, recordAt, recordsOf}
-use Rattle.flow.specs.Laws.{LocationDetermined, FindRefused}
+use Rattle.flow.specs.Laws.{LocationDetermined, FindRefused, PartPlaced}
 use Rattle.flow.specs.Order.{In, permitted, isDue}
 use Rattle.flow.specs.Steps.{start, countsAt, step, latest, judgeRecord}
 use Rattle.flow.specs.Sums.{dispositionsOf}
@@ -337,3 +338,12 @@ found-within f k e =
     let same = standing-same (found .1) in
     let within = disposition-stands f k (found .0) .within in
     (omega arith, omega arith)
+
+pub part-placed : PartPlaced
+part-placed f k = (found, λ n r p e. ap offsetAt e)
+  where
+    found : (first m a : ℕ) → find f k ≡ standing first m a → (offsetOf f k ≡ 120 * (first - 1)) × (length (partOf f k) ≡ 120 * m) × (offsetOf f k + 120 * m + 120 ≤ length f)
+    found first m a e =
+        let within = found-within f k e in
+        let start : offsetOf f k ≡ 120 * (first - 1) = ap offsetAt e in
+        (start, ap (λ (l : Located). length (bytesAt l f)) e ∙ part-length (120 * (first - 1)) (120 * m) f (omega arith), omega arith)

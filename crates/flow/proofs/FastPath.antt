@@ -1,6 +1,6 @@
 -- The fast path of the reader: a record that was settled is right, and behind a right record the next one's number is known. Assumes
 -- nothing.
-use Prim.Native.Nat.{ℕ, suc, _+_, _-_, min}
+use Prim.Native.Nat.{ℕ, suc, _+_, _-_, _/_, min, _≤_, _<_}
 use mathlib.Core.Bool.{Bool, true, false, true≢false}
 use mathlib.Core.List.{List, _∷_}
 use mathlib.Core.Path.{_≡_, refl, sym, _∙_, ap, subst}
@@ -15,7 +15,7 @@ use Rattle.records.specs.Field.{field}
 use Rattle.records.specs.Finding.{right, Hold}
 use Rattle.records.specs.Judge.{judge}
 use Rattle.records.specs.Kinds.{opened, closes}
-use Rattle.records.specs.Limits.{countLimit}
+use Rattle.records.specs.Limits.{countLimit, centsLimit}
 use Rattle.records.specs.Seen.{seenRight}
 use Rattle.records.specs.declared.kind.Kind.{Kind}
 use Rattle.records.specs.declared.kind.Kind.the-variants.{Im, R14, R16, R20, R30, R40, R50, R59, R51, R70, Ef}
@@ -34,6 +34,7 @@ use Rattle.flow.specs.declared.order.Found.{Found}
 use Rattle.flow.specs.declared.order.Found.the-variants.{Of, Missing}
 use Rattle.flow.specs.declared.order.Place.{Place}
 use Rattle.flow.specs.declared.walk.Walk.{Walk}
+use Rattle.flow.proofs.Cut.{cut-next, record-whole}
 use Rattle.flow.proofs.Exact.{last-kind, right-typed}
 use Rattle.flow.proofs.Places.{handed, handed-alike, of-type}
 use Rattle.flow.proofs.Reading.{Reading}
@@ -55,7 +56,7 @@ right-at-place header w company n before rec k whole numbered inside seen =
     let known = numbered (inside .0) in
     let value = known .1 in
     let none : opened k ≡ 0 = rw (told .1) in
-    of-type header w company n rec whole k (told .0) (inside .1) ∙ told .3 (context header company (handed w n k)) (known .0) (omega arith)
+    of-type header w company n rec whole k (told .0) (inside .1) ∙ told .4 (context header company (handed w n k)) (known .0) (omega arith)
 
 -- a record behind which a disposition goes on has its number
 number-held :
@@ -94,11 +95,11 @@ numbered-stopped header w company n rec k c whole found inside =
     let value = held .1 in
     (held .0, omega arith)
 
--- one record more is passed over: the counts stay, the place moves on, and what is left decides as it did
-pub pass-one :
+-- behind one record more the counts stay, the place moves on, and what is left decides as it did
+pass-one :
     (end : Walk → ℕ → Verdict) (header : Header) (company : List ℕ) (w : Walk) (i : ℕ) (before rec : List ℕ) (recs : List (List ℕ)) (p : Place) (k : Kind) → length rec ≡ 120
     → Numbered (atPlace w p) before → Inside (p .due) rec (Of k) → seenRight k (field 4 10 before) rec ≡ true
-    → (go end header (atPlace w p) company i (rec ∷ recs) ≡ go end header (atPlace w (placeAfter (p .further) k)) company (suc i) recs) × Numbered (atPlace w (placeAfter (p .further) k)) rec
+    → go end header (atPlace w p) company i (rec ∷ recs) ≡ go end header (atPlace w (placeAfter (p .further) k)) company (suc i) recs
 unfolding go
 pass-one end header company w i before rec recs p k whole numbered inside seen =
     let found = right-at-place header (atPlace w p) company (suc i) before rec k whole numbered inside seen in
@@ -107,13 +108,11 @@ pass-one end header company w i before rec recs p k whole numbered inside seen =
     let count : counted w k ≡ w .dispositions = omega arith in
     let cents : w .cents + 0 ≡ w .cents = omega arith in
     let state : step (atPlace w p) k 0 ≡ atPlace w (placeAfter (p .further) k) = λ i. record { place = placeAfter (p .further) k; dispositions = count i; cents = cents i } in
-    let company-stays : latest k company rec ≡ company = rw opens-no in (
-      rw (found, company-stays) (ap (λ (v : Walk). go end header v company (suc i) recs) state),
-      subst (λ (v : Walk). Numbered v rec) state (numbered-next header (atPlace w p) company (suc i) rec k 0 whole found),
-    )
+    let company-stays : latest k company rec ≡ company = rw opens-no in
+    rw (found, company-stays) (ap (λ (v : Walk). go end header v company (suc i) recs) state)
 
 -- where a disposition goes on a record is due, and one is due behind a record that does not close the flow
-pub still-due : (p : Place) (k : Kind) → isInside (p .due) ≡ true → closes k ≡ false → isDue (permitted (placeAfter (p .further) k .due)) ≡ isDue (permitted (p .due))
+still-due : (p : Place) (k : Kind) → isInside (p .due) ≡ true → closes k ≡ false → isDue (permitted (placeAfter (p .further) k .due)) ≡ isDue (permitted (p .due))
 still-due p k inside stays = due-behind (isDue (permitted (placeAfter (p .further) k .due))) refl ∙ sym (inside-due (p .due) inside)
   where
     inside-due : (d : Due) → isInside d ≡ true → isDue (permitted d) ≡ true
@@ -134,18 +133,83 @@ still-due p k inside stays = due-behind (isDue (permitted (placeAfter (p .furthe
     due-behind true e = refl
     due-behind false e = absurd (true≢false (sym (ap closes (last-kind (p .further) k e)) ∙ stays))
 
+-- what has stopped stays
+pub stopped-twice : (w : Walk) → stopped (stopped w) ≡ stopped w
+stopped-twice w =
+    let count : min (min (w .dispositions) countLimit) countLimit ≡ min (w .dispositions) countLimit = omega arith in
+    let sum : min (min (w .cents) centsLimit) centsLimit ≡ min (w .cents) centsLimit = omega arith in
+    λ i. record { place = w .place; dispositions = count i; cents = sum i }
+
+-- the walk's own step behind a record that opens nothing and asks for nothing: its counts, which have stopped where they must, stay
+pub next-place : (w : Walk) (k : Kind) → opened k ≡ 0 → stopped w ≡ w → stopped (step w k 0) ≡ atPlace w (placeAfter (w .place .further) k)
+next-place w k none stays =
+    let count : min (w .dispositions) countLimit ≡ w .dispositions = ap (λ (v : Walk). v .dispositions) stays in
+    let sum : min (w .cents) centsLimit ≡ w .cents = ap (λ (v : Walk). v .cents) stays in
+    let dispositions : min (counted w k) countLimit ≡ w .dispositions = omega arith in
+    let cents : min (w .cents + 0) centsLimit ≡ w .cents = omega arith in
+    λ i. record { place = placeAfter (w .place .further) k; dispositions = dispositions i; cents = cents i }
+
+-- the loop over records that are seen to be right: those up to index i were passed over, and the number due at i is known
+pub record Passing (f : List ℕ) (from : ℕ) (w : Walk) (i : ℕ) (here : Walk) : Type 0 where
+  pub some : 1 ≤ from
+  pub stays : stopped w ≡ w
+  pub passed : PassedOver f from w i here
+  pub known : (v : Walk) → Numbered (atPlace v (w .place)) (recordAt (from - 1) f) → Numbered (atPlace v (here .place)) (recordAt (i - 1) f)
+
+pub pass-begin : (f : List ℕ) (from : ℕ) (w : Walk) → 1 ≤ from → from ≤ length f / 120 → stopped w ≡ w → Passing f from w from w
+pass-begin f from w some within stays =
+    record {
+      some = some;
+      stays = stays;
+      passed = record { on = omega arith; within = within; counts = refl; due = refl; left = λ end header company v numbered. refl };
+      known = λ v numbered. numbered;
+    }
+
+-- the walk that has come there has stopped too
+pub counts-stay : {f : List ℕ} {from : ℕ} {w : Walk} {i : ℕ} {here : Walk} → Passing f from w i here → stopped here ≡ here
+counts-stay {here = here} so-far =
+    let counts = so-far .passed .counts in
+    ap stopped counts ∙ ap (λ (v : Walk). atPlace v (here .place)) (so-far .stays) ∙ sym counts
+
+-- one record more
+pub pass-next :
+    (f : List ℕ) {from : ℕ} {w : Walk} (i : ℕ) (here : Walk) (k : Kind) → Passing f from w i here → i < length f / 120 → Inside (here .place .due) (recordAt i f) (Of k)
+    → seenRight k (field 4 10 (recordAt (i - 1) f)) (recordAt i f) ≡ true → Passing f from w (suc i) (stopped (step here k 0))
+pass-next f {from} {w} i here k so-far more inside seen =
+    let passed = so-far .passed in
+    let on = passed .on in
+    let q = here .place in
+    let told = seen-right k (field 4 10 (recordAt (i - 1) f)) (recordAt i f) seen in
+    let none : opened k ≡ 0 = rw (told .1) in
+    let moved = next-place here k none (counts-stay so-far) in
+    let back : suc i - 1 ≡ i = omega arith in
+    record {
+      some = so-far .some;
+      stays = so-far .stays;
+      passed = record {
+        on = omega arith;
+        within = omega arith;
+        counts = moved ∙ ap (λ (v : Walk). atPlace v (placeAfter (q .further) k)) (passed .counts);
+        due = still-due q k (inside .0) (told .2) ∙ passed .due;
+        left = λ end header company v numbered. passed .left end header company v numbered ∙ ap (go end header (atPlace v q) company i) (cut-next (length f / 120) i f more)
+            ∙ pass-one end header company v i (recordAt (i - 1) f) (recordAt i f) (recordsFrom (suc i) f) q k (record-whole f i more) (so-far .known v numbered) inside seen;
+      };
+      known = λ v numbered goes-on. rw (back, told .3) (so-far .known v numbered (inside .0));
+    }
+
 -- a reading that has come to an index goes on behind the records that are passed over from there
 pub pass-on :
-    (f : List ℕ) {end : Walk → ℕ → Verdict} {header : Header} {all : List (List ℕ)} {company : List ℕ} (w : Walk) {from to : ℕ} (q : Place)
-    → Reading end header all w company from (recordsFrom from f) → Numbered w (recordAt (from - 1) f) → PassedOver f from (w .place) to q
-    → Reading end header all (atPlace w q) company to (recordsFrom to f)
-pass-on f {end} {header} {all} {company} w {from} {to} q r numbered passed =
+    (f : List ℕ) {end : Walk → ℕ → Verdict} {header : Header} {all : List (List ℕ)} {company : List ℕ} (w : Walk) {from to : ℕ} {behind : Walk}
+    → Reading end header all w company from (recordsFrom from f) → Numbered w (recordAt (from - 1) f) → PassedOver f from w to behind
+    → Reading end header all behind company to (recordsFrom to f)
+pass-on f {end} {header} {all} {company} w {from} {to} {behind} r numbered passed =
     let exact = r .exact in
+    let q = behind .place in
     let few = r .few in
-    let on = passed .0 in
+    let on = passed .on in
     let place : w .place ≡ exact .place = ap (λ (v : Walk). v .place) (r .stops) in
     let count : w .dispositions ≡ min (exact .dispositions) countLimit = ap (λ (v : Walk). v .dispositions) (r .stops) in
-    let same-due : isDue (permitted (exact .place .due)) ≡ isDue (permitted (q .due)) = ap (λ (p : Place). isDue (permitted (p .due))) (sym place) ∙ sym (passed .2) in
+    let same-due : isDue (permitted (exact .place .due)) ≡ isDue (permitted (q .due)) = ap (λ (p : Place). isDue (permitted (p .due))) (sym place) ∙ sym (passed .due) in
     let known : Numbered (atPlace exact (w .place)) (recordAt (from - 1) f) = λ inside.
     let held = numbered inside in
     let value = held .1 in
@@ -153,8 +217,8 @@ pass-on f {end} {header} {all} {company} w {from} {to} q r numbered passed =
     in
     record {
       exact = atPlace exact q;
-      stops = ap (λ (v : Walk). atPlace v q) (r .stops);
+      stops = passed .counts ∙ ap (λ (v : Walk). atPlace v q) (r .stops);
       final = λ e. ap (λ (v : Walk). atPlace v q) (r .final (same-due ∙ e));
       few = omega arith;
-      left = r .left ∙ ap (λ (p : Place). go end header (atPlace exact p) company from (recordsFrom from f)) (sym place) ∙ passed .3 end header company exact known;
+      left = r .left ∙ ap (λ (p : Place). go end header (atPlace exact p) company from (recordsFrom from f)) (sym place) ∙ passed .left end header company exact known;
     }

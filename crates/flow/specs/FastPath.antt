@@ -47,11 +47,12 @@ Numbered w before = isInside (w .place .due) ≡ true → (isDigits (field 4 10 
 abbrev pub atPlace : Walk → Place → Walk
 atPlace w p = record { place = p; dispositions = w .dispositions; cents = w .cents }
 
--- the records from one index up to another were passed over: whatever the counts, what is left decides as it did
-abbrev pub PassedOver : List ℕ → ℕ → Place → ℕ → Place → Type 0
-PassedOver f from p to q =
-    (from ≤ to) × (to ≤ length f / 120) × (isDue (permitted (q .due)) ≡ isDue (permitted (p .due)))
-    × (
-    (end : Walk → ℕ → Verdict) (header : Header) (company : List ℕ) (w : Walk) → Numbered (atPlace w p) (recordAt (from - 1) f)
-    → go end header (atPlace w p) company from (recordsFrom from f) ≡ go end header (atPlace w q) company to (recordsFrom to f)
-    )
+-- the records from one index up to another were passed over: the walk keeps its counts, and whatever they are, what is left decides as it did
+pub record PassedOver (f : List ℕ) (from : ℕ) (w : Walk) (to : ℕ) (behind : Walk) : Type 0 where
+  pub on : from ≤ to
+  pub within : to ≤ length f / 120
+  pub counts : behind ≡ atPlace w (behind .place)
+  pub due : isDue (permitted (behind .place .due)) ≡ isDue (permitted (w .place .due))
+  pub left :
+      (end : Walk → ℕ → Verdict) (header : Header) (company : List ℕ) (v : Walk) → Numbered (atPlace v (w .place)) (recordAt (from - 1) f)
+      → go end header (atPlace v (w .place)) company from (recordsFrom from f) ≡ go end header (atPlace v (behind .place)) company to (recordsFrom to f)

@@ -64,6 +64,14 @@ bytesAt (refused n r p) f = []
 abbrev pub partOf : List ℕ → ℕ → List ℕ
 partOf f k = bytesAt (find f k) f
 
+-- the index in f of the first of them; of a refusal 0
+abbrev pub offsetAt : Located → ℕ
+offsetAt (standing first records cents) = 120 * (first - 1)
+offsetAt (refused n r p) = 0
+
+abbrev pub offsetOf : List ℕ → ℕ → ℕ
+offsetOf f k = offsetAt (find f k)
+
 -- For the contracts of private functions: disposition k stands in the flow f, which is accepted
 pub record Stands (f : List ℕ) (k : ℕ) : Type 0 where
   pub dispositions : ℕ

@@ -32,9 +32,12 @@ counted w k = w .dispositions + opened k
 abbrev pub step : Walk → Kind → ℕ → Walk
 step w k c = record { place = placeAfter (w .place .further) k; dispositions = counted w k; cents = w .cents + c }
 
--- the latest company code present, behind a record of the kind that has the code; and behind the record itself
+-- the latest company code present, behind a record of the kind that has the code: which of two it is, its bytes, and behind the record itself
+abbrev pub latestBy : {A : Type 0} → Kind → List ℕ → A → A → A
+latestBy k code company next = cond (opens k && isPresent code) next company
+
 abbrev pub latestOf : Kind → List ℕ → List ℕ → List ℕ
-latestOf k company code = cond (opens k && isPresent code) code company
+latestOf k company code = latestBy k code company code
 
 abbrev pub latest : Kind → List ℕ → List ℕ → List ℕ
 latest k company rec = latestOf k company (field 92 96 rec)

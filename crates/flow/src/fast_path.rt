@@ -3,47 +3,51 @@
 // see to be right by a few tests; where that does not settle it, the plain path decides: `Walk::judge`.
 // So no refusal comes from here.
 ghost use Prim.Native.Nat.{_/_, _≤_};
+ghost use mathlib.Core.Path.{_≡_};
 ghost use lib.ListN.{length};
 ghost use Rattle.flow.specs.FastPath.{Inside, PassedOver};
+ghost use Rattle.flow.specs.Steps.{stopped};
 use crate::order::Due;
 use crate::order::Found;
-use crate::order::Place;
 use crate::order::first_of;
 use crate::order::only;
-use crate::order::place_after;
+use crate::walk::Walk;
 use records::Kind;
+use records::Record;
 use records::field;
 
-// The place behind the records that were passed over, and the index of the next one.
+// The walk behind the records that were passed over, and the index of the next one.
 pub(crate) struct Passed {
-    pub place: Place,
+    pub walk: Walk,
     pub index: usize,
 }
 
 // Passes over the records from index `from` on, up to the first that is not seen to be right. The
 // record before them is right.
-pub(crate) fn pass_over(flow: &[u8], from: usize, place: Place) -> Passed
+pub(crate) fn pass_over(flow: &[u8], from: usize, walk: Walk) -> Passed
     requires { ⌜ 1 ≤ from ⌝ }
     requires { ⌜ from ≤ length (now flow) / 120 ⌝ }
-    ensures { λ r. ⌜ PassedOver (now (flow .entry)) from place (r .index) (r .place) ⌝ }
+    requires { ⌜ stopped walk ≡ walk ⌝ }
+    ensures { λ r. ⌜ PassedOver (now (flow .entry)) from walk (r .index) (r .walk) ⌝ }
 {
-    let mut here = place;
+    let mut here = walk;
     let mut i = from;
     while i < flow.len() / 120 {
         let before = &flow[120 * (i - 1)..120 * (i - 1) + 120];
         let rec = &flow[120 * i..120 * i + 120];
-        let due = here.due;
+        let place = here.place;
+        let due = place.due;
         let Found::Of(kind) = kind_inside(due, rec) else {
             break;
         };
         if !records::seen_right(rec, kind, field(before, 4, 10)) {
             break;
         }
-        here = place_after(here.further, kind);
+        here = here.pass(Record { kind, cents: 0 });
         i += 1;
     }
     Passed {
-        place: here,
+        walk: here,
         index: i,
     }
 }

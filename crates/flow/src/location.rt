@@ -4,10 +4,11 @@ ghost use mathlib.Core.Bool.{true, _&&_};
 ghost use mathlib.Core.Path.{_≡_};
 ghost use lib.Dec.{leb};
 ghost use lib.ListN.{length};
+ghost use Rattle.sequences.specs.Slice.{StartsAt};
 ghost use Rattle.fields.specs.Digits.{isDigits};
 ghost use Rattle.fields.specs.Digits.{number as Digits·number};
 ghost use Rattle.records.specs.Field.{field as Field·field};
-ghost use Rattle.flow.specs.Find.{standing, located, dispositionsIn, startsAt, standsAt, partOf, Stands, openingFrom};
+ghost use Rattle.flow.specs.Find.{standing, located, dispositionsIn, startsAt, standsAt, partOf, offsetOf, Stands, openingFrom};
 ghost use Rattle.flow.specs.Find.{find as Find·find};
 ghost use Rattle.flow.specs.Seek.{sought};
 ghost use Rattle.flow.specs.Seek.{seek as Seek·seek};
@@ -130,9 +131,11 @@ pub fn seek(flow: &[u8], k: u64) -> Sought
     }
 }
 
-// The part of the caller's flow that disposition k is; an empty part where `find` refuses.
+// The part of the caller's flow that disposition k is, at its place in it; where `find` refuses, an
+// empty part at its start.
 pub fn disposition(flow: &[u8], k: u64) -> &[u8]
-    ensures { λ r. ⌜ now r ≡ partOf (now (flow .entry)) k ⌝ }
+    ensures bytes { λ r. ⌜ now r ≡ partOf (now (flow .entry)) k ⌝ }
+    ensures place { λ r. ⌜ StartsAt r (flow .entry) (offsetOf (now (flow .entry)) k) ⌝ }
 {
     match find(flow, k) {
         Location::At {

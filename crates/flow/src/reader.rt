@@ -4,11 +4,12 @@ ghost use mathlib.Core.Bool.{true};
 ghost use mathlib.Core.List.{[]};
 ghost use mathlib.Core.Path.{_≡_};
 ghost use lib.ListN.{length};
+ghost use denote.Ref.{ptr};
 ghost use Rattle.records.specs.Context.{headed};
 ghost use Rattle.flow.specs.Judge.{ended, go};
 ghost use Rattle.flow.specs.Records.{isLength, recordsOf};
 ghost use Rattle.flow.specs.Judge.{judge as Judge·judge};
-ghost use Rattle.flow.specs.Steps.{start, latestOf};
+ghost use Rattle.flow.specs.Steps.{start, latestBy, latestOf};
 ghost use Rattle.flow.specs.Verdict.{verdict};
 use crate::answer::Answer;
 use crate::fast_path::pass_over;
@@ -94,18 +95,18 @@ fn read_records(
                 walk = walk.next(right);
             }
         }
-        let place = walk.place;
-        let passed = pass_over(flow, i + 1, place);
-        let behind = passed.place;
-        walk = walk.at(behind);
+        let passed = pass_over(flow, i + 1, walk);
+        walk = passed.walk;
         i = passed.index;
     }
     end(walk, count(i))
 }
 
-// The latest company code present, behind a record of the kind that has the code at 92-96.
+// The latest company code present, behind a record of the kind that has the code at 92-96: one of the
+// two slices, as it was lent.
 pub fn latest_company<'a>(company: &'a [u8], code: &'a [u8], kind: Kind) -> &'a [u8]
-    ensures { λ r. ⌜ now r ≡ latestOf kind (now (company .entry)) (now (code .entry)) ⌝ }
+    ensures bytes { λ r. ⌜ now r ≡ latestOf kind (now (company .entry)) (now (code .entry)) ⌝ }
+    ensures place { λ r. ⌜ ptr r ≡ latestBy kind (now (code .entry)) (ptr (company .entry)) (ptr (code .entry)) ⌝ }
 {
     if !records::opens(kind) {
         return company;

@@ -1,11 +1,11 @@
 // The walk over a flow: its state goes in by value and comes back behind the next record.
 ghost use Prim.Native.Nat.{_+_, min};
-ghost use mathlib.Core.Bool.{not};
+ghost use mathlib.Core.Bool.{false, not};
 ghost use mathlib.Core.Path.{_≡_};
 ghost use Rattle.records.specs.Context.{headed};
 ghost use Rattle.records.specs.Finding.{finding};
+ghost use Rattle.records.specs.Kinds.{opens};
 ghost use Rattle.records.specs.Limits.{countLimit};
-ghost use Rattle.flow.specs.FastPath.{atPlace};
 ghost use Rattle.flow.specs.Order.{isDue, mayClose, permitted};
 ghost use Rattle.flow.specs.Steps.{step, stopped, counted, judgeRecord};
 ghost use Rattle.flow.specs.Steps.{start as Steps·start};
@@ -116,12 +116,19 @@ impl Walk {
         }
     }
 
-    // The state at another place, with the same counts.
-    pub(crate) fn at(self, place: Place) -> Walk
-        ensures { λ r. ⌜ r ≡ atPlace self place ⌝ }
+    // The same behind a right record that opens no disposition: the counts stay, and the fast path has
+    // none to compare with their limits.
+    pub(crate) fn pass(self, right: Record) -> Walk
+        requires { ⌜ opens (right .kind) ≡ false ⌝ }
+        requires { ⌜ right .cents ≡ 0 ⌝ }
+        requires { ⌜ stopped self ≡ self ⌝ }
+        ensures { λ r. ⌜ r ≡ stopped (step self (right .kind) (right .cents)) ⌝ }
     {
+        let kind = right.kind;
+        let place = self.place;
+        let next = place_after(place.further, kind);
         Walk {
-            place,
+            place: next,
             dispositions: self.dispositions,
             cents: self.cents,
         }

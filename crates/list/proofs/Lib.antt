@@ -6,6 +6,7 @@ pub mod DispositionNumbers
 pub mod Examples
 pub mod Filling
 pub mod Gathering
+pub mod ItemExamples
 pub mod Judging
 pub mod ListItems
 pub mod Loops

@@ -1,5 +1,6 @@
 pub mod Encode
 pub mod Examples
+pub mod ItemExamples
 pub mod Items
 pub mod Laws
 pub mod Output

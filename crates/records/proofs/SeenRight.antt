@@ -77,5 +77,6 @@ seen-right k digits rec seen =
       eqb-true (badByte rec) 0 (last .1),
       none .0,
       none .1,
+      same,
       λ ctx known due. right-exact k ctx rec whole .1 (checks-hold k ctx rec (kept .0) (ap isDigits same ∙ known) (eq-eqb _ _ (ap number same ∙ due))) ∙ ap (right k) asks,
     )

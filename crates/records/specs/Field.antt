@@ -1,12 +1,18 @@
 -- The fields of a record by position (document 01, "The flow as bytes": positions count from 1 to 120). Assumes nothing.
 use Prim.Native.Nat.{ℕ, _-_}
+use mathlib.Core.Bool.{cond, _&&_}
 use mathlib.Core.List.{List}
-use lib.ListN.{getD}
+use lib.Dec.{ltb}
+use lib.ListN.{length, getD}
 use Rattle.sequences.specs.Part.{part}
 
 -- positions a to e, both with
 abbrev pub field : ℕ → ℕ → List ℕ → List ℕ
 field a e rec = part (a - 1) (e - (a - 1)) rec
+
+-- the index in the record at which they start; 0 where the record has none of them
+abbrev pub fieldStart : ℕ → ℕ → List ℕ → ℕ
+fieldStart a e rec = cond (ltb (a - 1) e && ltb (a - 1) (length rec)) (a - 1) 0
 
 -- positions first to last, both with, as document 01 writes them
 infix 30 _to_

@@ -10,6 +10,7 @@ use Rattle.records.specs.Bytes.{badByte}
 use Rattle.records.specs.Checked.{checked, Alike}
 use Rattle.records.specs.Checks.{checks}
 use Rattle.records.specs.Context.{Context}
+use Rattle.records.specs.Field.{field}
 use Rattle.records.specs.Finding.{right, refused, Hold, FirstBroken, inOrder, finding}
 use Rattle.records.specs.Judge.{asked, judge}
 use Rattle.records.specs.Kinds.{typeOf, opens, closes}
@@ -60,10 +61,10 @@ TrailerExact =
 abbrev pub JudgedDetermined : Type 0
 JudgedDetermined = (r s : Judged) → finding r ≡ finding s → r ≡ s
 
--- a record that is seen to be right is one inside a disposition, and is right and asks for nothing, where the number handed in is digits
--- and the one due
+-- a record that is seen to be right is one inside a disposition, has the number handed in, and is right and asks for nothing where that is
+-- digits and the one due
 abbrev pub SeenRight : Type 0
 SeenRight =
     (k : Kind) (digits rec : List ℕ) → seenRight k digits rec ≡ true
-    → (badByte rec ≡ 0) × (opens k ≡ false) × (closes k ≡ false)
+    → (badByte rec ≡ 0) × (opens k ≡ false) × (closes k ≡ false) × (field 4 10 rec ≡ digits)
     × ((ctx : Context) → isDigits digits ≡ true → number digits ≡ ctx .counts .dispositions → judge k ctx rec ≡ right k 0)

@@ -4,5 +4,6 @@ pub mod Every
 pub mod Groups
 pub mod Pairs
 pub mod Part
+pub mod Slice
 pub mod Sum
 pub mod Text

@@ -1,5 +1,5 @@
 -- `flow::pass_over` meets its contract: behind each record that was seen, what is left decides as it did. Assumes nothing.
-use Prim.Native.Nat.{ℕ, suc, _-_, _/_, _≤_}
+use Prim.Native.Nat.{ℕ, _-_, _/_}
 use mathlib.Core.Bool.{true}
 use mathlib.Core.List.{List}
 use mathlib.Core.Path.{_≡_, refl, sym, _∙_, ap, subst}
@@ -8,35 +8,25 @@ use native.Mathlib.Omega.{arith}
 use lib.ListN.{length}
 use borrow.Author.Needs.{needs}
 use borrow.Author.Tests.{not-false}
-use Rattle.records.specs.Context.{Header}
 use Rattle.records.specs.Field.{field}
 use Rattle.records.specs.Seen.{seenRight}
 use Rattle.records.proofs.SeenRight.{seen-right}
-use Rattle.flow.specs.FastPath.{Inside, Numbered, atPlace, PassedOver}
-use Rattle.flow.specs.Judge.{go}
-use Rattle.flow.specs.Order.{permitted, isDue}
-use Rattle.flow.specs.Records.{recordAt, recordsFrom}
-use Rattle.flow.specs.Verdict.{Verdict}
+use Rattle.flow.specs.FastPath.{Inside}
+use Rattle.flow.specs.Records.{recordAt}
 use Rattle.flow.specs.declared.order.Found.the-variants.{Of}
-use Rattle.flow.specs.declared.walk.Walk.{Walk}
-use Rattle.flow.proofs.Cut.{cut-next, record-part, record-whole}
-use Rattle.flow.proofs.FastPath.{pass-one, still-due}
+use Rattle.flow.proofs.Cut.{record-part}
+use Rattle.flow.proofs.FastPath.{Passing, pass-begin, counts-stay, pass-next}
 use Rattle.flow.proofs.fast_path.pass_over.Statement.{statement}
 use Rattle.flow.proofs.fast_path.pass_over.Tie as tie
 
 abbrev Inv-loop : tie.InvT-loop
-Inv-loop flow from here₀ i₀ here i =
-    (1 ≤ from) × (from ≤ i) × (i ≤ length flow / 120) × (isDue (permitted (here .due)) ≡ isDue (permitted (here₀ .due)))
-    × (
-    (end : Walk → ℕ → Verdict) (header : Header) (company : List ℕ) (w : Walk) → Numbered (atPlace w here₀) (recordAt (from - 1) flow)
-    → (go end header (atPlace w here₀) company from (recordsFrom from flow) ≡ go end header (atPlace w here) company i (recordsFrom i flow)) × Numbered (atPlace w here) (recordAt (i - 1) flow)
-    )
+Inv-loop flow from here₀ i₀ here i = Passing flow from here₀ i here
 
 abbrev μ-loop : tie.MeasureT-loop
 μ-loop flow from here₀ i₀ here i = length flow / 120 - i
 
 loop-holds : tie.Need-loop-holds Inv-loop μ-loop
-loop-holds c = (c .before .pre .0, omega arith, c .before .pre .1, refl, λ end header company w numbered. (refl, numbered))
+loop-holds c = pass-begin _ _ _ (c .before .pre .0) (c .before .pre .1 .0) (c .before .pre .1 .1)
 
 sub-before : tie.Need-sub-before Inv-loop μ-loop
 sub-before c = omega arith
@@ -95,9 +85,6 @@ field-requires c κs = search needs
 seen-right-requires : tie.Need-seen-right-requires Inv-loop μ-loop
 seen-right-requires c κs = search needs
 
-place-after-requires : tie.Need-place-after-requires Inv-loop μ-loop
-place-after-requires c κs = search needs
-
 add-i : tie.Need-add-i Inv-loop μ-loop
 add-i c = omega arith
 
@@ -109,57 +96,43 @@ flow-of at = at .before .before .args .flow .now
 
 -- what is known of a record that was passed over
 seen-of :
-    (c : tie.Else1 Inv-loop μ-loop) → let at = c .before .before .before .before .before .before .before .before .before .before in let i = at .loop .i in
+    (c : tie.Else1 Inv-loop μ-loop) → let at = c .before .before .before .before .before .before .before .before .before .before .before in let i = at .loop .i in
     let kind = c .before .before .before .before .kind .given .0 .0 in
-    Inside (at .loop .here .due) (recordAt i (flow-of at)) (Of kind) × (seenRight kind (field 4 10 (recordAt (i - 1) (flow-of at))) (recordAt i (flow-of at)) ≡ true)
+    Inside (at .loop .here .place .due) (recordAt i (flow-of at)) (Of kind) × (seenRight kind (field 4 10 (recordAt (i - 1) (flow-of at))) (recordAt i (flow-of at)) ≡ true)
 seen-of c =
     let found = c .before .before .before .before in
     let asked = found .before .before in
-    let at = asked .before .before .before .before in
+    let at = asked .before .before .before .before .before in
     let i = at .loop .i in
     let kind = found .kind .given .0 .0 in
     let rec = record-part i (flow-of at) in
-    let number = c .before .before .field .ensures ∙ ap (field 4 10) (record-part (i - 1) (flow-of at)) in (
+    let number = c .before .before .field .ensures .0 ∙ ap (field 4 10) (record-part (i - 1) (flow-of at)) in (
       rw rec at (subst (Inside _ _) (found .kind .given .1) (asked .kind-inside .ensures)),
       sym (λ j. seenRight kind (number j) (rec j)) ∙ sym (c .before .seen-right .ensures) ∙ not-false _ (c .if1 .left),
     )
 
+pass-requires : tie.Need-pass-requires Inv-loop μ-loop
+pass-requires c κs =
+    let at = c .before .before .before .before .before .before .before .before .before .before .before in
+    let i = at .loop .i in
+    let kind = c .before .before .before .before .kind .given .0 .0 in
+    (seen-right kind (field 4 10 (recordAt (i - 1) (flow-of at))) (recordAt i (flow-of at)) (seen-of c .1) .1, (refl, counts-stay (at .loop .inv)))
+
 loop-again : tie.Need-loop-again Inv-loop μ-loop
 loop-again c =
-    let within = c .before .before .before .before .before .before .before .before .before .before in
+    let within = c .before .before .before .before .before .before .before .before .before .before .before in
     let at = within .before in
-    let i = at .loop .i in
-    let flow = flow-of at in
-    let inv = at .loop .inv in
-    let kind = c .before .before .before .before .before .kind .given .0 .0 in
     let seen = seen-of (c .before) in
-    let back : suc i - 1 ≡ i = omega arith in
-    let next = cut-next (length flow / 120) i flow (within .loop-test .taken) in (
-      inv .0,
-      omega arith,
-      omega arith,
-      rw (c .place-after .ensures) (still-due (at .loop .here) kind (seen .0 .0) (seen-right kind (field 4 10 (recordAt (i - 1) flow)) (recordAt i flow) (seen .1) .2) ∙ inv .3),
-      rw (c .place-after .ensures, add-one, back)
-          (λ end header company w numbered.
-          let come = inv .4 end header company w numbered in
-          let one = pass-one end header company w i (recordAt (i - 1) flow) (recordAt i flow) (recordsFrom (suc i) flow) (at .loop .here) kind (record-whole flow i (within .loop-test .taken)) (come .1) (seen .0) (seen .1) in
-          (come .0 ∙ ap (go end header (atPlace w (at .loop .here)) company i) next ∙ one .0, one .1)),
-    )
-
--- wherever the loop ends, its invariant is what was to be shown
-passed : (at : tie.At-loop Inv-loop μ-loop) → PassedOver (flow-of at) (at .before .before .args .from) (at .before .before .args .place) (at .loop .i) (at .loop .here)
-passed at =
-    let inv = at .loop .inv in
-    (inv .1, inv .2, inv .3, λ end header company w numbered. inv .4 end header company w numbered .0)
+    rw (c .pass .ensures, add-one) (pass-next (flow-of at) (at .loop .i) (at .loop .here) _ (at .loop .inv) (within .loop-test .taken) (seen .0) (seen .1))
 
 returns : tie.Need-returns Inv-loop μ-loop
-returns c = passed (c .before)
+returns c = c .before .loop .inv .passed
 
 returns-2 : tie.Need-returns-2 Inv-loop μ-loop
-returns-2 c = passed (c .before .before .before .before .before .before)
+returns-2 c = c .before .before .before .before .before .before .before .loop .inv .passed
 
 returns-3 : tie.Need-returns-3 Inv-loop μ-loop
-returns-3 c = passed (c .before .before .before .before .before .before .before .before .before .before)
+returns-3 c = c .before .before .before .before .before .before .before .before .before .before .before .loop .inv .passed
 
 pub pass-over-spec : {M : Type 1} → statement M
 pass-over-spec =
@@ -187,7 +160,7 @@ pass-over-spec =
     enum-told
     field-requires
     seen-right-requires
-    place-after-requires
+    pass-requires
     add-i
     loop-less
     loop-again

@@ -32,7 +32,7 @@ value : (rec : List ℕ) → (length rec ≡ 120) × (isDigits (field 34 46 rec)
 value rec h = field-amount 34 rec (fits 34 46 rec (h .0) (omega arith) (omega arith) (omega arith) (omega arith)) ∙ rw (h .1)
 
 read : (c : tie.After-read-amount) → numberAnswer (c .read-amount .result) ≡ accepted (number (field 34 46 (c .before .before .before .args .rec .now)))
-read c = c .read-amount .ensures ∙ ap amountField (c .before .field .ensures) ∙ value (c .before .before .before .args .rec .now) (c .before .before .before .pre)
+read c = c .read-amount .ensures ∙ ap amountField (c .before .field .ensures .0) ∙ value (c .before .before .before .args .rec .now) (c .before .before .before .pre)
 
 returns : tie.Need-returns
 returns c = accepted-same (sym (ap numberAnswer (c .before .cents .given .1)) ∙ read (c .before .before .before))

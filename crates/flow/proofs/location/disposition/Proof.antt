@@ -1,12 +1,12 @@
 -- `flow::disposition` meets its contract. Assumes nothing.
 use Prim.Native.Nat.{ℕ, _+_, _-_, _*_, _≤_}
 use mathlib.Core.List.{List}
-use mathlib.Core.Path.{_≡_, sym, _∙_, ap, ap₂}
+use mathlib.Core.Path.{_≡_, refl, sym, _∙_, ap, ap₂}
 use native.Mathlib.Omega.{arith}
 use lib.ListN.{length}
 use borrow.Author.Needs.{needs}
 use Rattle.sequences.specs.Part.{part}
-use Rattle.flow.specs.Find.{Located, located, standing, refused, bytesAt, find}
+use Rattle.flow.specs.Find.{Located, located, standing, refused, bytesAt, offsetAt, find}
 use Rattle.flow.proofs.Dispositions.{found-within}
 use Rattle.flow.proofs.location.disposition.Statement.{statement}
 use Rattle.flow.proofs.location.disposition.Tie as tie
@@ -68,7 +68,9 @@ returns c =
     let to = from + c .before .index2 .result in
     let start : 120 * from ≡ 120 * (first told - 1) = ap (λ (n : ℕ). 120 * n) (c .before .before .index .ensures) in
     let size : 120 * to - 120 * from ≡ 120 * records told = omega (arith, c .before .index2 .ensures) in
-    ap₂ (λ (a n : ℕ). part a n (flow told)) start size ∙ sym (ap (λ (l : Located). bytesAt l (flow told)) (found told))
+    let bytes = ap₂ (λ (a n : ℕ). part a n (flow told)) start size ∙ sym (ap (λ (l : Located). bytesAt l (flow told)) (found told)) in
+    let lent = told .before .before .before .before .before .args .flow in
+    (bytes, (refl, ap (λ (n : ℕ). n + lent .ptr .1) (start ∙ sym (ap offsetAt (found told)))))
 
 enum-told : tie.Need-enum-told
 enum-told c = search needs
@@ -85,7 +87,9 @@ part-result-end-2 c = search needs
 returns-2 : tie.Need-returns-2
 returns-2 c =
     let none : located (c .before .before .before .find .result) ≡ refused _ _ _ = ap located (c .before .enum-told .given .1) in
-    sym (ap (λ (l : Located). bytesAt l (c .before .before .before .before .before .args .flow .now)) (sym (c .before .before .before .find .ensures) ∙ none))
+    let refusal = sym (c .before .before .before .find .ensures) ∙ none in
+    let lent = c .before .before .before .before .before .args .flow in
+    (sym (ap (λ (l : Located). bytesAt l (lent .now)) refusal), (refl, ap (λ (n : ℕ). n + lent .ptr .1) (sym (ap offsetAt refusal))))
 
 pub disposition-spec : {M : Type 1} → statement M
 disposition-spec =

@@ -14,7 +14,7 @@ opens-requires c κs = search needs
 returns : tie.Need-returns
 returns c =
     let other : opens (c .before .before .before .before .args .kind) ≡ false = sym (c .before .opens .ensures) ∙ not-true _ (c .if1 .taken) in
-    rw other
+    (rw other, rw other)
 
 all-blank-requires : tie.Need-all-blank-requires
 all-blank-requires c κs = search needs
@@ -23,13 +23,13 @@ returns-2 : tie.Need-returns-2
 returns-2 c =
     let opened : opens (c .before .before .before .before .before .before .args .kind) ≡ true = sym (c .before .before .before .opens .ensures) ∙ not-false _ (c .before .before .if1 .left) in
     let blank : isBlank (c .before .before .before .before .before .before .args .code .now) ≡ true = sym (c .before .all-blank .ensures) ∙ c .if2 .taken in
-    rw (opened, blank)
+    (rw (opened, blank), rw (opened, blank))
 
 returns-3 : tie.Need-returns-3
 returns-3 c =
     let opened : opens (c .before .before .before .before .before .before .args .kind) ≡ true = sym (c .before .before .before .opens .ensures) ∙ not-false _ (c .before .before .if1 .left) in
     let present : isBlank (c .before .before .before .before .before .before .args .code .now) ≡ false = sym (c .before .all-blank .ensures) ∙ c .if2 .left in
-    rw (opened, present)
+    (rw (opened, present), rw (opened, present))
 
 pub latest-company-spec : {M : Type 1} → statement M
 latest-company-spec = tie.close (tie.spec opens-requires returns all-blank-requires returns-2 returns-3)

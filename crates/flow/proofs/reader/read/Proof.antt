@@ -54,7 +54,7 @@ returns-2 : tie.Need-returns-2
 unfolding judge
 returns-2 c =
     let right : isLength (length (c .before .before .before .before .before .before .before .before .before .before .args .flow .now)) ≡ true = sym (c .before .before .before .before .before .before .before .before .is-length .ensures) ∙ not-false _ (c .before .before .before .before .before .before .before .if1 .left) in
-    rw (right, ← c .before .before .before .before .before .field .ensures, ← c .before .before .before .before .field2 .ensures, ← c .before .before .before .field3 .ensures, ← c .before .before .field4 .ensures, ← c .before .field5 .ensures) (c .read-records .ensures)
+    rw (right, ← c .before .before .before .before .before .field .ensures .0, ← c .before .before .before .before .field2 .ensures .0, ← c .before .before .before .field3 .ensures .0, ← c .before .before .field4 .ensures .0, ← c .before .field5 .ensures .0) (c .read-records .ensures)
 
 pub read-spec : {M : Type 1} → statement M
 read-spec =

@@ -12,10 +12,10 @@ use Rattle.records.specs.Finding.{finding}
 use Rattle.flow.specs.FastPath.{Numbered}
 use Rattle.flow.specs.Judge.{ended}
 use Rattle.flow.specs.Records.{recordAt, recordsOf, recordsFrom}
-use Rattle.flow.specs.Steps.{judgeRecord}
+use Rattle.flow.specs.Steps.{judgeRecord, stopped}
 use Rattle.flow.proofs.Lengths.{length-said}
 use Rattle.flow.proofs.Cut.{cut-next, cut-end, record-part, record-whole}
-use Rattle.flow.proofs.FastPath.{numbered-stopped, pass-on}
+use Rattle.flow.proofs.FastPath.{numbered-stopped, stopped-twice, pass-on}
 use Rattle.flow.proofs.Reading.{Reading, begin, go-on, refuse, finish, ended-alike}
 use Rattle.flow.proofs.reader.read_records.Statement.{statement}
 use Rattle.flow.proofs.reader.read_records.Tie as tie
@@ -111,30 +111,27 @@ add-pass-over : tie.Need-add-pass-over Inv-loop μ-loop
 add-pass-over c = omega arith
 
 pass-over-requires : tie.Need-pass-over-requires Inv-loop μ-loop
-pass-over-requires c κs = omega arith
-
-at-requires : tie.Need-at-requires Inv-loop μ-loop
-at-requires c κs = search needs
+pass-over-requires c κs = (omega arith, (omega arith, ap stopped (c .next .ensures) ∙ stopped-twice _ ∙ sym (c .next .ensures)))
 
 loop-less : tie.Need-loop-less Inv-loop μ-loop
-loop-less c = omega (arith, c .before .before .pass-over .ensures .0)
+loop-less c = omega (arith, c .before .pass-over .ensures .on)
 
 loop-again : tie.Need-loop-again Inv-loop μ-loop
 loop-again c =
-    let passed = c .before .before .pass-over in
-    let walked = c .before .before .before .before .next in
-    let judged = c .before .before .before .before .before .before .before .before .before .before in
+    let passed = c .before .pass-over in
+    let walked = c .before .before .next in
+    let judged = c .before .before .before .before .before .before .before .before in
     let within = judged .before .before .before in
     let at = within .before in
     let i = at .loop .i in
     let flow = flow-of at in
-    let told = found judged ∙ ap finding (c .before .before .before .before .before .before .before .before .right .given .1) in
+    let told = found judged ∙ ap finding (c .before .before .before .before .before .before .right .given .1) in
     let back : suc i - 1 ≡ i = omega arith in
     let numbered : Numbered (walked .result) (recordAt (suc i - 1) flow) = rw (walked .ensures, back) (numbered-stopped _ _ _ _ _ _ _ (record-whole flow i (within .loop-test .taken)) told) in (
-      passed .ensures .1,
+      passed .ensures .within,
       at .loop .inv .1,
-      rw (c .at .ensures, c .before .before .before .before .before .latest-company .ensures, c .before .before .before .before .before .before .field .ensures, handed at)
-          (pass-on flow (walked .result) _ (rw (walked .ensures) (go-on (at .loop .inv .2) _ _ (cut-next _ _ _ (within .loop-test .taken)) _ _ told)) numbered (rw add-one at (passed .ensures))),
+      rw (c .before .before .before .latest-company .ensures .0, c .before .before .before .before .field .ensures .0, handed at)
+          (pass-on flow (walked .result) (rw (walked .ensures) (go-on (at .loop .inv .2) _ _ (cut-next _ _ _ (within .loop-test .taken)) _ _ told)) numbered (rw add-one at (passed .ensures))),
     )
 
 count-requires-2 : tie.Need-count-requires-2 Inv-loop μ-loop
@@ -176,7 +173,6 @@ read-records-spec =
     next-requires
     add-pass-over
     pass-over-requires
-    at-requires
     loop-less
     loop-again
     count-requires-2

@@ -18,13 +18,13 @@ field-requires c κs = search needs
 fill-item-requires : tie.Need-fill-item-requires
 fill-item-requires c κs =
     let at = c .before .before .before .before in
-    let short : length (c .field .result .now) ≤ 5 = rw (c .field .ensures, length-take) (omega arith) in
+    let short : length (c .field .result .now) ≤ 5 = rw (c .field .ensures .0, length-take) (omega arith) in
     (refl, (short, at .pre))
 
 returns : tie.Need-returns
 unfolding encodeItem
 returns c =
-    let abi : c .before .before .field .result .now ≡ carriedAt Im 9 13 (c .before .before .before .before .before .before .args .header .now) = c .before .before .field .ensures in
+    let abi : c .before .before .field .result .now ≡ carriedAt Im 9 13 (c .before .before .before .before .before .before .args .header .now) = c .before .before .field .ensures .0 in
     rw abi at (c .before .fill-item .ensures)
 
 pub encode-item-spec : {M : Type 1} → statement M

@@ -17,12 +17,12 @@ field-requires c κs = search needs
 fill-trailer-requires : tie.Need-fill-trailer-requires
 fill-trailer-requires c κs =
     let header = c .before .before .before .args .header .now in
-    let short : length (c .field .result .now) ≤ 42 = rw (c .field .ensures) (part-at-most 0 42 header) in
+    let short : length (c .field .result .now) ≤ 42 = rw (c .field .ensures .0) (part-at-most 0 42 header) in
     (refl, short)
 
 returns : tie.Need-returns
 unfolding encodeTrailer
-returns c = rw (c .before .before .field .ensures) at (c .before .fill-trailer .ensures)
+returns c = rw (c .before .before .field .ensures .0) at (c .before .fill-trailer .ensures)
 
 pub encode-trailer-spec : {M : Type 1} → statement M
 encode-trailer-spec =

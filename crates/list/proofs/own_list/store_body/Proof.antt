@@ -95,7 +95,7 @@ part-copy-end c = omega (arith, fits (c .before))
 sized : (c : tie.After-field Inv-loop μ-loop) → length (c .field .result .now) ≡ c .before .width .result
 sized c =
     let at = c .before .before in
-    ap length (c .field .ensures) ∙ span-length _ _ _ (within at) (at .before .before .before .before .before .pre .0) ∙ sym (c .before .width .ensures)
+    ap length (c .field .ensures .0) ∙ span-length _ _ _ (within at) (at .before .before .before .before .before .pre .0) ∙ sym (c .before .width .ensures)
 
 copy-requires : tie.Need-copy-requires Inv-loop μ-loop
 copy-requires c κs =
@@ -124,7 +124,7 @@ loop-again c =
     let size : length bytes ≡ end - loop .from = omega (arith, sized field) in
     let over : putMid (loop .from) (end - loop .from) (loop .out) (copy .copy .last .1 .0) ≡ put (loop .from) bytes (loop .out) = copied-over (loop .from) end (loop .out) bytes _ (omega arith) (fits width) size (copy .copy .ensures .1) in
     let same : length (put (loop .from) bytes (loop .out)) ≡ length (start .args .out .now) = put-length (loop .from) bytes (loop .out) (omega (arith, sized field, fits width)) ∙ loop .inv .0 in
-    (ap length over ∙ same, λ k kept size. stored-next (start .pre .0) (width .width .ensures) (over ∙ ap (λ (l : List ℕ). put (loop .from) l (loop .out)) (field .field .ensures)) (turn (width .before) k kept size))
+    (ap length over ∙ same, λ k kept size. stored-next (start .pre .0) (width .width .ensures) (over ∙ ap (λ (l : List ℕ). put (loop .from) l (loop .out)) (field .field .ensures .0)) (turn (width .before) k kept size))
 
 same-length : tie.Need-same-length Inv-loop μ-loop
 same-length c = c .before .loop .inv .0

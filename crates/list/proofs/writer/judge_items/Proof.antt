@@ -67,11 +67,11 @@ returns-2 c =
     let first : c .before .before .before .before .before .before .before .before .before .before .before .first-record .result ≡ take 120 (flatten recs) = c .before .before .before .before .before .before .before .before .before .before .before .first-record .ensures in
     c .judge-records .ensures
     ∙ ap (λ (h : Header). go closed h start [] 0 recs) (λ i. headed
-    ((c .before .before .before .before .before .before .before .before .before .field .ensures ∙ ap (field 4 8) first) i)
-    ((c .before .before .before .before .before .before .before .field2 .ensures ∙ ap (field 9 13) first) i)
-    ((c .before .before .before .before .before .field3 .ensures ∙ ap (field 14 19) first) i)
-    ((c .before .before .before .field4 .ensures ∙ ap (field 20 39) first) i)
-    ((c .before .field5 .ensures ∙ ap (field 114 114) first) i))
+    ((c .before .before .before .before .before .before .before .before .before .field .ensures .0 ∙ ap (field 4 8) first) i)
+    ((c .before .before .before .before .before .before .before .field2 .ensures .0 ∙ ap (field 9 13) first) i)
+    ((c .before .before .before .before .before .field3 .ensures .0 ∙ ap (field 14 19) first) i)
+    ((c .before .before .before .field4 .ensures .0 ∙ ap (field 20 39) first) i)
+    ((c .before .field5 .ensures .0 ∙ ap (field 114 114) first) i))
 
 pub judge-items-spec : {M : Type 1} → statement M
 judge-items-spec =

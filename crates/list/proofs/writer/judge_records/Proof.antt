@@ -170,7 +170,7 @@ loop-again c =
     let number : l .loop .dispositions + opened (kindAt list i) ≡ c .before .before .before .before .before .before .before .before .before .before .counted .result = sym (c .before .before .before .before .before .before .before .before .before .before .counted .ensures ∙ ap (λ (k : Kind). l .loop .dispositions + opened k) (t .kind-so)) in
     let meant : cond (heads (kindAt list i)) (itemAt list i .body) (l .loop .header .now) ≡ c .header-behind .result .now = sym (c .header-behind .ensures ∙ (λ j. cond (heads (t .kind-so j)) (t .body-so j) (l .loop .header .now))) in
     let company : latestOf (kindAt list i) (l .loop .company .now) (carriedAt R14 92 96 (itemAt list i .body)) ≡ c .before .before .latest-company .result .now =
-    sym (c .before .before .latest-company .ensures ∙ ap (latestOf (b .before .kind-of .result) (l .loop .company .now)) (c .before .before .before .field .ensures) ∙ (λ j. latestOf (t .kind-so j) (l .loop .company .now) (field 37 41 (t .body-so j)))) in
+    sym (c .before .before .latest-company .ensures .0 ∙ ap (latestOf (b .before .kind-of .result) (l .loop .company .now)) (c .before .before .before .field .ensures .0) ∙ (λ j. latestOf (t .kind-so j) (l .loop .company .now) (field 37 41 (t .body-so j)))) in
     (omega (arith, t .ends), l .loop .inv .1, subst (λ (A : Type 0). A) (λ j. JudgingAt (header-of l) list (end j) (sym (add-one (l .loop .n)) j) (number j) (meant j) (sym (c .before .next .ensures) j) (company j)) on)
 
 close-requires : tie.Need-close-requires Inv-loop μ-loop

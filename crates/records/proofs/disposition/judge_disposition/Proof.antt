@@ -128,7 +128,7 @@ abbrev past-53 : tie.Else3 → Reached
 past-53 c = pass (past-48 (c .before .before)) (sym (c .before .blank-or-digits .ensures) ∙ not-false _ (c .if3 .left))
 
 returns-8 : tie.Need-returns-8
-returns-8 c = stop (past-53 (c .before .before .before)) (sym (c .before .agreeing .ensures ∙ ap (agrees _) (c .before .before .field .ensures)) ∙ not-true _ (c .if4 .taken))
+returns-8 c = stop (past-53 (c .before .before .before)) (sym (c .before .agreeing .ensures ∙ ap (agrees _) (c .before .before .field .ensures .0)) ∙ not-true _ (c .if4 .taken))
 
 slice-aggregate-listed : tie.Need-slice-aggregate-listed
 slice-aggregate-listed c = search needs
@@ -137,7 +137,7 @@ listed-requires : tie.Need-listed-requires
 listed-requires c κs = fits 97 97 _ (c .before .before .before .before .before .before .before .before .before .before .before .before .before .before .before .before .before .before .before .before .before .before .before .before .before .before .before .before .pre) (omega arith) (omega arith) (omega arith) (omega arith)
 
 abbrev past-92 : tie.Else4 → Reached
-past-92 c = pass (past-53 (c .before .before .before)) (sym (c .before .agreeing .ensures ∙ ap (agrees _) (c .before .before .field .ensures)) ∙ not-false _ (c .if4 .left))
+past-92 c = pass (past-53 (c .before .before .before)) (sym (c .before .agreeing .ensures ∙ ap (agrees _) (c .before .before .field .ensures .0)) ∙ not-false _ (c .if4 .left))
 
 returns-9 : tie.Need-returns-9
 returns-9 c = stop (past-92 (c .before .before .before)) (sym (c .before .listed .ensures) ∙ not-true _ (c .if5 .taken))

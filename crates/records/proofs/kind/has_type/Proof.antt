@@ -17,7 +17,7 @@ equal-requires : tie.Need-equal-requires
 equal-requires c κs = search needs
 
 returns : tie.Need-returns
-returns c = c .equal .ensures ∙ cc (c .before .before .field .ensures, c .before .before .before .type-of .ensures)
+returns c = c .equal .ensures ∙ cc (c .before .before .field .ensures .0, c .before .before .before .type-of .ensures)
 
 pub has-type-spec : {M : Type 1} → statement M
 has-type-spec =

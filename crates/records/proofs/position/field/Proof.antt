@@ -1,10 +1,14 @@
 -- `records::field` meets its contract. Assumes nothing.
-use Prim.Native.Nat.{_-_, _≤_}
-use mathlib.Core.Path.{_≡_, sym, _∙_}
+use Prim.Native.Nat.{ℕ, _+_, _-_, _≤_, _<_}
+use mathlib.Core.Bool.{and-false}
+use mathlib.Core.List.{List}
+use mathlib.Core.Path.{_≡_, refl, sym, _∙_, ap}
 use native.Mathlib.Omega.{arith}
 use lib.ListN.{length, drop, length-drop, drop-of-length-le}
 use lib.Seq.{take-nil, take-all}
 use borrow.Author.Needs.{needs}
+use borrow.Author.Tests.{le-ltb, lt-ltb}
+use Rattle.records.specs.Field.{fieldStart}
 use Rattle.records.proofs.position.field.Statement.{statement}
 use Rattle.records.proofs.position.field.Tie as tie
 
@@ -24,7 +28,8 @@ returns : tie.Need-returns
 returns c =
     let at = c .before .before in
     let none : at .before .before .args .last - (at .before .before .args .first - 1) ≡ 0 = omega (arith, at .before2 .ensures) in
-    rw none
+    let from : at .before .before .args .last ≤ at .before .before .args .first - 1 = omega (arith, at .before2 .ensures) in
+    (rw none, (refl, rw (le-ltb _ _ from)))
 
 sub-result-2 : tie.Need-sub-result-2
 sub-result-2 c = search needs
@@ -39,7 +44,14 @@ returns-2 : tie.Need-returns-2
 returns-2 c =
     let at = c .before .before .before in
     let past : length (at .before .before .args .rec .now) ≤ at .before .before .args .first - 1 = omega (arith, at .before2 .ensures) in
-    rw (drop-of-length-le _ past, take-nil)
+    (rw (drop-of-length-le _ past, take-nil), (refl, rw (le-ltb _ _ past, and-false)))
+
+-- a field that has bytes starts at its first position
+starts : (first last from : ℕ) (rec : List ℕ) → from ≡ first - 1 → from < last → from < length rec → from ≡ fieldStart first last rec
+starts first last from rec e some within =
+    let some : first - 1 < last = omega arith in
+    let within : first - 1 < length rec = omega arith in
+    e ∙ rw (lt-ltb _ _ some, lt-ltb _ _ within)
 
 sub-result-3 : tie.Need-sub-result-3
 sub-result-3 c = search needs
@@ -53,11 +65,12 @@ part-result-end-3 c = search needs
 returns-3 : tie.Need-returns-3
 returns-3 c =
     let at = c .before .before .before .before in
+    let lent = at .before .before .args in
     let rec = at .before .before .args .rec .now in
     let from = at .before2 .result in
     let short : length (drop from rec) ≤ at .before .before .args .last - from = omega (arith, length-drop from rec) in
     let whole : length (drop from rec) ≤ length rec - from = omega (arith, length-drop from rec) in
-    rw (← at .before2 .ensures) (take-all _ _ whole ∙ sym (take-all _ _ short))
+    (rw (← at .before2 .ensures) (take-all _ _ whole ∙ sym (take-all _ _ short)), (refl, ap (λ (n : ℕ). n + lent .rec .ptr .1) (starts (lent .first) (lent .last) (at .before2 .result) (lent .rec .now) (at .before2 .ensures) (omega arith) (omega arith))))
 
 sub-result-4 : tie.Need-sub-result-4
 sub-result-4 c = search needs
@@ -71,7 +84,8 @@ part-result-end-4 c = search needs
 returns-4 : tie.Need-returns-4
 returns-4 c =
     let at = c .before .before .before .before in
-    rw (at .before2 .ensures)
+    let lent = at .before .before .args in
+    (rw (at .before2 .ensures), (refl, ap (λ (n : ℕ). n + lent .rec .ptr .1) (starts (lent .first) (lent .last) (at .before2 .result) (lent .rec .now) (at .before2 .ensures) (omega arith) (omega arith))))
 
 pub field-spec : {M : Type 1} → statement M
 field-spec =

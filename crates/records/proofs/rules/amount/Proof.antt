@@ -16,7 +16,7 @@ read-amount-requires : tie.Need-read-amount-requires
 read-amount-requires c κs = search needs
 
 returns : tie.Need-returns
-returns c = c .read-amount .ensures ∙ ap amountField (c .before .field .ensures) ∙ field-amount _ _ (c .before .before .before .pre)
+returns c = c .read-amount .ensures ∙ ap amountField (c .before .field .ensures .0) ∙ field-amount _ _ (c .before .before .before .pre)
 
 pub amount-spec : {M : Type 1} → statement M
 amount-spec = tie.close (tie.spec add-field field-requires read-amount-requires returns)

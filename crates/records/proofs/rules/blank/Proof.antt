@@ -10,7 +10,7 @@ all-blank-requires : tie.Need-all-blank-requires
 all-blank-requires c κs = search needs
 
 returns : tie.Need-returns
-returns c = rw (← c .before .field .ensures) (c .all-blank .ensures)
+returns c = rw (← c .before .field .ensures .0) (c .all-blank .ensures)
 
 pub blank-spec : {M : Type 1} → statement M
 blank-spec = tie.close (tie.spec field-requires all-blank-requires returns)

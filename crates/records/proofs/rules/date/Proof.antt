@@ -16,7 +16,7 @@ read-date-requires : tie.Need-read-date-requires
 read-date-requires c κs = search needs
 
 returns : tie.Need-returns
-returns c = c .read-date .ensures ∙ ap dateField (c .before .field .ensures) ∙ field-date _ _ (c .before .before .before .pre)
+returns c = c .read-date .ensures ∙ ap dateField (c .before .field .ensures .0) ∙ field-date _ _ (c .before .before .before .pre)
 
 pub date-spec : {M : Type 1} → statement M
 date-spec = tie.close (tie.spec add-field field-requires read-date-requires returns)

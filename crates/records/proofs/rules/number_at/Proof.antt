@@ -13,7 +13,7 @@ read-digits-requires : tie.Need-read-digits-requires
 read-digits-requires c κs = search needs
 
 returns : tie.Need-returns
-returns c = c .read-digits .ensures ∙ ap digitField (c .before .field .ensures) ∙ field-digits _ _ _ (c .before .before .before .pre)
+returns c = c .read-digits .ensures ∙ ap digitField (c .before .field .ensures .0) ∙ field-digits _ _ _ (c .before .before .before .pre)
 
 pub number-at-spec : {M : Type 1} → statement M
 number-at-spec = tie.close (tie.spec field-requires read-digits-requires returns)

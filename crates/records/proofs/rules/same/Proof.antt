@@ -10,7 +10,7 @@ equal-requires : tie.Need-equal-requires
 equal-requires c κs = search needs
 
 returns : tie.Need-returns
-returns c = rw (← c .before .field .ensures) (c .equal .ensures)
+returns c = rw (← c .before .field .ensures .0) (c .equal .ensures)
 
 pub same-spec : {M : Type 1} → statement M
 same-spec = tie.close (tie.spec field-requires equal-requires returns)
