@@ -1,16 +1,13 @@
 -- Each call is refused by one of the numbers that document 01 gives it. Assumes nothing.
-use Prim.Native.Nat.{ℕ, _+_, _≤_, _<_}
+use Prim.Native.Nat.{ℕ, _+_, _<_}
 use mathlib.Core.Bool.{Bool, true, false, cond, _&&_, _||_, or-true, true≢false}
-use mathlib.Core.List.{List, [], _∷_, _++_, flatten}
+use mathlib.Core.List.{List, [], _∷_, _++_}
 use mathlib.Core.Logic.{_↔_, _⊎_, inl, inr}
 use mathlib.Core.Path.{_≡_, refl, sym, _∙_, ap, subst}
-use native.Mathlib.Omega.{arith}
 use lib.Dec.{eqb}
 use lib.ListN.{length}
 use borrow.Author.Tests.{eqb-true, eq-eqb, ne-eqb}
-use Rattle.sequences.specs.All.{All}
 use Rattle.sequences.specs.Every.{every}
-use Rattle.sequences.proofs.All.{all-at}
 use Rattle.fields.specs.Calendar.{Gregorian}
 use Rattle.fields.specs.Date.{dayOf}
 use Rattle.fields.specs.Laws.{SixDigits}
@@ -18,43 +15,31 @@ use Rattle.fields.proofs.DigitField.{field-refused, amount-refused}
 use Rattle.fields.proofs.Gregorian.{date-refused}
 use Rattle.records.specs.Checks.{isListed, checks}
 use Rattle.records.specs.Context.{Header, Context}
-use Rattle.records.specs.Field.{field}
-use Rattle.records.specs.Finding.{Check, check, right, firstFault}
+use Rattle.records.specs.Finding.{Check, check, right, firstFault, FirstBroken}
 use Rattle.records.specs.Finding.{refused as Finding·refused}
 use Rattle.records.specs.Judge.{asked}
 use Rattle.records.specs.Judge.{judge as Record·judge}
-use Rattle.records.specs.Kinds.{typeOf, opened}
 use Rattle.records.specs.declared.kind.Kind.{Kind}
-use Rattle.records.specs.declared.kind.Kind.the-variants.{Ef}
-use Rattle.records.proofs.ByKind.{types-differ}
 use Rattle.records.proofs.EachKind.{each-kind}
 use Rattle.records.proofs.FirstFault.{right-not-refused}
 use Rattle.records.proofs.Numbers.{numbersOf, refused-by}
 use Rattle.flow.specs.Find.{IsNumber, find}
 use Rattle.flow.specs.Find.{refused as Located·refused}
 use Rattle.flow.specs.Judge.{judge}
-use Rattle.flow.specs.Records.{recordsOf}
 use Rattle.flow.specs.Steps.{judgeRecord}
 use Rattle.flow.specs.Verdict.{accepted, refused}
 use Rattle.flow.specs.declared.walk.Walk.{Walk}
-use Rattle.flow.proofs.Cut.{joined-records}
 use Rattle.flow.proofs.Dispositions.{find-refused}
 use Rattle.flow.proofs.Sought.{seek-exact}
 use Rattle.grammar.specs.Fault.{Fault, bad-byte, wrong-type, broken, FirstFault, wrong-length, in-record, still-due}
 use Rattle.grammar.proofs.AtPlace.{FaultAt, place-fault-exact}
 use Rattle.grammar.proofs.FirstFault.{first-fault-exact}
-use Rattle.list.specs.Encode.{headerBehind, encodeItem, encodeFrom, recordsFor}
-use Rattle.list.specs.Items.{Item, Proper}
-use Rattle.list.specs.Laws.{WriteFault, no-item, too-many, no-room, no-trailer, too-much}
-use Rattle.list.specs.Laws.{in-record as Write·in-record}
+use Rattle.list.specs.Laws.{WriteFault}
 use Rattle.list.specs.ReadBack.{listOf}
 use Rattle.list.specs.Table.{hasItem}
 use Rattle.list.specs.Write.{judgeList}
-use Rattle.list.proofs.AllRecords.{encoded-whole, encoded-count}
 use Rattle.list.proofs.Answered.{read-back-refused}
-use Rattle.list.proofs.DispositionNumbers.{numbers-supplied}
-use Rattle.list.proofs.ListItems.{items-exact}
-use Rattle.list.proofs.OneRecord.{encoded-type}
+use Rattle.list.proofs.WriteNumbers.{numbers-supplied, write-refused-by}
 use Rattle.list.proofs.WriteRefused.{write-refused}
 use Rattle.amend.specs.Laws.{ChangeFault, not-read, no-disposition, amount-too-large, total-too-large, WithdrawFault, only-one}
 use Rattle.amend.proofs.Answered.{change-refused, withdraw-refused}
@@ -85,16 +70,9 @@ unfolding isListed
 broken-number [] others n p = rw (eq-eqb n n refl)
 broken-number (check holds m q ∷ held) others n p = rw (broken-number held others n p, or-true)
 
--- a record's fault: 2, 3, or a number of the row of its kind
-fault-number :
-    (ns : List ℕ) {may : Kind → Type 0} {asked : Kind → Context} {rec : List ℕ} {n p : ℕ}
-    → areAmong ns (2 ∷ 3 ∷ []) ≡ true → ((k : Kind) → field 2 3 rec ≡ typeOf k → (m : ℕ) → OneOf (numbersOf (checks k (asked k) rec)) m → OneOf ns m)
-    → Fault may asked rec n p → OneOf ns n
-unfolding isListed
-fault-number ns all rows (bad-byte bs b cs same before bad) = among ns (2 ∷ 3 ∷ []) 2 all refl
-fault-number ns all rows (wrong-type printable none) = among ns (2 ∷ 3 ∷ []) 3 all refl
-fault-number ns all rows (broken k n p printable type permitted (held, others, same, h)) =
-    rows k type n (subst (λ (cs : List Check). OneOf (numbersOf cs) n) (sym same) (broken-number held others n p))
+-- so is the number of the first check of a row that fails
+row-broken : (ctx : Context) (rec : List ℕ) (k : Kind) (n p : ℕ) → FirstBroken (checks k ctx rec) n p → OneOf (numbersOf (checks k ctx rec)) n
+row-broken ctx rec k n p (held, others, same, h) = subst (λ (cs : List Check). OneOf (numbersOf cs) n) (sym same) (broken-number held others n p)
 
 -- one record: the numbers of every row, and 1 for its length
 row-number : (ctx : Context) (rec : List ℕ) (k : Kind) (n : ℕ) → OneOf (numbersOf (checks k ctx rec)) n → OneOf recordNumbers n
@@ -115,10 +93,12 @@ record-judging k ctx rec n p = by (eqb (length rec) 120)
     by true e = told (refused-by (checks k ctx rec) (right k (asked k rec)) n p e)
     by false e = let one : 1 ≡ n = cc in subst (OneOf recordNumbers) one refl
 
--- at its place
+-- at its place: 2, 3, or a number of the row of its kind
 place-number : {may : Kind → Type 0} {asked : Kind → Context} {rec : List ℕ} {n p : ℕ} → Fault may asked rec n p → OneOf placeNumbers n
 unfolding every isListed
-place-number {rec = rec} fault = fault-number placeNumbers refl (λ k type m h. among placeNumbers recordNumbers m refl (row-number _ rec k m h)) fault
+place-number (bad-byte bs b cs same before bad) = refl
+place-number (wrong-type printable none) = refl
+place-number {rec = rec} (broken k n p printable type permitted first) = among placeNumbers recordNumbers n refl (row-number _ rec k n (row-broken _ rec k n p first))
 
 walking : (header : Header) (w : Walk) (company : List ℕ) (i : ℕ) (rec : List ℕ) (n p : ℕ) → judgeRecord header w company i rec ≡ Finding·refused n p → OneOf placeNumbers n
 unfolding isListed
@@ -157,45 +137,16 @@ finding f k n r p e = by (find-refused f k n r p .0 e)
 abbrev rowNumbers : List ℕ
 rowNumbers = 9 ∷ writingNumbers
 
-writing-row : (ctx : Context) (rec : List ℕ) (k : Kind) → ¬ (k ≡ Ef) → areAmong rowNumbers (numbersOf (checks k ctx rec)) ≡ true
+writing-row : (ctx : Context) (rec : List ℕ) (k : Kind) → hasItem k ≡ true → areAmong rowNumbers (numbersOf (checks k ctx rec)) ≡ true
 unfolding every isListed checks
 writing-row ctx rec =
-    each-kind (λ (k : Kind). ¬ (k ≡ Ef) → areAmong rowNumbers (numbersOf (checks k ctx rec)) ≡ true)
-    (λ h. refl, (λ h. refl, (λ h. refl, (λ h. refl, (λ h. refl, (λ h. refl, (λ h. refl, (λ h. refl, (λ h. refl, (λ h. refl, (λ h. absurd (h refl), tt)))))))))))
-
-no-trailers : (n : ℕ) (header : List ℕ) (is : List Item) → All Proper is → All (λ (rec : List ℕ). ¬ (field 2 3 rec ≡ typeOf Ef)) (encodeFrom n header is)
-unfolding encodeFrom
-no-trailers n header [] proper = tt
-no-trailers n header (it ∷ is) proper = (other, no-trailers (n + opened (it .kind)) (headerBehind header it) is (proper .1))
-  where
-    other : ¬ (field 2 3 (encodeItem (n + opened (it .kind)) header it) ≡ typeOf Ef)
-    other e =
-        let same : it .kind ≡ Ef = types-differ (it .kind) Ef (sym (encoded-type _ header it (proper .0)) ∙ e) in
-        true≢false (sym (proper .0 .listed) ∙ ap hasItem same)
-
-module _ (is : List Item) (proper : All Proper is) where
-  abbrev own : recordsOf (flatten (recordsFor is)) ≡ recordsFor is
-  own = joined-records (recordsFor is) (encoded-whole 0 [] is proper)
-
-  encoded-number : {n r p : ℕ} → FirstFault (flatten (recordsFor is)) n r p → 1 ≤ r → r ≤ length is → OneOf rowNumbers n
-  unfolding every isListed
-  encoded-number (wrong-length wrong) some within = absurd (omega arith)
-  encoded-number (in-record before rec behind n p sized same each fault) some within =
-      let other = all-at (λ (l : List ℕ). ¬ (field 2 3 l ≡ typeOf Ef)) before rec behind (subst (All (λ (l : List ℕ). ¬ (field 2 3 l ≡ typeOf Ef))) (sym own ∙ same) (no-trailers 0 [] is proper)) in
-      fault-number rowNumbers refl (λ k type m h. among rowNumbers (numbersOf (checks k _ rec)) m (writing-row _ rec k (λ e. other (type ∙ ap typeOf e))) h) fault
-  encoded-number (still-due sized each none) some within =
-      let count : length (recordsOf (flatten (recordsFor is))) ≡ length is = ap (λ (l : List (List ℕ)). length l) own ∙ encoded-count 0 [] is in
-      absurd (omega arith)
+    each-kind (λ (k : Kind). hasItem k ≡ true → areAmong rowNumbers (numbersOf (checks k ctx rec)) ≡ true)
+    (λ h. refl, (λ h. refl, (λ h. refl, (λ h. refl, (λ h. refl, (λ h. refl, (λ h. refl, (λ h. refl, (λ h. refl, (λ h. refl, (λ h. absurd (true≢false (sym h)), tt)))))))))))
 
 write-number : {list : List ℕ} {room n r p : ℕ} → WriteFault list room n r p → OneOf rowNumbers n
 unfolding isListed
-write-number (no-item n at) = refl
-write-number (too-many is said many) = refl
-write-number (no-room is said few short) = refl
-write-number {list} (Write·in-record is n r p fits e some within) =
-    encoded-number is (items-exact list is .0 (fits .said) .1) (first-fault-exact (flatten (recordsFor is)) n r p .0 e) some within
-write-number (no-trailer is fits each none) = refl
-write-number (too-much is fits each follows much) = refl
+write-number =
+    write-refused-by (OneOf rowNumbers) refl refl (λ k ctx rec so n p first. among rowNumbers (numbersOf (checks k ctx rec)) n (writing-row ctx rec k (so .listed)) (row-broken ctx rec k n p first)) refl refl refl refl
 
 writing : (list : List ℕ) (room n r p : ℕ) → judgeList list room ≡ refused n r p → OneOf writingNumbers n
 writing list room n r p e = other-than 9 writingNumbers n (λ nine. numbers-supplied list room r p (e ∙ ap (λ (m : ℕ). refused m r p) nine)) (write-number (write-refused list room n r p .0 e))

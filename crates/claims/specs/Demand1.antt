@@ -118,6 +118,6 @@ pub record Demand1 : Type 2 where
   pub written-none : WriteLeaves
   pub read-back-none : ReadBackLeaves
   pub amended-none : RefusedUntouched
-  -- so it is through the C interface, whose entries tell the whole answer
+  -- so it is through the C interface, whose entries tell the whole answer (of an accepted date no day)
   pub returned-none : RefusedLeaves
   pub replies-tell : RepliesTell

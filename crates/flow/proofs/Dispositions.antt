@@ -12,9 +12,9 @@ use lib.Dec.{leb, eqb}
 use lib.ListN.{length, take, drop, getD}
 use borrow.Author.Tests.{leb-true, le-leb}
 use Rattle.sequences.specs.Groups.{lead, groups}
+use Rattle.sequences.specs.Part.{part}
 use Rattle.sequences.proofs.DropLast.{dropLast-length, dropLast-getD}
 use Rattle.sequences.proofs.Groups.{lead-next, lead-end, startOf, Group, group-at, start-next, start-within}
-use Rattle.sequences.proofs.Part.{part-length}
 use Rattle.fields.specs.Digits.{isDigits}
 use Rattle.records.specs.Checks.{checks}
 use Rattle.records.specs.Context.{Header, Context, context, headerOf}
@@ -342,8 +342,8 @@ found-within f k e =
 pub part-placed : PartPlaced
 part-placed f k = (found, λ n r p e. ap offsetAt e)
   where
-    found : (first m a : ℕ) → find f k ≡ standing first m a → (offsetOf f k ≡ 120 * (first - 1)) × (length (partOf f k) ≡ 120 * m) × (offsetOf f k + 120 * m + 120 ≤ length f)
+    found : (first m a : ℕ) → find f k ≡ standing first m a → (offsetOf f k ≡ 120 * (first - 1)) × (partOf f k ≡ part (offsetOf f k) (120 * m) f) × (offsetOf f k + 120 * m + 120 ≤ length f)
     found first m a e =
         let within = found-within f k e in
         let start : offsetOf f k ≡ 120 * (first - 1) = ap offsetAt e in
-        (start, ap (λ (l : Located). length (bytesAt l f)) e ∙ part-length (120 * (first - 1)) (120 * m) f (omega arith), omega arith)
+        (start, ap (λ (l : Located). bytesAt l f) e ∙ ap (λ (n : ℕ). part n (120 * m) f) (sym start), omega arith)

@@ -5,6 +5,7 @@ use mathlib.Core.List.{List}
 use mathlib.Core.Logic.{_↔_, _⊎_}
 use mathlib.Core.Path.{_≡_}
 use lib.ListN.{length}
+use Rattle.sequences.specs.Part.{part}
 use Rattle.flow.specs.Find.{standing, located, IsNumber, find, partOf, offsetOf}
 use Rattle.flow.specs.Find.{refused as Located·refused}
 use Rattle.flow.specs.Judge.{judge}
@@ -57,10 +58,10 @@ SeekExact =
     → ((d c n first m a : ℕ) → (seek f k ≡ target d c n first m a) ↔ ((judge f ≡ accepted d c n) × (find f k ≡ standing first m a)))
     × ((n r p : ℕ) → (seek f k ≡ Target·refused n r p) ↔ (find f k ≡ Located·refused n r p))
 
--- the part of a disposition that is found starts at its first record, has the bytes of its records and ends before the trailer; that of a
--- refusal is at the flow's start
+-- the part of a disposition that is found is the flow's bytes from its first record on, as many as its records have, and ends before the
+-- trailer; that of a refusal is at the flow's start
 abbrev pub PartPlaced : Type 0
 PartPlaced =
     (f : List ℕ) (k : ℕ)
-    → ((first m a : ℕ) → find f k ≡ standing first m a → (offsetOf f k ≡ 120 * (first - 1)) × (length (partOf f k) ≡ 120 * m) × (offsetOf f k + 120 * m + 120 ≤ length f))
+    → ((first m a : ℕ) → find f k ≡ standing first m a → (offsetOf f k ≡ 120 * (first - 1)) × (partOf f k ≡ part (offsetOf f k) (120 * m) f) × (offsetOf f k + 120 * m + 120 ≤ length f))
     × ((n r p : ℕ) → find f k ≡ Located·refused n r p → offsetOf f k ≡ 0)

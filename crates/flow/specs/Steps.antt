@@ -32,10 +32,11 @@ counted w k = w .dispositions + opened k
 abbrev pub step : Walk → Kind → ℕ → Walk
 step w k c = record { place = placeAfter (w .place .further) k; dispositions = counted w k; cents = w .cents + c }
 
--- the latest company code present, behind a record of the kind that has the code: which of two it is, its bytes, and behind the record itself
+-- of two values the one that goes with the latest company code present: `new` with the code of a record of the kind, `old` with the one before
 abbrev pub latestBy : {A : Type 0} → Kind → List ℕ → A → A → A
-latestBy k code company next = cond (opens k && isPresent code) next company
+latestBy k code old new = cond (opens k && isPresent code) new old
 
+-- the latest company code itself, behind a record of the kind that has the code; and behind the record
 abbrev pub latestOf : Kind → List ℕ → List ℕ → List ℕ
 latestOf k company code = latestBy k code company code
 

@@ -116,8 +116,8 @@ impl Walk {
         }
     }
 
-    // The same behind a right record that opens no disposition: the counts stay, and the fast path has
-    // none to compare with their limits.
+    // The same behind a right record that opens no disposition: the counts stay, so that none need be
+    // compared with its limit.
     pub(crate) fn pass(self, right: Record) -> Walk
         requires { ⌜ opens (right .kind) ≡ false ⌝ }
         requires { ⌜ right .cents ≡ 0 ⌝ }

@@ -2,7 +2,6 @@ pub mod AllRecords
 pub mod Answered
 pub mod Carried
 pub mod Covering
-pub mod DispositionNumbers
 pub mod Examples
 pub mod Filling
 pub mod Gathering
@@ -20,5 +19,6 @@ pub mod Rewritten
 pub mod Rows
 pub mod TableSpans
 pub mod Trailer
+pub mod WriteNumbers
 pub mod WriteRefused
 pub mod Written

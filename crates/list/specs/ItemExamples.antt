@@ -1,6 +1,6 @@
 -- One item of each kind and the record that it encodes, written out from document 01's table of kinds ("Our request list"). No check of a
--- record names most of the positions that an item carries, so that no law pins them: here the bytes of a body all differ, as far as there are
--- enough, and each has its place. Assumes nothing.
+-- record names most of the positions that an item carries, so that no law pins them: here the bytes of a body all differ as far as there are
+-- enough, those that come again stand backwards, and each has its place. Assumes nothing.
 use Prim.Native.Nat.{ℕ}
 use Prim.Native.String.{String}
 use mathlib.Core.List.{List, [], _∷_, map}
@@ -10,9 +10,9 @@ use Rattle.list.specs.Encode.{encodeItem, encodeTrailer}
 use Rattle.list.specs.Items.{listBytes, itemsIn}
 use Rattle.list.specs.ReadBack.{itemOf}
 
--- the body of the header meant
+-- the body of the header meant, which is not that of the header's own example
 abbrev pub headerBody : List ℕ
-headerBody = text "!#$%&'()*+,-./0123456789:;<=>?@ABCDEFGHIJKLMNOPQR"
+headerBody = text "TUVWXYZ[]^_`abcdefghijklmnopqrstuvwxyz{|}~!#$%&'("
 
 -- an item encodes the record, with number 1234567, and is what the record gives back
 abbrev pub Carries : String → String → Type 0
@@ -26,35 +26,35 @@ pub record ItemExamples : Type 0 where
   pub disposition :
       Carries
       "D)*+,-./0123456789:;<=>?@ABCDEFGHIJKLMNOPQRSTUVWXYZ[]^_`abc"
-      " 141234567            )*+,-.07000/0123456789:;-'()*+<=>?@ABCDEFGHIJKL                      MNOPQRSTUVWXYZ[]^_`abc      E"
+      " 141234567            )*+,-.07000/0123456789:;-YZ[]^<=>?@ABCDEFGHIJKL                      MNOPQRSTUVWXYZ[]^_`abc      E"
   pub coordinates :
       Carries
       "S0123456789:;<=>?@ABCDEFGHIJ"
       " 1612345670123456789:;<=>?@ABCDEFGHIJ                                                                                   "
   pub creditor :
       Carries
-      "C789:;<=>?@ABCDEFGHIJKLMNOPQRSTUVWXYZ[]^_`abcdefghijklmnopqrstuvwxyz{|}~!#$%&'()*+,-./0123456789:"
-      " 201234567789:;<=>?@ABCDEFGHIJKLMNOPQRSTUVWXYZ[]^_`abcdefghijklmnopqrstuvwxyz{|}~!#$%&'()*+,-./0123456789:              "
+      "C789:;<=>?@ABCDEFGHIJKLMNOPQRSTUVWXYZ[]^_`abcdefghijklmnopqrstuvwxyz{|}~!#$%&'()*+,-./0123456:987"
+      " 201234567789:;<=>?@ABCDEFGHIJKLMNOPQRSTUVWXYZ[]^_`abcdefghijklmnopqrstuvwxyz{|}~!#$%&'()*+,-./0123456:987              "
   pub debtor :
       Carries
       "B>?@ABCDEFGHIJKLMNOPQRSTUVWXYZ[]^_`abcdefghijklmnopqrstuvwxyz{|}~!#$%&'()*+,-"
       " 301234567>?@ABCDEFGHIJKLMNOPQRSTUVWXYZ[]^_`abcdefghijklmnopqrstuvwxyz{|}~!#$%&'()*+,-                                  "
   pub address :
       Carries
-      "AEFGHIJKLMNOPQRSTUVWXYZ[]^_`abcdefghijklmnopqrstuvwxyz{|}~!#$%&'()*+,-./0123456789:;<=>?@ABCDEFGHIJKLMNOPQRSTUV"
-      " 401234567EFGHIJKLMNOPQRSTUVWXYZ[]^_`abcdefghijklmnopqrstuvwxyz{|}~!#$%&'()*+,-./0123456789:;<=>?@ABCDEFGHIJKLMNOPQRSTUV"
+      "AEFGHIJKLMNOPQRSTUVWXYZ[]^_`abcdefghijklmnopqrstuvwxyz{|}~!#$%&'()*+,-./0123456789:;<=>?@ABCDVUTSRQPONMLKJIHGFE"
+      " 401234567EFGHIJKLMNOPQRSTUVWXYZ[]^_`abcdefghijklmnopqrstuvwxyz{|}~!#$%&'()*+,-./0123456789:;<=>?@ABCDVUTSRQPONMLKJIHGFE"
   pub reason :
       Carries
-      "RLMNOPQRSTUVWXYZ[]^_`abcdefghijklmnopqrstuvwxyz{|}~!#$%&'()*+,-./0123456789:;<=>?@ABCDEFGHIJKLMNOPQRSTUVWXYZ[]^"
-      " 501234567LMNOPQRSTUVWXYZ[]^_`abcdefghijklmnopqrstuvwxyz{|}~!#$%&'()*+,-./0123456789:;<=>?@ABCDEFGHIJKLMNOPQRSTUVWXYZ[]^"
+      "RLMNOPQRSTUVWXYZ[]^_`abcdefghijklmnopqrstuvwxyz{|}~!#$%&'()*+,-./0123456789:;<=>?@ABCDEFGHIJK^][ZYXWVUTSRQPONML"
+      " 501234567LMNOPQRSTUVWXYZ[]^_`abcdefghijklmnopqrstuvwxyz{|}~!#$%&'()*+,-./0123456789:;<=>?@ABCDEFGHIJK^][ZYXWVUTSRQPONML"
   pub further-reason :
       Carries
-      "XSTUVWXYZ[]^_`abcdefghijklmnopqrstuvwxyz{|}~!#$%&'()*+,-./0123456789:;<=>?@ABCDEFGHIJKLMNOPQRSTUVWXYZ[]^_`abcde"
-      " 591234567STUVWXYZ[]^_`abcdefghijklmnopqrstuvwxyz{|}~!#$%&'()*+,-./0123456789:;<=>?@ABCDEFGHIJKLMNOPQRSTUVWXYZ[]^_`abcde"
+      "XSTUVWXYZ[]^_`abcdefghijklmnopqrstuvwxyz{|}~!#$%&'()*+,-./0123456789:;<=>?@ABCDEFGHIJKLMNOPQRedcba`_^][ZYXWVUTS"
+      " 591234567STUVWXYZ[]^_`abcdefghijklmnopqrstuvwxyz{|}~!#$%&'()*+,-./0123456789:;<=>?@ABCDEFGHIJKLMNOPQRedcba`_^][ZYXWVUTS"
   pub creditor-data :
       Carries
-      "KZ[]^_`abcdefghijklmnopqrstuvwxyz{|}~!#$%&'()*+,-./0123456789:;<=>?@ABCDEFGHIJKLMNOPQRSTUVWXYZ[]^_`abcdefghijkl"
-      " 511234567Z[]^_`abcdefghijklmnopqrstuvwxyz{|}~!#$%&'()*+,-./0123456789:;<=>?@ABCDEFGHIJKLMNOPQRSTUVWXYZ[]^_`abcdefghijkl"
+      "KZ[]^_`abcdefghijklmnopqrstuvwxyz{|}~!#$%&'()*+,-./0123456789:;<=>?@ABCDEFGHIJKLMNOPQRSTUVWXYlkjihgfedcba`_^][Z"
+      " 511234567Z[]^_`abcdefghijklmnopqrstuvwxyz{|}~!#$%&'()*+,-./0123456789:;<=>?@ABCDEFGHIJKLMNOPQRSTUVWXYlkjihgfedcba`_^][Z"
   pub control :
       Carries
       "Zbcdefghijklmnopqrstuvwxyz{"
@@ -62,4 +62,4 @@ pub record ItemExamples : Type 0 where
   -- EF copies 4-45 of the header, of which 40-45 are not compared
   pub trailer :
       encodeTrailer headerBody 1234567 123456789012345 7654321
-      ≡ text " EF!#$%&'()*+,-./0123456789:;<=>?@ABCDEFGHIJK12345671234567890123450000000000000007654321                        E      "
+      ≡ text " EFTUVWXYZ[]^_`abcdefghijklmnopqrstuvwxyz{|}~12345671234567890123450000000000000007654321                        E      "

@@ -12,6 +12,19 @@ use Rattle.records.specs.Field.{fieldStart}
 use Rattle.records.proofs.position.field.Statement.{statement}
 use Rattle.records.proofs.position.field.Tie as tie
 
+-- where a field starts: without bytes at 0, and else at its first position
+no-positions : (first last : ℕ) (rec : List ℕ) → last ≤ first - 1 → 0 ≡ fieldStart first last rec
+no-positions first last rec none = rw (le-ltb _ _ none)
+
+past-the-end : (first last : ℕ) (rec : List ℕ) → length rec ≤ first - 1 → 0 ≡ fieldStart first last rec
+past-the-end first last rec past = rw (le-ltb _ _ past, and-false)
+
+starts : (first last from : ℕ) (rec : List ℕ) → from ≡ first - 1 → from < last → from < length rec → from ≡ fieldStart first last rec
+starts first last from rec e some within =
+    let some : first - 1 < last = omega arith in
+    let within : first - 1 < length rec = omega arith in
+    e ∙ rw (lt-ltb _ _ some, lt-ltb _ _ within)
+
 before-requires : tie.Need-before-requires
 before-requires c κs = search needs
 
@@ -29,7 +42,8 @@ returns c =
     let at = c .before .before in
     let none : at .before .before .args .last - (at .before .before .args .first - 1) ≡ 0 = omega (arith, at .before2 .ensures) in
     let from : at .before .before .args .last ≤ at .before .before .args .first - 1 = omega (arith, at .before2 .ensures) in
-    (rw none, (refl, rw (le-ltb _ _ from)))
+    let lent = at .before .before .args in
+    (rw none, (refl, ap (λ (n : ℕ). n + lent .rec .ptr .1) (no-positions (lent .first) (lent .last) (lent .rec .now) from)))
 
 sub-result-2 : tie.Need-sub-result-2
 sub-result-2 c = search needs
@@ -44,14 +58,8 @@ returns-2 : tie.Need-returns-2
 returns-2 c =
     let at = c .before .before .before in
     let past : length (at .before .before .args .rec .now) ≤ at .before .before .args .first - 1 = omega (arith, at .before2 .ensures) in
-    (rw (drop-of-length-le _ past, take-nil), (refl, rw (le-ltb _ _ past, and-false)))
-
--- a field that has bytes starts at its first position
-starts : (first last from : ℕ) (rec : List ℕ) → from ≡ first - 1 → from < last → from < length rec → from ≡ fieldStart first last rec
-starts first last from rec e some within =
-    let some : first - 1 < last = omega arith in
-    let within : first - 1 < length rec = omega arith in
-    e ∙ rw (lt-ltb _ _ some, lt-ltb _ _ within)
+    let lent = at .before .before .args in
+    (rw (drop-of-length-le _ past, take-nil), (refl, ap (λ (n : ℕ). n + lent .rec .ptr .1) (past-the-end (lent .first) (lent .last) (lent .rec .now) past)))
 
 sub-result-3 : tie.Need-sub-result-3
 sub-result-3 c = search needs
