@@ -1,8 +1,9 @@
 //! The command `mavdesk`: a clerk checks flows of payment requests, looks into them, amends and saves them.
 //!
-//! It is thin. Every judgement of a flow and every change of one is made by the proved library, through the
-//! bindings `mav`; this command reads files, shows what they hold, asks, and saves. What it shows of a flow
-//! is read from bytes that the library has accepted, and what it saves are bytes that the library has left.
+//! It is thin. Every change of a flow is made by the proved library, through the bindings `mav`, and every
+//! judgement but one: a file above the ceiling is not read, and `check` gives its number, 1, by itself. This
+//! command reads files, shows what they hold, asks, and saves. What it shows of a flow is read from bytes
+//! that the library has accepted, and what it saves are bytes that the library has left.
 
 #![forbid(unsafe_code)]
 
