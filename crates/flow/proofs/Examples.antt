@@ -33,4 +33,6 @@ examples =
       no-rent-3 = refl;
       none-in-empty = refl;
       second-part = refl;
+      second-offset = refl;
+      no-offset = refl;
     }

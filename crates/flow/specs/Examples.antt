@@ -4,7 +4,7 @@ use Prim.Native.String.{String}
 use mathlib.Core.List.{List, [], _∷_, _++_}
 use mathlib.Core.Path.{_≡_}
 use Rattle.sequences.specs.Text.{text}
-use Rattle.flow.specs.Find.{standing, find, partOf}
+use Rattle.flow.specs.Find.{standing, find, partOf, offsetOf}
 use Rattle.flow.specs.Find.{refused as Located·refused}
 use Rattle.flow.specs.Judge.{judge}
 use Rattle.flow.specs.Verdict.{accepted, refused}
@@ -77,3 +77,6 @@ pub record Examples : Type 0 where
   pub none-in-empty : find [] 1 ≡ Located·refused 1 0 0
   -- the part is the second rent's seven records
   pub second-part : partOf twoRents 2 ≡ flowOf second
+  -- it starts behind eight records; that of a refusal at the flow's start
+  pub second-offset : offsetOf twoRents 2 ≡ 960
+  pub no-offset : offsetOf twoRents 3 ≡ 0
