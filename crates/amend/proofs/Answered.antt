@@ -9,194 +9,202 @@ use native.Mathlib.Omega.{arith}
 use lib.Dec.{leb, ltb}
 use lib.ListN.{length}
 use borrow.Author.Tests.{leb-true, leb-false, ltb-true, ltb-false, le-leb, lt-leb}
-use Rattle.flow.specs.Find.{Located, standing, IsNumber, find}
-use Rattle.flow.specs.Find.{refused as Located·refused}
+use Rattle.flow.specs.Find.{IsNumber, find}
 use Rattle.flow.specs.Judge.{judge}
-use Rattle.flow.specs.Seek.{Target, target, seek}
-use Rattle.flow.specs.Seek.{refused as Target·refused}
-use Rattle.flow.specs.Verdict.{Verdict, accepted, refused}
-use Rattle.flow.proofs.Accepted.{accepted-not-refused}
+use Rattle.flow.specs.Seek.{target, seek}
+use Rattle.flow.specs.Verdict.{Verdict, accepted, refused, ofCall}
+use Rattle.flow.specs.declared.answer.Refusal.{Refusal}
+use Rattle.flow.specs.declared.answer.Totals.{Totals}
+use Rattle.flow.specs.declared.location.Stand.{Stand}
+use Rattle.flow.specs.declared.location.Target.{Target}
+use Rattle.flow.proofs.Accepted.{accepted-not-refused, accepted-same, refused-same}
 use Rattle.flow.proofs.Dispositions.{find-refused, find-so, found-stands}
 use Rattle.flow.proofs.Sought.{read-found, not-found}
 use Rattle.flow.proofs.Sought.{not-read as unread-so}
 use Rattle.grammar.specs.Grammar.{amountOf, Grammar}
 use Rattle.amend.specs.Amended.{Amended, unchanged}
-use Rattle.amend.specs.Change.{changed, changeAt, changeFound, change}
+use Rattle.amend.specs.Change.{totalsChanged, changed, changeAt, changeFound, change}
 use Rattle.amend.specs.Laws.{ChangeFault, not-read, no-disposition, amount-too-large, total-too-large, ChangeRefused, WithdrawFault, only-one, WithdrawRefused, Untouched, RefusedUntouched}
-use Rattle.amend.specs.Withdraw.{recordsLeft, withdrawn, withdrawAt, withdrawFound, withdraw}
+use Rattle.amend.specs.Withdraw.{totalsLeft, recordsLeft, withdrawn, withdrawAt, withdrawFound, withdraw}
 use Rattle.amend.proofs.Among.{Among, restOf, withdrawn-left, changedOf, changed-left}
 use Rattle.amend.proofs.Left.{leftWith, rest-count, rest-cents, rest-records, rest-right, changed-count, changed-cents, changed-records, changed-right}
 
 -- what was sought: the flow is not read, or it has no such disposition, or it stands there
-pub data Seeking (f : List ℕ) (k : ℕ) : Target → Type 0 where
-  unread : {e r p : ℕ} → judge f ≡ refused e r p → Seeking f k (Target·refused e r p)
-  none : {d c n : ℕ} → judge f ≡ accepted d c n → ¬ IsNumber k d → Seeking f k (Target·refused 15 0 0)
-  stands : {d c n first m a : ℕ} → judge f ≡ accepted d c n → find f k ≡ standing first m a → IsNumber k d → Seeking f k (target d c n first m a)
+pub data Seeking (f : List ℕ) (k : ℕ) : Verdict Target → Type 0 where
+  unread : {x : Refusal} → judge f ≡ refused x → Seeking f k (refused x)
+  none : {t : Totals} → judge f ≡ accepted t → ¬ IsNumber k (t .dispositions) → Seeking f k (refused (ofCall 15))
+  stands : {v : Target} → judge f ≡ accepted (v .totals) → find f k ≡ accepted (v .stand) → IsNumber k (v .totals .dispositions) → Seeking f k (accepted v)
 
 pub seeking : (f : List ℕ) (k : ℕ) → Seeking f k (seek f k)
 seeking f k = by (judge f) (find f k) refl refl
   where
-    by : (v : Verdict) (l : Located) → judge f ≡ v → find f k ≡ l → Seeking f k (seek f k)
-    by (refused e r p) l wrong found = subst (Seeking f k) (sym (unread-so f k wrong)) (unread wrong)
-    by (accepted d c n) (standing first m a) read found =
+    by : (v : Verdict Totals) (l : Verdict Stand) → judge f ≡ v → find f k ≡ l → Seeking f k (seek f k)
+    by (refused x) l wrong found = subst (Seeking f k) (sym (unread-so f k wrong)) (unread wrong)
+    by (accepted t) (accepted place) read found =
         let s = found-stands f k found .0 in
-        let some = s .some in
-        let within = s .within in
-        let same : accepted (s .dispositions) (s .cents) (s .records) ≡ accepted d c n = sym (s .read) ∙ read in
-        let count : s .dispositions ≡ d = cc in
-        subst (Seeking f k) (sym (read-found f k read found)) (stands read found (some, omega arith))
-    by (accepted d c n) (Located·refused e r p) read found = told (find-refused f k e r p .0 found)
+        let within : k ≤ t .dispositions = subst (λ (u : Totals). k ≤ u .dispositions) (accepted-same (sym (s .read) ∙ read)) (s .within) in
+        subst (Seeking f k) (sym (read-found f k read found)) (stands read found (s .some, within))
+    by (accepted t) (refused x) read found = told (find-refused f k x .0 found)
       where
-        told :
-            (judge f ≡ refused e r p) ⊎ ((d c m : ℕ) × (judge f ≡ accepted d c m) × ¬ IsNumber k d × (e ≡ 15) × (r ≡ 0) × (p ≡ 0)) → Seeking f k (seek f k)
+        told : (judge f ≡ refused x) ⊎ ((t : Totals) × (judge f ≡ accepted t) × ¬ IsNumber k (t .dispositions) × (x ≡ ofCall 15)) → Seeking f k (seek f k)
         told (inl wrong) = absurd (accepted-not-refused (sym wrong ∙ read))
-        told (inr h) =
-            let same : seek f k ≡ Target·refused 15 0 0 = not-found f k found ∙ (λ i. Target·refused (h .5 i) (h .6 i) (h .7 i)) in
-            subst (Seeking f k) (sym same) (none (h .3) (h .4))
+        told (inr h) = subst (Seeking f k) (sym (not-found f k found ∙ ap refused (h .3))) (none (h .1) (h .2))
 
 -- a change is refused for its fault, or made
+abbrev pub changedBy : Target → ℕ → List ℕ → Amended
+changedBy v new f = record { answer = accepted (totalsChanged v new); size = length f; bytes = changed (v .stand .first) new (totalsChanged v new) f }
+
 pub data Changing (f : List ℕ) (k new : ℕ) : Amended → Type 0 where
-  refuses : {e r p : ℕ} → ChangeFault f k new e r p → Changing f k new (unchanged e r p f)
-  changes :
-      {d c n first m a : ℕ} → seek f k ≡ target d c n first m a → new ≤ 9999999999999 → c - a + new ≤ 999999999999999
-      → Changing f k new (record { answer = accepted d (c - a + new) n; size = length f; bytes = changed first new n (c - a + new) f })
+  refuses : {x : Refusal} → ChangeFault f k new x → Changing f k new (unchanged x f)
+  changes : {v : Target} → seek f k ≡ accepted v → new ≤ 9999999999999 → totalsChanged v new .cents ≤ 999999999999999 → Changing f k new (changedBy v new f)
 
 pub changing : (f : List ℕ) (k new : ℕ) → Changing f k new (change f k new)
 unfolding change
-changing f k new = by (seek f k) refl (seeking f k)
+changing f k new = by (seek f k) (seeking f k)
   where
-    made : {d c n first m a : ℕ} → judge f ≡ accepted d c n → find f k ≡ standing first m a → IsNumber k d → Changing f k new (changeAt d c n first a new f)
-    made {d} {c} {n} {first} {m} {a} read found numbers = amount (leb new 9999999999999) refl
+    made : {v : Target} → judge f ≡ accepted (v .totals) → find f k ≡ accepted (v .stand) → IsNumber k (v .totals .dispositions) → Changing f k new (changeAt v new f)
+    made {v} read found numbers = amount (leb new 9999999999999) refl
       where
-        sum : new ≤ 9999999999999 → (b : Bool) → leb (c - a + new) 999999999999999 ≡ b
-            → Changing f k new (cond b (record { answer = accepted d (c - a + new) n; size = length f; bytes = changed first new n (c - a + new) f }) (unchanged 17 0 0 f))
-        sum small true t = changes (read-found f k read found) small (leb-true (c - a + new) 999999999999999 t)
-        sum small false t = refuses (total-too-large d c n first m a read found small (leb-false (c - a + new) 999999999999999 t))
+        total : ℕ
+        total = totalsChanged v new .cents
+
+        sum : new ≤ 9999999999999 → (b : Bool) → leb total 999999999999999 ≡ b → Changing f k new (cond b (changedBy v new f) (unchanged (ofCall 17) f))
+        sum small true t = changes (read-found f k read found) small (leb-true total 999999999999999 t)
+        sum small false t = refuses (total-too-large (v .totals) (v .stand) read found small (leb-false total 999999999999999 t))
 
         amount : (b : Bool) → leb new 9999999999999 ≡ b
-            → Changing f k new (cond b (cond (leb (c - a + new) 999999999999999) (record { answer = accepted d (c - a + new) n; size = length f; bytes = changed first new n (c - a + new) f }) (unchanged 17 0 0 f)) (unchanged 16 0 0 f))
-        amount true t = sum (leb-true new 9999999999999 t) (leb (c - a + new) 999999999999999) refl
-        amount false t = refuses (amount-too-large d c n read numbers (leb-false new 9999999999999 t))
+            → Changing f k new (cond b (cond (leb total 999999999999999) (changedBy v new f) (unchanged (ofCall 17) f)) (unchanged (ofCall 16) f))
+        amount true t = sum (leb-true new 9999999999999 t) (leb total 999999999999999) refl
+        amount false t = refuses (amount-too-large (v .totals) read numbers (leb-false new 9999999999999 t))
 
-    by : (t : Target) → seek f k ≡ t → Seeking f k t → Changing f k new (changeFound t new f)
-    by t e (unread wrong) = refuses (not-read _ _ _ wrong)
-    by t e (none read absent) = refuses (no-disposition _ _ _ read absent)
-    by t e (stands read found numbers) = made read found numbers
+    by : (l : Verdict Target) → Seeking f k l → Changing f k new (changeFound l new f)
+    by l (unread wrong) = refuses (not-read _ wrong)
+    by l (none read absent) = refuses (no-disposition _ read absent)
+    by l (stands read found numbers) = made read found numbers
 
 -- a withdrawal likewise
+abbrev pub withdrawnBy : ℕ → Target → List ℕ → Amended
+withdrawnBy k v f = record { answer = accepted (totalsLeft v); size = 120 * totalsLeft v .records; bytes = withdrawn f k (v .totals .records) (totalsLeft v) }
+
 pub data Withdrawing (f : List ℕ) (k : ℕ) : Amended → Type 0 where
-  refuses : {e r p : ℕ} → WithdrawFault f k e r p → Withdrawing f k (unchanged e r p f)
-  withdraws :
-      {d c n first m a : ℕ} → seek f k ≡ target d c n first m a → 2 ≤ d
-      → Withdrawing f k (record { answer = accepted (d - 1) (c - a) (n - m); size = 120 * (n - m); bytes = withdrawn f k (n - 1) (d - 1) (c - a) (n - m) })
+  refuses : {x : Refusal} → WithdrawFault f k x → Withdrawing f k (unchanged x f)
+  withdraws : {v : Target} → seek f k ≡ accepted v → 2 ≤ v .totals .dispositions → Withdrawing f k (withdrawnBy k v f)
 
 pub withdrawing : (f : List ℕ) (k : ℕ) → Withdrawing f k (withdraw f k)
 unfolding withdraw
 withdrawing f k = by (seek f k) (seeking f k)
   where
-    made : {d c n first m a : ℕ} → judge f ≡ accepted d c n → find f k ≡ standing first m a → IsNumber k d → Withdrawing f k (withdrawAt k d c n m a f)
-    made {d} {c} {n} {first} {m} {a} read found numbers = others (ltb 1 d) refl
+    made : {v : Target} → judge f ≡ accepted (v .totals) → find f k ≡ accepted (v .stand) → IsNumber k (v .totals .dispositions) → Withdrawing f k (withdrawAt k v f)
+    made {v} read found numbers = others (ltb 1 (v .totals .dispositions)) refl
       where
-        others : (b : Bool) → ltb 1 d ≡ b
-            → Withdrawing f k (cond b (record { answer = accepted (d - 1) (c - a) (n - m); size = 120 * (n - m); bytes = withdrawn f k (n - 1) (d - 1) (c - a) (n - m) }) (unchanged 18 0 0 f))
-        others true t = withdraws (read-found f k read found) (ltb-true 1 d t)
+        others : (b : Bool) → ltb 1 (v .totals .dispositions) ≡ b → Withdrawing f k (cond b (withdrawnBy k v f) (unchanged (ofCall 18) f))
+        others true t = withdraws (read-found f k read found) (ltb-true 1 (v .totals .dispositions) t)
         others false t =
             let low = numbers .0 in
             let high = numbers .1 in
-            let few : d ≤ 1 = ltb-false 1 d t in
-            let one : d ≡ 1 = omega arith in
-            refuses (only-one c n (read ∙ ap (λ (x : ℕ). accepted x c n) one) (omega arith))
+            let few : v .totals .dispositions ≤ 1 = ltb-false 1 (v .totals .dispositions) t in
+            refuses (only-one (v .totals) read (omega arith) (omega arith))
 
-    by : (t : Target) → Seeking f k t → Withdrawing f k (withdrawFound t k f)
-    by t (unread wrong) = refuses (not-read _ _ _ wrong)
-    by t (none read absent) = refuses (no-disposition _ _ _ read absent)
-    by t (stands read found numbers) = made read found numbers
-
-refused-same : {e r p e′ r′ p′ : ℕ} → refused e r p ≡ refused e′ r′ p′ → (e ≡ e′) × (r ≡ r′) × (p ≡ p′)
-refused-same s = (cc, cc, cc)
+    by : (l : Verdict Target) → Seeking f k l → Withdrawing f k (withdrawFound l k f)
+    by l (unread wrong) = refuses (not-read _ wrong)
+    by l (none read absent) = refuses (no-disposition _ read absent)
+    by l (stands read found numbers) = made read found numbers
 
 -- what is sought of a flow that has no such disposition, and of one that has
-module _ (f : List ℕ) (k : ℕ) {d c n : ℕ} (read : judge f ≡ accepted d c n) where
-  absent-so : ¬ IsNumber k d → seek f k ≡ Target·refused 15 0 0
-  absent-so absent = not-found f k (find-refused f k 15 0 0 .1 (inr (d, c, n, read, absent, refl, refl, refl)))
+module _ (f : List ℕ) (k : ℕ) {t : Totals} (read : judge f ≡ accepted t) where
+  absent-so : ¬ IsNumber k (t .dispositions) → seek f k ≡ refused (ofCall 15)
+  absent-so absent = not-found f k (find-refused f k (ofCall 15) .1 (inr (t, read, absent, refl)))
 
-  numbers-so : IsNumber k d → (first m a : ℕ) × (seek f k ≡ target d c n first m a)
+  numbers-so : IsNumber k (t .dispositions) → (s : Stand) × (seek f k ≡ accepted (target t s))
   numbers-so numbers =
       let low = numbers .0 in
       let high = numbers .1 in
       let one : suc (k - 1) ≡ k = omega arith in
       let found = ap (find f) (sym one) ∙ find-so f (k - 1) read (omega arith) in
-      (_, _, _, read-found f k read found)
+      (_, read-found f k read found)
 
 pub change-refused : ChangeRefused
 unfolding change
-change-refused f k new e r p = (said (change f k new) (changing f k new), tested)
+change-refused f k new x = (said (change f k new) (changing f k new), tested)
   where
-    said : (a : Amended) → Changing f k new a → a .answer ≡ refused e r p → ChangeFault f k new e r p
-    said a (refuses fault) same = let s = refused-same same in subst (λ (A : Type 0). A) (λ i. ChangeFault f k new (s .0 i) (s .1 i) (s .2 i)) fault
+    said : (a : Amended) → Changing f k new a → a .answer ≡ refused x → ChangeFault f k new x
+    said a (refuses fault) same = subst (ChangeFault f k new) (refused-same same) fault
     said a (changes found small fits) same = absurd (accepted-not-refused (sym same))
 
-    tested : {e r p : ℕ} → ChangeFault f k new e r p → change f k new .answer ≡ refused e r p
-    tested (not-read e r p wrong) = ap (λ (t : Target). changeFound t new f .answer) (unread-so f k wrong)
-    tested (no-disposition d c n read absent) = ap (λ (t : Target). changeFound t new f .answer) (absent-so f k read absent)
-    tested (amount-too-large d c n read numbers large) =
+    answers : {l : Verdict Target} → seek f k ≡ l → change f k new .answer ≡ changeFound l new f .answer
+    answers = ap (λ (l : Verdict Target). changeFound l new f .answer)
+
+    tested : {x : Refusal} → ChangeFault f k new x → change f k new .answer ≡ refused x
+    tested (not-read x wrong) = answers (unread-so f k wrong)
+    tested (no-disposition t read absent) = answers (absent-so f k read absent)
+    tested (amount-too-large t read numbers large) =
         let above : leb new 9999999999999 ≡ false = lt-leb new 9999999999999 large in
-        ap (λ (t : Target). changeFound t new f .answer) (numbers-so f k read numbers .3) ∙ rw above
-    tested (total-too-large d c n first m a read found small large) =
+        answers (numbers-so f k read numbers .1) ∙ rw above
+    tested (total-too-large t s read found small large) =
+        let total = t .cents - s .cents + new in
         let within : leb new 9999999999999 ≡ true = le-leb new 9999999999999 small in
-        let above : leb (c - a + new) 999999999999999 ≡ false = lt-leb (c - a + new) 999999999999999 large in
-        ap (λ (t : Target). changeFound t new f .answer) (read-found f k read found) ∙ rw (within, above)
+        let above : leb total 999999999999999 ≡ false = lt-leb total 999999999999999 large in
+        answers (read-found f k read found) ∙ rw (within, above)
 
 pub withdraw-refused : WithdrawRefused
 unfolding withdraw
-withdraw-refused f k e r p = (said (withdraw f k) (withdrawing f k), tested)
+withdraw-refused f k x = (said (withdraw f k) (withdrawing f k), tested)
   where
-    said : (a : Amended) → Withdrawing f k a → a .answer ≡ refused e r p → WithdrawFault f k e r p
-    said a (refuses fault) same = let s = refused-same same in subst (λ (A : Type 0). A) (λ i. WithdrawFault f k (s .0 i) (s .1 i) (s .2 i)) fault
+    said : (a : Amended) → Withdrawing f k a → a .answer ≡ refused x → WithdrawFault f k x
+    said a (refuses fault) same = subst (WithdrawFault f k) (refused-same same) fault
     said a (withdraws found some) same = absurd (accepted-not-refused (sym same))
 
-    tested : {e r p : ℕ} → WithdrawFault f k e r p → withdraw f k .answer ≡ refused e r p
-    tested (not-read e r p wrong) = ap (λ (t : Target). withdrawFound t k f .answer) (unread-so f k wrong)
-    tested (no-disposition d c n read absent) = ap (λ (t : Target). withdrawFound t k f .answer) (absent-so f k read absent)
-    tested (only-one c n read one) = ap (λ (t : Target). withdrawFound t k f .answer) (numbers-so f k read (omega arith, omega arith) .3)
+    answers : {l : Verdict Target} → seek f k ≡ l → withdraw f k .answer ≡ withdrawFound l k f .answer
+    answers = ap (λ (l : Verdict Target). withdrawFound l k f .answer)
+
+    tested : {x : Refusal} → WithdrawFault f k x → withdraw f k .answer ≡ refused x
+    tested (not-read x wrong) = answers (unread-so f k wrong)
+    tested (no-disposition t read absent) = answers (absent-so f k read absent)
+    tested (only-one t read count one) =
+        let few : ltb 1 (t .dispositions) ≡ false = ap (ltb 1) count in
+        answers (numbers-so f k read (omega arith, omega arith) .1) ∙ rw few
 
 pub refused-untouched : RefusedUntouched
-refused-untouched f k e r p = (λ new. changed-not new (change f k new) (changing f k new), withdrawn-not (withdraw f k) (withdrawing f k))
+refused-untouched f k x = (λ new. changed-not new (change f k new) (changing f k new), withdrawn-not (withdraw f k) (withdrawing f k))
   where
-    changed-not : (new : ℕ) (a : Amended) → Changing f k new a → a .answer ≡ refused e r p → Untouched f a
+    changed-not : (new : ℕ) (a : Amended) → Changing f k new a → a .answer ≡ refused x → Untouched f a
     changed-not new a (refuses fault) same = (refl, refl)
     changed-not new a (changes found small fits) same = absurd (accepted-not-refused (sym same))
 
-    withdrawn-not : (a : Amended) → Withdrawing f k a → a .answer ≡ refused e r p → Untouched f a
+    withdrawn-not : (a : Amended) → Withdrawing f k a → a .answer ≡ refused x → Untouched f a
     withdrawn-not a (refuses fault) same = (refl, refl)
     withdrawn-not a (withdraws found some) same = absurd (accepted-not-refused (sym same))
 
 -- what is left, as a flow of the grammar
 abbrev pub changed-grammar :
-    (f : List ℕ) (k d c n first m a new : ℕ) (w : Among f k d c n first m a) (small : new < 10000000000000) → c - a + new ≤ 999999999999999
-    → Grammar (changed first new n (c - a + new) f) d (c - a + new) n
-changed-grammar f k d c n first m a new w small fits =
+    (f : List ℕ) (k : ℕ) (v : Target) (new : ℕ) (w : Among f k v) (small : new < 10000000000000) → totalsChanged v new .cents ≤ 999999999999999
+    → Grammar (changed (v .stand .first) new (totalsChanged v new) f) (totalsChanged v new)
+changed-grammar f k v new w small fits =
     let g = w .grammar in
-    let total : c - a + new ≡ c - amountOf (w .this) + new = ap (λ (x : ℕ). c - x + new) (w .amount) in
+    let t = v .totals in
+    let total : t .cents - v .stand .cents + new ≡ t .cents - amountOf (w .this) + new = ap (λ (x : ℕ). t .cents - x + new) (w .amount) in
+    let count = changed-count f t g (w .pre) (w .this) (w .post) (w .split) new small in
+    let cents = changed-cents f t g (w .pre) (w .this) (w .post) (w .split) new small ∙ sym total in
+    let records = changed-records f t g (w .pre) (w .this) (w .post) (w .split) new small in
     record {
-      parts = leftWith (g .parts) (changedOf f k d c n first m a w new small);
-      bytes = sym (changed-left f k d c n first m a w new small);
-      right = changed-right f d c n g (w .pre) (w .this) (w .post) (w .split) new small (omega arith);
-      dispositions = changed-count f d c n g (w .pre) (w .this) (w .post) (w .split) new small;
-      cents = changed-cents f d c n g (w .pre) (w .this) (w .post) (w .split) new small ∙ sym total;
-      records = changed-records f d c n g (w .pre) (w .this) (w .post) (w .split) new small;
+      parts = leftWith (g .parts) (changedOf f k v w new small);
+      bytes = sym (changed-left f k v w new small);
+      right = changed-right f t g (w .pre) (w .this) (w .post) (w .split) new small (omega arith);
+      totals = λ i. record { dispositions = count i; cents = cents i; records = records i };
     }
 
 abbrev pub withdrawn-grammar :
-    (f : List ℕ) (k d c n first m a : ℕ) (w : Among f k d c n first m a) → 2 ≤ d
-    → Grammar (flatten (recordsLeft f k (n - 1) (d - 1) (c - a) (n - m))) (d - 1) (c - a) (n - m)
-withdrawn-grammar f k d c n first m a w some =
+    (f : List ℕ) (k : ℕ) (v : Target) (w : Among f k v) → 2 ≤ v .totals .dispositions
+    → Grammar (flatten (recordsLeft f k (v .totals .records) (totalsLeft v))) (totalsLeft v)
+withdrawn-grammar f k v w some =
     let g = w .grammar in
+    let t = v .totals in
+    let count = rest-count f t g (w .pre) (w .this) (w .post) (w .split) in
+    let cents = rest-cents f t g (w .pre) (w .this) (w .post) (w .split) ∙ ap (λ (x : ℕ). t .cents - x) (sym (w .amount)) in
+    let records = rest-records f t g (w .pre) (w .this) (w .post) (w .split) ∙ ap (λ (x : ℕ). t .records - x) (sym (w .sized)) in
     record {
-      parts = leftWith (g .parts) (restOf f k d c n first m a w);
-      bytes = sym (withdrawn-left f k d c n first m a w);
-      right = rest-right f d c n g (w .pre) (w .this) (w .post) (w .split) some;
-      dispositions = rest-count f d c n g (w .pre) (w .this) (w .post) (w .split);
-      cents = rest-cents f d c n g (w .pre) (w .this) (w .post) (w .split) ∙ ap (λ (x : ℕ). c - x) (sym (w .amount));
-      records = rest-records f d c n g (w .pre) (w .this) (w .post) (w .split) ∙ ap (λ (x : ℕ). n - x) (sym (w .sized));
+      parts = leftWith (g .parts) (restOf f k v w);
+      bytes = sym (withdrawn-left f k v w);
+      right = rest-right f t g (w .pre) (w .this) (w .post) (w .split) some;
+      totals = λ i. record { dispositions = count i; cents = cents i; records = records i };
     }

@@ -13,12 +13,13 @@ use Rattle.records.specs.Kinds.{hasType}
 use Rattle.records.specs.declared.kind.Kind.the-variants.{R14}
 use Rattle.flow.specs.Find.{dispositionsIn}
 use Rattle.flow.specs.Records.{recordAt, recordsOf}
+use Rattle.flow.specs.declared.location.Target.{Target}
 use Rattle.flow.proofs.Cut.{Whole, cut-count, cut-at, cut-whole}
 use Rattle.flow.proofs.Dispositions.{untilTrailer, header-leads}
 use Rattle.amend.proofs.Standing.{Standing}
 
 -- the records of the flow: those before the disposition, its own, those behind it, and the trailer
-module _ {f : List ℕ} {k d c n first m a : ℕ} (s : Standing f k d c n first m a) where
+module _ {f : List ℕ} {k : ℕ} {v : Target} (s : Standing f k v) where
   abbrev pub before : List (List ℕ)
   before = recordAt 0 f ∷ flatten (take (k - 1) (dispositionsIn f))
 
@@ -29,7 +30,7 @@ module _ {f : List ℕ} {k d c n first m a : ℕ} (s : Standing f k d c n first 
   behind = flatten (drop k (dispositionsIn f))
 
   abbrev pub trailer : List ℕ
-  trailer = recordAt (n - 1) f
+  trailer = recordAt (v .totals .records - 1) f
 
   pub records-split : recordsOf f ≡ before ++ (own ++ (behind ++ (trailer ∷ [])))
   unfolding flatten
@@ -37,8 +38,8 @@ module _ {f : List ℕ} {k d c n first m a : ℕ} (s : Standing f k d c n first 
       let ds = dispositionsIn f in
       let size = s .size in
       let some = s .some in
-      let count : length (recordsOf f) ≡ n = cut-count (length f / 120) f ∙ omega arith in
-      let last : getD (recordsOf f) (length (recordsOf f) - 1) [] ≡ trailer = ap (λ (i : ℕ). getD (recordsOf f) (i - 1) []) count ∙ cut-at (length f / 120) (n - 1) f (omega (arith, s .starts, s .ends)) in
+      let count : length (recordsOf f) ≡ v .totals .records = cut-count (length f / 120) f ∙ omega arith in
+      let last : getD (recordsOf f) (length (recordsOf f) - 1) [] ≡ trailer = ap (λ (i : ℕ). getD (recordsOf f) (i - 1) []) count ∙ cut-at (length f / 120) (v .totals .records - 1) f (omega (arith, s .starts, s .ends)) in
       let front : untilTrailer f ≡ recordAt 0 f ∷ flatten ds = sym (lead-groups (hasType R14) (untilTrailer f)) ∙ ap (λ (l : List (List ℕ)). l ++ flatten ds) (header-leads f (s .read)) in
       let one : suc (k - 1) ≡ k = omega arith in
       let around : ds ≡ take (k - 1) ds ++ (own ∷ drop k ds) = split-at ds (k - 1) [] (omega (arith, s .count, s .within)) ∙ ap (λ (i : ℕ). take (k - 1) ds ++ (own ∷ drop i ds)) one in

@@ -15,6 +15,7 @@ use Rattle.records.specs.Context.{Header}
 use Rattle.records.specs.Field.{field}
 use Rattle.records.specs.declared.kind.Kind.{Kind}
 use Rattle.records.specs.declared.kind.Kind.the-variants.{Im, R14, R16, R20, R30, R40, R50, R59, R51, R70, Ef}
+use Rattle.flow.specs.declared.answer.Totals.{Totals}
 use Rattle.grammar.specs.Rules.{Digits, Blank, Present, Date, Says, Formed, DispositionRules, CoordinatesRules, BesideNumber, MemberRules, TrailerRules}
 use Rattle.grammar.proofs.Rules.{says-written, digits-printable}
 use Rattle.amend.specs.Withdraw.{renumbered, recounted}
@@ -138,55 +139,55 @@ module _ (abi : List ℕ) (i new : ℕ) (rec : List ℕ) (formed : Formed R14 re
         others = disposition-same abi rec (repriced new rec) (λ a n h. kept a n (h .1)) (repriced-says .0) (r .others);
       }
 
--- a trailer with other counts
-pub recounted-length : (d c n : ℕ) (rec : List ℕ) → length rec ≡ 120 → length (recounted d c n rec) ≡ 120
-recounted-length d c n rec whole =
-    let one = over-length 45 7 d rec whole (omega arith) in
-    let two = over-length 52 15 c (put 45 (digits 7 d) rec) one (omega arith) in
-    over-length 82 7 n (put 52 (digits 15 c) (put 45 (digits 7 d) rec)) two (omega arith)
+-- a trailer with other totals
+pub recounted-length : (t : Totals) (rec : List ℕ) → length rec ≡ 120 → length (recounted t rec) ≡ 120
+recounted-length t rec whole =
+    let one = over-length 45 7 (t .dispositions) rec whole (omega arith) in
+    let two = over-length 52 15 (t .cents) (put 45 (digits 7 (t .dispositions)) rec) one (omega arith) in
+    over-length 82 7 (t .records) (put 52 (digits 15 (t .cents)) (put 45 (digits 7 (t .dispositions)) rec)) two (omega arith)
 
-module _ (d c n : ℕ) (rec : List ℕ) (formed : Formed Ef rec) (few : d < 10000000) (small : c < 1000000000000000) (short : n < 10000000) where
+module _ (t : Totals) (rec : List ℕ) (formed : Formed Ef rec) (few : t .dispositions < 10000000) (small : t .cents < 1000000000000000) (short : t .records < 10000000) where
   abbrev one : List ℕ
-  one = put 45 (digits 7 d) rec
+  one = put 45 (digits 7 (t .dispositions)) rec
 
   abbrev two : List ℕ
-  two = put 52 (digits 15 c) one
+  two = put 52 (digits 15 (t .cents)) one
 
   formed-one : Formed Ef one
-  formed-one = over-formed 45 7 d rec (formed .whole) (omega arith) Ef (omega arith) few formed
+  formed-one = over-formed 45 7 (t .dispositions) rec (formed .whole) (omega arith) Ef (omega arith) few formed
 
   formed-two : Formed Ef two
-  formed-two = over-formed 52 15 c one (formed-one .whole) (omega arith) Ef (omega arith) small formed-one
+  formed-two = over-formed 52 15 (t .cents) one (formed-one .whole) (omega arith) Ef (omega arith) small formed-one
 
-  pub recounted-formed : Formed Ef (recounted d c n rec)
-  recounted-formed = over-formed 82 7 n two (formed-two .whole) (omega arith) Ef (omega arith) short formed-two
+  pub recounted-formed : Formed Ef (recounted t rec)
+  recounted-formed = over-formed 82 7 (t .records) two (formed-two .whole) (omega arith) Ef (omega arith) short formed-two
 
   kept-one : (b w : ℕ) → (b + w ≤ 45) ⊎ (52 ≤ b) → part b w one ≡ part b w rec
-  kept-one = over-kept 45 7 d rec (formed .whole) (omega arith)
+  kept-one = over-kept 45 7 (t .dispositions) rec (formed .whole) (omega arith)
 
   kept-two : (b w : ℕ) → (b + w ≤ 52) ⊎ (67 ≤ b) → part b w two ≡ part b w one
-  kept-two = over-kept 52 15 c one (formed-one .whole) (omega arith)
+  kept-two = over-kept 52 15 (t .cents) one (formed-one .whole) (omega arith)
 
-  kept-three : (b w : ℕ) → (b + w ≤ 82) ⊎ (89 ≤ b) → part b w (recounted d c n rec) ≡ part b w two
-  kept-three = over-kept 82 7 n two (formed-two .whole) (omega arith)
+  kept-three : (b w : ℕ) → (b + w ≤ 82) ⊎ (89 ≤ b) → part b w (recounted t rec) ≡ part b w two
+  kept-three = over-kept 82 7 (t .records) two (formed-two .whole) (omega arith)
 
   -- what stands before them, between the second and the third, and behind them
-  pub kept-front : (b w : ℕ) → b + w ≤ 45 → part b w (recounted d c n rec) ≡ part b w rec
+  pub kept-front : (b w : ℕ) → b + w ≤ 45 → part b w (recounted t rec) ≡ part b w rec
   kept-front b w h = kept-three b w (inl (omega arith)) ∙ kept-two b w (inl (omega arith)) ∙ kept-one b w (inl h)
 
-  pub kept-between : (b w : ℕ) → 67 ≤ b → (b + w ≤ 82) ⊎ (89 ≤ b) → part b w (recounted d c n rec) ≡ part b w rec
+  pub kept-between : (b w : ℕ) → 67 ≤ b → (b + w ≤ 82) ⊎ (89 ≤ b) → part b w (recounted t rec) ≡ part b w rec
   kept-between b w h o = kept-three b w o ∙ kept-two b w (inr h) ∙ kept-one b w (inr (omega arith))
 
-  pub recounted-rules : (h : Header) {d₀ c₀ n₀ : ℕ} → TrailerRules h d₀ c₀ n₀ rec → TrailerRules h d c n (recounted d c n rec)
+  pub recounted-rules : (h : Header) {t₀ : Totals} → TrailerRules h t₀ rec → TrailerRules h t (recounted t rec)
   recounted-rules h r =
       record {
         mittente = kept-front 3 5 (omega arith) ∙ r .mittente;
         ricevente = kept-front 8 5 (omega arith) ∙ r .ricevente;
         created = kept-front 13 6 (omega arith) ∙ r .created;
         name = kept-front 19 20 (omega arith) ∙ r .name;
-        dispositions-said = subst (Says d) (sym (kept-three 45 7 (inl (omega arith)) ∙ kept-two 45 7 (inl (omega arith)))) (over-says 45 7 d rec (formed .whole) (omega arith) few);
-        cents-said = subst (Says c) (sym (kept-three 52 15 (inl (omega arith)))) (over-says 52 15 c one (formed-one .whole) (omega arith) small);
+        dispositions-said = subst (Says (t .dispositions)) (sym (kept-three 45 7 (inl (omega arith)) ∙ kept-two 45 7 (inl (omega arith)))) (over-says 45 7 (t .dispositions) rec (formed .whole) (omega arith) few);
+        cents-said = subst (Says (t .cents)) (sym (kept-three 52 15 (inl (omega arith)))) (over-says 52 15 (t .cents) one (formed-one .whole) (omega arith) small);
         zeros = subst (Says 0) (sym (kept-between 67 15 (omega arith) (inl (omega arith)))) (r .zeros);
-        records-said = over-says 82 7 n two (formed-two .whole) (omega arith) short;
+        records-said = over-says 82 7 (t .records) two (formed-two .whole) (omega arith) short;
         currency-code = kept-between 113 1 (omega arith) (inr (omega arith)) ∙ r .currency-code;
       }

@@ -17,90 +17,92 @@ use Rattle.records.specs.Field.{Span, _to_, byteAt}
 use Rattle.flow.specs.Find.{dispositionsIn}
 use Rattle.flow.specs.Judge.{judge}
 use Rattle.flow.specs.Records.{recordAt, recordsOf}
-use Rattle.flow.specs.Seek.{target, seek}
+use Rattle.flow.specs.Seek.{seek}
 use Rattle.flow.specs.Verdict.{accepted}
-use Rattle.flow.proofs.Accepted.{accepted-not-refused, accepted-exact, answer-determined}
+use Rattle.flow.specs.declared.answer.Totals.{Totals}
+use Rattle.flow.specs.declared.location.Stand.{Stand}
+use Rattle.flow.specs.declared.location.Target.{Target}
+use Rattle.flow.proofs.Accepted.{accepted-not-refused, accepted-same, accepted-exact, answer-determined}
 use Rattle.flow.proofs.Cut.{Whole, cut-count, cut-at, flatten-length, joined-records}
-use Rattle.flow.proofs.Dispositions.{found-within, standing-same}
+use Rattle.flow.proofs.Dispositions.{found-within}
 use Rattle.flow.proofs.Sought.{sought-read}
 use Rattle.grammar.proofs.Grammar.{grammar-exact}
 use Rattle.amend.specs.Amended.{Amended, written}
-use Rattle.amend.specs.Change.{changed, change}
+use Rattle.amend.specs.Change.{totalsChanged, changed, change}
 use Rattle.amend.specs.Laws.{flowLeft, Leaves, ChangeLeaves, WithdrawLeaves, Lies, AmountOnly, ChangeTouches, SameBut, Moved, WithdrawTouches, AmendedDetermined}
-use Rattle.amend.specs.Withdraw.{renumbered, numberedFrom, recounted, recordsLeft, withdrawn, withdraw}
+use Rattle.amend.specs.Withdraw.{renumbered, numberedFrom, totalsLeft, recounted, recordsLeft, withdrawn, withdraw}
 use Rattle.amend.proofs.Among.{Among, among-so}
 use Rattle.amend.proofs.Answered.{Changing, changing, Withdrawing, withdrawing, refuses, changes, withdraws, changed-grammar, withdrawn-grammar}
 use Rattle.amend.proofs.Around.{before, own, behind, trailer, records-split, pieces}
 use Rattle.amend.proofs.Kept.{over-length, recounted-length}
 use Rattle.amend.proofs.Standing.{Standing, sought-stands}
 
--- the numbers of one answer
-accepted-same : {d c n d′ c′ n′ : ℕ} → accepted d c n ≡ accepted d′ c′ n′ → (d ≡ d′) × (c ≡ c′) × (n ≡ n′)
-accepted-same e = (cc, cc, cc)
-
 -- the flow that a change leaves, and a withdrawal
-module _ (f : List ℕ) (k d c n first m a : ℕ) (found : seek f k ≡ target d c n first m a) where
-  abbrev here : Among f k d c n first m a
+module _ (f : List ℕ) (k : ℕ) (v : Target) (found : seek f k ≡ accepted v) where
+  abbrev here : Among f k v
   here = among-so f k found
 
-  size-before : n * 120 ≡ length f
-  size-before = accepted-exact f d c n (sought-read f k found .0) .2
+  size-before : v .totals .records * 120 ≡ length f
+  size-before = accepted-exact f (v .totals) (sought-read f k found .0) .2
 
-  module _ (new : ℕ) (small : new ≤ 9999999999999) (fits : c - a + new ≤ 999999999999999) where
+  module _ (new : ℕ) (small : new ≤ 9999999999999) (fits : totalsChanged v new .cents ≤ 999999999999999) where
     abbrev pub changedFlow : List ℕ
-    changedFlow = changed first new n (c - a + new) f
+    changedFlow = changed (v .stand .first) new (totalsChanged v new) f
 
-    pub changed-read : judge changedFlow ≡ accepted d (c - a + new) n
-    changed-read = grammar-exact changedFlow d (c - a + new) n .1 (changed-grammar f k d c n first m a new here (omega arith) fits)
+    pub changed-read : judge changedFlow ≡ accepted (totalsChanged v new)
+    changed-read = grammar-exact changedFlow (totalsChanged v new) .1 (changed-grammar f k v new here (omega arith) fits)
 
     pub changed-size : length changedFlow ≡ length f
-    changed-size = sym (accepted-exact changedFlow d (c - a + new) n changed-read .2) ∙ size-before
+    changed-size = sym (accepted-exact changedFlow (totalsChanged v new) changed-read .2) ∙ size-before
 
     pub changed-whole : take (length f) changedFlow ≡ changedFlow
     changed-whole = ap (λ (l : ℕ). take l changedFlow) (sym changed-size) ∙ take-length changedFlow
 
-  module _ (some : 2 ≤ d) where
+  module _ (some : 2 ≤ v .totals .dispositions) where
+    abbrev left : ℕ
+    left = totalsLeft v .records
+
     abbrev pub withdrawnFlow : List ℕ
-    withdrawnFlow = flatten (recordsLeft f k (n - 1) (d - 1) (c - a) (n - m))
+    withdrawnFlow = flatten (recordsLeft f k (v .totals .records) (totalsLeft v))
 
-    pub withdrawn-read : judge withdrawnFlow ≡ accepted (d - 1) (c - a) (n - m)
-    withdrawn-read = grammar-exact withdrawnFlow (d - 1) (c - a) (n - m) .1 (withdrawn-grammar f k d c n first m a here some)
+    pub withdrawn-read : judge withdrawnFlow ≡ accepted (totalsLeft v)
+    withdrawn-read = grammar-exact withdrawnFlow (totalsLeft v) .1 (withdrawn-grammar f k v here some)
 
-    pub withdrawn-size : 120 * (n - m) ≤ length f
+    pub withdrawn-size : 120 * left ≤ length f
     withdrawn-size = omega (arith, size-before)
 
-    pub withdrawn-length : length withdrawnFlow ≡ 120 * (n - m)
-    withdrawn-length = omega (arith, accepted-exact withdrawnFlow (d - 1) (c - a) (n - m) withdrawn-read .2)
+    pub withdrawn-length : length withdrawnFlow ≡ 120 * left
+    withdrawn-length = omega (arith, accepted-exact withdrawnFlow (totalsLeft v) withdrawn-read .2)
 
-    pub withdrawn-front : take (120 * (n - m)) (withdrawn f k (n - 1) (d - 1) (c - a) (n - m)) ≡ withdrawnFlow
-    withdrawn-front = take-at withdrawnFlow (replicate (length f - 120 * (n - m)) 32) (120 * (n - m)) withdrawn-length
+    pub withdrawn-front : take (120 * left) (withdrawn f k (v .totals .records) (totalsLeft v)) ≡ withdrawnFlow
+    withdrawn-front = take-at withdrawnFlow (replicate (length f - 120 * left) 32) (120 * left) withdrawn-length
 
 pub change-leaves : ChangeLeaves
-change-leaves f k new d c n same = go (change f k new) (changing f k new) same
+change-leaves f k new t same = go (change f k new) (changing f k new) same
   where
-    go : (x : Amended) → Changing f k new x → x .answer ≡ accepted d c n → Leaves f x d c n
+    go : (x : Amended) → Changing f k new x → x .answer ≡ accepted t → Leaves f x t
     go x (refuses fault) same = absurd (accepted-not-refused same)
-    go x (changes {d = d₀} {c = c₀} {n = n₀} {first = first} {m = m} {a = a} found small fits) same =
-        let left = changedFlow f k d₀ c₀ n₀ first m a found new small fits in
-        let whole = changed-whole f k d₀ c₀ n₀ first m a found new small fits in
+    go x (changes {v = v} found small fits) same =
+        let left = changedFlow f k v found new small fits in
+        let whole = changed-whole f k v found new small fits in
         let none : length f - length f ≡ 0 = omega arith in
         record {
-          read = ap judge whole ∙ changed-read f k d₀ c₀ n₀ first m a found new small fits ∙ same;
+          read = ap judge whole ∙ changed-read f k v found new small fits ∙ same;
           within = omega arith;
           memory = sym (append-nil left) ∙ (λ i. sym whole i ++ replicate (sym none i) 32);
         }
 
 pub withdraw-leaves : WithdrawLeaves
-withdraw-leaves f k d c n same = go (withdraw f k) (withdrawing f k) same
+withdraw-leaves f k t same = go (withdraw f k) (withdrawing f k) same
   where
-    go : (x : Amended) → Withdrawing f k x → x .answer ≡ accepted d c n → Leaves f x d c n
+    go : (x : Amended) → Withdrawing f k x → x .answer ≡ accepted t → Leaves f x t
     go x (refuses fault) same = absurd (accepted-not-refused same)
-    go x (withdraws {d = d₀} {c = c₀} {n = n₀} {first = first} {m = m} {a = a} found some) same =
-        let own = withdrawn-front f k d₀ c₀ n₀ first m a found some in
+    go x (withdraws {v = v} found some) same =
+        let own = withdrawn-front f k v found some in
         record {
-          read = ap judge own ∙ withdrawn-read f k d₀ c₀ n₀ first m a found some ∙ same;
-          within = withdrawn-size f k d₀ c₀ n₀ first m a found some;
-          memory = ap (λ (l : List ℕ). l ++ replicate (length f - 120 * (n₀ - m)) 32) (sym own);
+          read = ap judge own ∙ withdrawn-read f k v found some ∙ same;
+          within = withdrawn-size f k v found some;
+          memory = ap (λ (l : List ℕ). l ++ replicate (length f - 120 * totalsLeft v .records) 32) (sym own);
         }
 
 -- digits written over a record of a flow, and any index that does not lie there
@@ -115,24 +117,26 @@ written-size : (r p w v : ℕ) (f : List ℕ) → 120 * (r - 1) + (p - 1) + w �
 written-size r p w v f fits = put-length (120 * (r - 1) + (p - 1)) (digits w v) f (omega (arith, written-length w v))
 
 pub change-touches : ChangeTouches
-change-touches f k new d c n first m a read found = go (change f k new) (changing f k new)
+change-touches f k new t s read found = go (change f k new) (changing f k new)
   where
-    go : (x : Amended) → Changing f k new x → AmountOnly f (x .bytes) n first
+    go : (x : Amended) → Changing f k new x → AmountOnly f (x .bytes) (t .records) (s .first)
     go x (refuses fault) = record { sizes = refl; bytes = λ i u v. refl }
-    go x (changes {d = d₀} {c = c₀} {n = n₀} {first = first₀} {m = m₀} {a = a₀} sought small fits) =
+    go x (changes {v = g} sought small fits) =
         let both = sought-read f k sought in
-        let count = accepted-same (sym (both .0) ∙ read) in
-        let place = standing-same (sym (both .1) ∙ found) in
+        let count = ap (λ (u : Totals). u .records) (accepted-same (sym (both .0) ∙ read)) in
+        let place = ap (λ (u : Stand). u .first) (accepted-same (sym (both .1) ∙ found)) in
         let within = found-within f k (both .1) in
-        let size = accepted-exact f d₀ c₀ n₀ (both .0) .2 in
-        let total = c₀ - a₀ + new in
-        let one = written first₀ 34 (digits 13 new) f in
-        let kept : length one ≡ length f = written-size first₀ 34 13 new f (omega arith) in
+        let size = accepted-exact f (g .totals) (both .0) .2 in
+        let first = g .stand .first in
+        let n = g .totals .records in
+        let total = totalsChanged g new .cents in
+        let one = written first 34 (digits 13 new) f in
+        let kept : length one ≡ length f = written-size first 34 13 new f (omega arith) in
         record {
-          sizes = written-size n₀ 53 15 total one (omega arith) ∙ kept;
+          sizes = written-size n 53 15 total one (omega arith) ∙ kept;
           bytes = λ i u v.
-              written-elsewhere n₀ 53 15 total i one (omega arith) (omega arith) (λ l. v (subst (λ (r : ℕ). Lies i r 53 67) (count .2) l))
-              ∙ written-elsewhere first₀ 34 13 new i f (omega arith) (omega arith) (λ l. u (subst (λ (r : ℕ). Lies i r 34 46) (place .0) l));
+              written-elsewhere n 53 15 total i one (omega arith) (omega arith) (λ l. v (subst (λ (r : ℕ). Lies i r 53 67) count l))
+              ∙ written-elsewhere first 34 13 new i f (omega arith) (omega arith) (λ l. u (subst (λ (r : ℕ). Lies i r 34 46) place l));
         }
 
 -- a record with digits written over, and any byte that does not lie there
@@ -148,18 +152,18 @@ renumbered-same j rec whole =
       bytes = λ p one o. over-elsewhere 3 7 j rec whole (omega arith) p one (o .0);
     }
 
-recounted-same : (d c n : ℕ) (rec : List ℕ) → length rec ≡ 120 → SameBut ((46 to 52) ∷ (53 to 67) ∷ (83 to 89) ∷ []) (recounted d c n rec) rec
-recounted-same d c n rec whole =
-    let one = put 45 (digits 7 d) rec in
-    let two = put 52 (digits 15 c) one in
-    let size-one : length one ≡ 120 = over-length 45 7 d rec whole (omega arith) in
-    let size-two : length two ≡ 120 = over-length 52 15 c one size-one (omega arith) in
+recounted-same : (t : Totals) (rec : List ℕ) → length rec ≡ 120 → SameBut ((46 to 52) ∷ (53 to 67) ∷ (83 to 89) ∷ []) (recounted t rec) rec
+recounted-same t rec whole =
+    let one = put 45 (digits 7 (t .dispositions)) rec in
+    let two = put 52 (digits 15 (t .cents)) one in
+    let size-one : length one ≡ 120 = over-length 45 7 (t .dispositions) rec whole (omega arith) in
+    let size-two : length two ≡ 120 = over-length 52 15 (t .cents) one size-one (omega arith) in
     record {
-      sizes = recounted-length d c n rec whole ∙ sym whole;
+      sizes = recounted-length t rec whole ∙ sym whole;
       bytes = λ p some o.
-          over-elsewhere 82 7 n two size-two (omega arith) p some (o .1 .1 .0)
-          ∙ over-elsewhere 52 15 c one size-one (omega arith) p some (o .1 .0)
-          ∙ over-elsewhere 45 7 d rec whole (omega arith) p some (o .0);
+          over-elsewhere 82 7 (t .records) two size-two (omega arith) p some (o .1 .1 .0)
+          ∙ over-elsewhere 52 15 (t .cents) one size-one (omega arith) p some (o .1 .0)
+          ∙ over-elsewhere 45 7 (t .dispositions) rec whole (omega arith) p some (o .0);
     }
 
 -- the records of later dispositions, each beside the one that it came from
@@ -180,12 +184,22 @@ same-whole ss (x ∷ xs) [] pairs whole = absurd pairs
 same-whole ss (x ∷ xs) (y ∷ ys) pairs whole = (pairs .0 .sizes ∙ whole .0, same-whole ss xs ys (pairs .1) (whole .1))
 
 -- the records of a flow, and of the flow left without disposition k
-module _ {f : List ℕ} {k d c n first m a : ℕ} (s : Standing f k d c n first m a) where
+module _ {f : List ℕ} {k : ℕ} {v : Target} (s : Standing f k v) where
+  -- how many records there are, and which go
+  abbrev n : ℕ
+  n = v .totals .records
+
+  abbrev first : ℕ
+  first = v .stand .first
+
+  abbrev m : ℕ
+  m = v .stand .records
+
   abbrev renewed : List (List ℕ)
   renewed = flatten (numberedFrom k (drop k (dispositionsIn f)))
 
   abbrev recount : List ℕ
-  recount = recounted (d - 1) (c - a) (n - m) (trailer s)
+  recount = recounted (totalsLeft v) (trailer s)
 
   abbrev was : List (List ℕ)
   was = before s ++ (own s ++ (behind s ++ (trailer s ∷ [])))
@@ -200,9 +214,9 @@ module _ {f : List ℕ} {k d c n first m a : ℕ} (s : Standing f k d c n first 
   now-whole =
       let Sized : List ℕ → Type 0 = λ rec. length rec ≡ 120 in
       all-append Sized (before s) (renewed ++ (recount ∷ [])) (pieces s .0)
-      (all-append Sized renewed (recount ∷ []) (same-whole ((4 to 10) ∷ []) renewed (behind s) pairs (pieces s .2)) (recounted-length (d - 1) (c - a) (n - m) (trailer s) (pieces s .3), tt))
+      (all-append Sized renewed (recount ∷ []) (same-whole ((4 to 10) ∷ []) renewed (behind s) pairs (pieces s .2)) (recounted-length (totalsLeft v) (trailer s) (pieces s .3), tt))
 
-  now-so : recordsLeft f k (n - 1) (d - 1) (c - a) (n - m) ≡ now
+  now-so : recordsLeft f k n (totalsLeft v) ≡ now
   now-so =
       let taken = take (k - 1) (dispositionsIn f) in
       ap (λ (l : List (List ℕ)). (recordAt 0 f ∷ l) ++ (recount ∷ [])) (flatten-append taken (numberedFrom k (drop k (dispositionsIn f))))
@@ -226,7 +240,7 @@ module _ {f : List ℕ} {k d c n first m a : ℕ} (s : Standing f k d c n first 
       let size = s .size in
       sym (cut-at (length f / 120) i f (omega arith)) ∙ ap (λ (l : List (List ℕ)). getD l i []) (records-split s)
 
-  now-at : (i : ℕ) → i < n - m → recordAt i (flatten (recordsLeft f k (n - 1) (d - 1) (c - a) (n - m))) ≡ getD now i []
+  now-at : (i : ℕ) → i < n - m → recordAt i (flatten (recordsLeft f k n (totalsLeft v))) ≡ getD now i []
   now-at i h =
       let told = counts in
       let one = length-append (before s) (renewed ++ (recount ∷ [])) in
@@ -234,7 +248,7 @@ module _ {f : List ℕ} {k d c n first m a : ℕ} (s : Standing f k d c n first 
       let size = flatten-length now now-whole in
       ap (λ (l : List (List ℕ)). recordAt i (flatten l)) now-so ∙ sym (cut-at (length (flatten now) / 120) i (flatten now) (omega arith)) ∙ ap (λ (l : List (List ℕ)). getD l i []) (joined-records now now-whole)
 
-  moved : Moved f (flatten (recordsLeft f k (n - 1) (d - 1) (c - a) (n - m))) n first m
+  moved : Moved f (flatten (recordsLeft f k n (totalsLeft v))) n first m
   moved =
       let told = counts in
       let R = SameBut ((4 to 10) ∷ []) in
@@ -254,22 +268,22 @@ module _ {f : List ℕ} {k d c n first m a : ℕ} (s : Standing f k d c n first 
         trailer =
             let here : n - m - 1 ≡ length (before s) + length renewed = omega arith in
             let new = now-at (n - m - 1) (omega arith) ∙ ap (λ (i : ℕ). getD now i []) here ∙ getD-append-add (before s) back (length renewed) [] ∙ getD-append-seam renewed recount [] [] in
-            subst (λ (rec : List ℕ). SameBut ((46 to 52) ∷ (53 to 67) ∷ (83 to 89) ∷ []) rec (trailer s)) (sym new) (recounted-same (d - 1) (c - a) (n - m) (trailer s) (pieces s .3));
+            subst (λ (rec : List ℕ). SameBut ((46 to 52) ∷ (53 to 67) ∷ (83 to 89) ∷ []) rec (trailer s)) (sym new) (recounted-same (totalsLeft v) (trailer s) (pieces s .3));
       }
 
 pub withdraw-touches : WithdrawTouches
-withdraw-touches f k d c n first m a d′ c′ n′ read found same = go (withdraw f k) (withdrawing f k) same
+withdraw-touches f k t left s read found same = go (withdraw f k) (withdrawing f k) same
   where
-    go : (x : Amended) → Withdrawing f k x → x .answer ≡ accepted d′ c′ n′ → Moved f (flowLeft x) n first m × (n′ ≡ n - m)
+    go : (x : Amended) → Withdrawing f k x → x .answer ≡ accepted left → Moved f (flowLeft x) (t .records) (s .first) (s .records) × (left .records ≡ t .records - s .records)
     go x (refuses fault) same = absurd (accepted-not-refused same)
-    go x (withdraws {d = d₀} {c = c₀} {n = n₀} {first = first₀} {m = m₀} {a = a₀} sought some) same =
+    go x (withdraws {v = g} sought some) same =
         let both = sought-read f k sought in
-        let count = accepted-same (sym (both .0) ∙ read) in
-        let place = standing-same (sym (both .1) ∙ found) in
-        let told = accepted-same same in
-        let own = sym (withdrawn-front f k d₀ c₀ n₀ first₀ m₀ a₀ sought some) in (
-          subst (λ (A : Type 0). A) (λ i. Moved f (own i) (count .2 i) (place .0 i) (place .1 i)) (moved (sought-stands f k sought)),
-          sym (told .2) ∙ (λ i. count .2 i - place .1 i),
+        let count = ap (λ (u : Totals). u .records) (accepted-same (sym (both .0) ∙ read)) in
+        let place = accepted-same (sym (both .1) ∙ found) in
+        let told = ap (λ (u : Totals). u .records) (accepted-same same) in
+        let own = sym (withdrawn-front f k g sought some) in (
+          subst (λ (A : Type 0). A) (λ i. Moved f (own i) (count i) (place i .first) (place i .records)) (moved (sought-stands f k sought)),
+          sym told ∙ (λ i. count i - place i .records),
         )
 
 pub amended-determined : AmendedDetermined

@@ -15,6 +15,7 @@ use Rattle.fields.specs.Digits.{number}
 use Rattle.records.specs.Context.{headerOf}
 use Rattle.records.specs.declared.kind.Kind.{Kind}
 use Rattle.records.specs.declared.kind.Kind.the-variants.{R14, Ef}
+use Rattle.flow.specs.declared.answer.Totals.{Totals}
 use Rattle.grammar.specs.Grammar.{Typed, Parts, kindsOf, recordsIn, opening, amountOf, codeOf, bytesOf, RightDisposition, Numbered, AllEqual, Right, Grammar}
 use Rattle.grammar.specs.Rules.{Formed, MemberRules}
 use Rattle.grammar.specs.Shape.{Disposition}
@@ -31,9 +32,13 @@ amounts ds = sum (map amountOf ds)
 abbrev pub sizes : List (List Typed) → ℕ
 sizes ds = sum (map (λ (d : List Typed). length d) ds)
 
--- the flow with other dispositions: the header as it was, and the trailer with their counts
+-- the totals of a flow with these dispositions
+abbrev pub totalsWith : List (List Typed) → Totals
+totalsWith ds = record { dispositions = length ds; cents = amounts ds; records = 2 + sizes ds }
+
+-- the flow with other dispositions: the header as it was, and the trailer with their totals
 abbrev pub leftWith : Parts → List (List Typed) → Parts
-leftWith p ds = record { header = p .header; dispositions = ds; trailer = recounted (length ds) (amounts ds) (2 + sizes ds) (p .trailer) }
+leftWith p ds = record { header = p .header; dispositions = ds; trailer = recounted (totalsWith ds) (p .trailer) }
 
 -- it keeps the rules where the dispositions do
 pub left-right :
@@ -46,8 +51,8 @@ left-right p ds r some each codes few small short =
       some = some;
       each = each;
       codes = codes;
-      trailer-formed = recounted-formed (length ds) (amounts ds) (2 + sizes ds) (p .trailer) (r .trailer-formed) few small short;
-      trailer-rules = recounted-rules (length ds) (amounts ds) (2 + sizes ds) (p .trailer) (r .trailer-formed) few small short (headerOf (p .header)) (r .trailer-rules);
+      trailer-formed = recounted-formed (totalsWith ds) (p .trailer) (r .trailer-formed) few small short;
+      trailer-rules = recounted-rules (totalsWith ds) (p .trailer) (r .trailer-formed) few small short (headerOf (p .header)) (r .trailer-rules);
     }
 
 -- its bytes are its records, joined
@@ -154,7 +159,7 @@ retold-so abi i new d small r = go d (opened-so d (r .order)) (r .order) (r .rec
         }
 
 -- a flow of the grammar with a disposition among the others
-module _ (f : List ℕ) (d c n : ℕ) (g : Grammar f d c n) (pre : List (List Typed)) (x : List Typed) (post : List (List Typed)) (split : g .parts .dispositions ≡ pre ++ (x ∷ post)) where
+module _ (f : List ℕ) (t : Totals) (g : Grammar f t) (pre : List (List Typed)) (x : List Typed) (post : List (List Typed)) (split : g .parts .dispositions ≡ pre ++ (x ∷ post)) where
   abbrev p : Parts
   p = g .parts
 
@@ -177,21 +182,20 @@ module _ (f : List ℕ) (d c n : ℕ) (g : Grammar f d c n) (pre : List (List Ty
   behind = counted-behind (RightDisposition abi) 1 pre (x ∷ post) each .1
 
   -- its counts
-  pub count-split : d ≡ length pre + suc (length post)
-  count-split = sym (g .dispositions) ∙ ap (λ (ds : List (List Typed)). length ds) split ∙ length-append pre (x ∷ post)
+  pub count-split : t .dispositions ≡ length pre + suc (length post)
+  count-split = sym (ap (λ (u : Totals). u .dispositions) (g .totals)) ∙ ap (λ (ds : List (List Typed)). length ds) split ∙ length-append pre (x ∷ post)
 
-  pub cents-split : c ≡ amounts pre + (amountOf x + amounts post)
-  cents-split = sym (g .cents) ∙ ap amounts split ∙ ap sum (map-append amountOf pre (x ∷ post)) ∙ sum-append (map amountOf pre) (map amountOf (x ∷ post))
+  pub cents-split : t .cents ≡ amounts pre + (amountOf x + amounts post)
+  cents-split = sym (ap (λ (u : Totals). u .cents) (g .totals)) ∙ ap amounts split ∙ ap sum (map-append amountOf pre (x ∷ post)) ∙ sum-append (map amountOf pre) (map amountOf (x ∷ post))
 
-  pub records-split : n ≡ 2 + (sizes pre + (length x + sizes post))
+  pub records-split : t .records ≡ 2 + (sizes pre + (length x + sizes post))
   records-split =
       let size : List Typed → ℕ = λ d. length d in
-      sym (g .records) ∙ ap (λ (ds : List (List Typed)). 2 + sizes ds) split ∙ ap (λ (l : List ℕ). 2 + sum l) (map-append size pre (x ∷ post)) ∙ ap (λ (m : ℕ). 2 + m) (sum-append (map size pre) (map size (x ∷ post)))
+      sym (ap (λ (u : Totals). u .records) (g .totals)) ∙ ap (λ (ds : List (List Typed)). 2 + sizes ds) split ∙ ap (λ (l : List ℕ). 2 + sum l) (map-append size pre (x ∷ post)) ∙ ap (λ (m : ℕ). 2 + m) (sum-append (map size pre) (map size (x ∷ post)))
 
-  pub below : (d < 10000000) × (c < 1000000000000000) × (n < 10000000)
+  pub below : (t .dispositions < 10000000) × (t .cents < 1000000000000000) × (t .records < 10000000)
   below =
-      let b = counts-below p (g .right) in
-      (omega (arith, g .dispositions), omega (arith, g .cents), omega (arith, g .records))
+      subst (λ (u : Totals). (u .dispositions < 10000000) × (u .cents < 1000000000000000) × (u .records < 10000000)) (g .totals) (counts-below p (g .right))
 
   codes : AllEqual (map codeOf pre ++ (codeOf x ∷ map codeOf post))
   codes = subst AllEqual (ap (map codeOf) split ∙ map-append codeOf pre (x ∷ post)) (g .right .codes)
@@ -203,21 +207,21 @@ module _ (f : List ℕ) (d c n : ℕ) (g : Grammar f d c n) (pre : List (List Ty
   rest-few : number-of + length post ≤ 10000000
   rest-few = omega (arith, count-split, below)
 
-  pub rest-count : length rest ≡ d - 1
+  pub rest-count : length rest ≡ t .dispositions - 1
   rest-count = length-append pre (typedFrom number-of post) ∙ omega (arith, typed-length number-of post, count-split)
 
-  pub rest-cents : amounts rest ≡ c - amountOf x
+  pub rest-cents : amounts rest ≡ t .cents - amountOf x
   rest-cents =
       ap sum (map-append amountOf pre (typedFrom number-of post)) ∙ sum-append (map amountOf pre) (map amountOf (typedFrom number-of post))
       ∙ omega (arith, ap sum (typed-kept abi number 33 13 number-of post (omega arith) rest-few behind), cents-split)
 
-  pub rest-records : 2 + sizes rest ≡ n - length x
+  pub rest-records : 2 + sizes rest ≡ t .records - length x
   rest-records =
       let size : List Typed → ℕ = λ d. length d in
       ap (λ (l : List ℕ). 2 + sum l) (map-append size pre (typedFrom number-of post)) ∙ ap (λ (m : ℕ). 2 + m) (sum-append (map size pre) (map size (typedFrom number-of post)))
       ∙ omega (arith, typed-sizes number-of post, records-split)
 
-  pub rest-right : 2 ≤ d → Right (leftWith p rest)
+  pub rest-right : 2 ≤ t .dispositions → Right (leftWith p rest)
   rest-right some =
       let b = below in
       let same : map codeOf rest ≡ map codeOf pre ++ map codeOf post = map-append codeOf pre (typedFrom number-of post) ∙ ap (λ (l : List (List ℕ)). map codeOf pre ++ l) (typed-kept abi (λ (bs : List ℕ). bs) 91 5 number-of post (omega arith) rest-few behind) in
@@ -237,15 +241,15 @@ module _ (f : List ℕ) (d c n : ℕ) (g : Grammar f d c n) (pre : List (List Ty
     retold-here : Retold abi number-of new x
     retold-here = retold-so abi number-of new x small here
 
-    pub changed-count : length changed ≡ d
+    pub changed-count : length changed ≡ t .dispositions
     changed-count = length-append pre (retold new x ∷ post) ∙ omega (arith, count-split)
 
-    pub changed-cents : amounts changed ≡ c - amountOf x + new
+    pub changed-cents : amounts changed ≡ t .cents - amountOf x + new
     changed-cents =
         ap sum (map-append amountOf pre (retold new x ∷ post)) ∙ sum-append (map amountOf pre) (map amountOf (retold new x ∷ post))
         ∙ omega (arith, retold-here .amount, cents-split)
 
-    pub changed-records : 2 + sizes changed ≡ n
+    pub changed-records : 2 + sizes changed ≡ t .records
     changed-records =
         let size : List Typed → ℕ = λ d. length d in
         ap (λ (l : List ℕ). 2 + sum l) (map-append size pre (retold new x ∷ post)) ∙ ap (λ (m : ℕ). 2 + m) (sum-append (map size pre) (map size (retold new x ∷ post)))
@@ -254,7 +258,7 @@ module _ (f : List ℕ) (d c n : ℕ) (g : Grammar f d c n) (pre : List (List Ty
     pub changed-numbered : Numbered abi 1 changed
     changed-numbered = counted-append (RightDisposition abi) 1 pre (retold new x ∷ post) before (retold-here .right, behind)
 
-    pub changed-right : c - amountOf x + new < 1000000000000000 → Right (leftWith p changed)
+    pub changed-right : t .cents - amountOf x + new < 1000000000000000 → Right (leftWith p changed)
     changed-right fits =
         let b = below in
         let same : map codeOf changed ≡ map codeOf pre ++ (codeOf x ∷ map codeOf post) = map-append codeOf pre (retold new x ∷ post) ∙ ap (λ (l : List ℕ). map codeOf pre ++ (l ∷ map codeOf post)) (retold-here .code) in

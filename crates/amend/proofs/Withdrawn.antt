@@ -20,10 +20,12 @@ use Rattle.records.specs.Kinds.{hasType}
 use Rattle.records.specs.declared.kind.Kind.the-variants.{R14}
 use Rattle.flow.specs.Find.{dispositionsIn}
 use Rattle.flow.specs.Records.{cut, recordAt}
+use Rattle.flow.specs.declared.answer.Totals.{Totals}
+use Rattle.flow.specs.declared.location.Target.{Target}
 use Rattle.flow.proofs.Cut.{cut-front, flatten-length, records-joined}
 use Rattle.flow.proofs.Dispositions.{untilTrailer}
 use Rattle.amend.specs.Amended.{written}
-use Rattle.amend.specs.Withdraw.{renumbered, numberedFrom, renumberedFrom, without, recounted, recordsLeft, withdrawn}
+use Rattle.amend.specs.Withdraw.{renumbered, numberedFrom, renumberedFrom, without, totalsLeft, recounted, countedAt, recordsLeft, withdrawn}
 use Rattle.amend.proofs.Around.{before, own, behind, trailer, records-split, pieces}
 use Rattle.amend.proofs.Kept.{over-length, recounted-length}
 use Rattle.amend.proofs.Renumbering.{renumbered-bytes}
@@ -51,24 +53,31 @@ dispositions-numbered j (d ∷ ds) opens =
     ∙ ap (λ (l : List (List ℕ)). map (renumbered i) d ++ l) (dispositions-numbered i ds (opens .1))
 
 -- a trailer gets its counts one after the other, and no byte before it or behind it differs
-module _ (d c n : ℕ) (rec : List ℕ) (whole : length rec ≡ 120) where
+module _ (t : Totals) (rec : List ℕ) (whole : length rec ≡ 120) where
   trailer-counted :
-      (xs zs : List ℕ) → length xs ≡ 120 * (n - 1)
-      → written n 83 (digits 7 n) (written n 53 (digits 15 c) (written n 46 (digits 7 d) (xs ++ (rec ++ zs)))) ≡ xs ++ (recounted d c n rec ++ zs)
+      (xs zs : List ℕ) → length xs ≡ 120 * (t .records - 1)
+      → countedAt t (xs ++ (rec ++ zs)) ≡ xs ++ (recounted t rec ++ zs)
   trailer-counted xs zs place =
-      let at = 120 * (n - 1) in
-      let one = put 45 (digits 7 d) rec in
-      let two = put 52 (digits 15 c) one in
-      let one-length : length one ≡ 120 = over-length 45 7 d rec whole (omega arith) in
-      let two-length : length two ≡ 120 = over-length 52 15 c one one-length (omega arith) in
-      ap (λ (l : List ℕ). written n 83 (digits 7 n) (written n 53 (digits 15 c) l)) (put-between at 45 xs rec zs (digits 7 d) place (omega (arith, written-length 7 d)))
-      ∙ ap (written n 83 (digits 7 n)) (put-between at 52 xs one zs (digits 15 c) place (omega (arith, written-length 15 c)))
-      ∙ put-between at 82 xs two zs (digits 7 n) place (omega (arith, written-length 7 n))
+      let at = 120 * (t .records - 1) in
+      let one = put 45 (digits 7 (t .dispositions)) rec in
+      let two = put 52 (digits 15 (t .cents)) one in
+      let one-length : length one ≡ 120 = over-length 45 7 (t .dispositions) rec whole (omega arith) in
+      let two-length : length two ≡ 120 = over-length 52 15 (t .cents) one one-length (omega arith) in
+      ap (λ (l : List ℕ). written (t .records) 83 (digits 7 (t .records)) (written (t .records) 53 (digits 15 (t .cents)) l)) (put-between at 45 xs rec zs (digits 7 (t .dispositions)) place (omega (arith, written-length 7 (t .dispositions))))
+      ∙ ap (written (t .records) 83 (digits 7 (t .records))) (put-between at 52 xs one zs (digits 15 (t .cents)) place (omega (arith, written-length 15 (t .cents))))
+      ∙ put-between at 82 xs two zs (digits 7 (t .records)) place (omega (arith, written-length 7 (t .records)))
 
 -- the bytes of the records around the disposition
-module _ {f : List ℕ} {k d c n first m a : ℕ} (s : Standing f k d c n first m a) where
+module _ {f : List ℕ} {k : ℕ} {v : Target} (s : Standing f k v) where
+  -- how many records there are, and how many go
+  abbrev n : ℕ
+  n = v .totals .records
+
+  abbrev m : ℕ
+  m = v .stand .records
+
   abbrev at : ℕ
-  at = first - 1
+  at = v .stand .first - 1
 
   abbrev left : ℕ
   left = n - m
@@ -120,53 +129,52 @@ module _ {f : List ℕ} {k d c n first m a : ℕ} (s : Standing f k d c n first 
       ap (λ (l : List (List ℕ)). put (120 * at) (flatten (renumberedFrom (k - 1) l)) (flatten (before s) ++ rest)) recs ∙ put-at (120 * at) (flatten (before s)) (flatten (behind s)) ((trailer s) ++ over) renewed before-length renewed-length
 
   -- then the trailer its counts, and the rest becomes blanks
-  module _ (d′ c′ : ℕ) where
-    abbrev counts : List ℕ
-    counts = recounted d′ c′ left (trailer s)
+  abbrev counts : List ℕ
+  counts = recounted (totalsLeft v) (trailer s)
 
-    front-length : length (flatten (before s) ++ renewed) ≡ 120 * (left - 1)
-    front-length = length-append (flatten (before s)) renewed ∙ omega (arith, before-length, sym renewed-length, behind-length, behind-count, s .starts, s .ends)
+  front-length : length (flatten (before s) ++ renewed) ≡ 120 * (left - 1)
+  front-length = length-append (flatten (before s)) renewed ∙ omega (arith, before-length, sym renewed-length, behind-length, behind-count, s .starts, s .ends)
 
-    counted :
-        written left 83 (digits 7 left) (written left 53 (digits 15 c′) (written left 46 (digits 7 d′) (flatten (before s) ++ (renewed ++ ((trailer s) ++ over)))))
-        ≡ (flatten (before s) ++ renewed) ++ (counts ++ over)
-    counted =
-        ap (λ (l : List ℕ). written left 83 (digits 7 left) (written left 53 (digits 15 c′) (written left 46 (digits 7 d′) l))) (sym (append-assoc (flatten (before s)) renewed ((trailer s) ++ over)))
-        ∙ trailer-counted d′ c′ left (trailer s) (pieces s .3) (flatten (before s) ++ renewed) over front-length
+  counted :
+      countedAt (totalsLeft v) (flatten (before s) ++ (renewed ++ ((trailer s) ++ over)))
+      ≡ (flatten (before s) ++ renewed) ++ (counts ++ over)
+  counted =
+      ap (countedAt (totalsLeft v)) (sym (append-assoc (flatten (before s)) renewed ((trailer s) ++ over)))
+      ∙ trailer-counted (totalsLeft v) (trailer s) (pieces s .3) (flatten (before s) ++ renewed) over front-length
 
-    -- which is the flow that is meant
-    joined : flatten (recordsLeft f k (n - 1) d′ c′ left) ≡ (flatten (before s) ++ renewed) ++ counts
-    unfolding flatten
-    joined =
-        let ds = dispositionsIn f in
-        let some = s .some in
-        let one : suc (k - 1) ≡ k = omega arith in
-        let opens : All (Opens (hasType R14)) (drop k ds) = all-behind (Opens (hasType R14)) (take k ds) (drop k ds) (subst (All (Opens (hasType R14))) (sym (take-append-drop k ds)) (groups-open (hasType R14) (untilTrailer f))) in
-        let later : flatten (numberedFrom k (drop k ds)) ≡ renumberedFrom (k - 1) (behind s) = sym (dispositions-numbered (k - 1) (drop k ds) opens ∙ ap (λ (i : ℕ). flatten (numberedFrom i (drop k ds))) one) in
-        let middle : flatten (without k ds) ≡ flatten (take (k - 1) ds) ++ renumberedFrom (k - 1) (behind s) = flatten-append (take (k - 1) ds) (numberedFrom k (drop k ds)) ∙ ap (λ (l : List (List ℕ)). flatten (take (k - 1) ds) ++ l) later in
-        ap (λ (l : List (List ℕ)). flatten ((recordAt 0 f ∷ l) ++ (counts ∷ []))) middle ∙ flatten-append ((before s) ++ renumberedFrom (k - 1) (behind s)) (counts ∷ [])
-        ∙ (λ i. flatten-append (before s) (renumberedFrom (k - 1) (behind s)) i ++ append-nil counts i)
+  -- which is the flow that is meant
+  joined : flatten (recordsLeft f k n (totalsLeft v)) ≡ (flatten (before s) ++ renewed) ++ counts
+  unfolding flatten
+  joined =
+      let ds = dispositionsIn f in
+      let some = s .some in
+      let one : suc (k - 1) ≡ k = omega arith in
+      let opens : All (Opens (hasType R14)) (drop k ds) = all-behind (Opens (hasType R14)) (take k ds) (drop k ds) (subst (All (Opens (hasType R14))) (sym (take-append-drop k ds)) (groups-open (hasType R14) (untilTrailer f))) in
+      let later : flatten (numberedFrom k (drop k ds)) ≡ renumberedFrom (k - 1) (behind s) = sym (dispositions-numbered (k - 1) (drop k ds) opens ∙ ap (λ (i : ℕ). flatten (numberedFrom i (drop k ds))) one) in
+      let middle : flatten (without k ds) ≡ flatten (take (k - 1) ds) ++ renumberedFrom (k - 1) (behind s) = flatten-append (take (k - 1) ds) (numberedFrom k (drop k ds)) ∙ ap (λ (l : List (List ℕ)). flatten (take (k - 1) ds) ++ l) later in
+      ap (λ (l : List (List ℕ)). flatten ((recordAt 0 f ∷ l) ++ (counts ∷ []))) middle ∙ flatten-append ((before s) ++ renumberedFrom (k - 1) (behind s)) (counts ∷ [])
+      ∙ (λ i. flatten-append (before s) (renumberedFrom (k - 1) (behind s)) i ++ append-nil counts i)
 
-    blanked : let all = (flatten (before s) ++ renewed) ++ (counts ++ over) in
-        take (120 * left) all ++ replicate (length all - 120 * left) 32 ≡ withdrawn f k (n - 1) d′ c′ left
-    blanked =
-        let front = flatten (before s) ++ renewed in
-        let end = recounted-length d′ c′ left (trailer s) (pieces s .3) in
-        let ends = s .ends in
-        let starts = s .starts in
-        let through : length (front ++ counts) ≡ 120 * left = length-append front counts ∙ omega (arith, front-length) in
-        let kept : take (120 * left) (front ++ (counts ++ over)) ≡ front ++ counts = ap (take (120 * left)) (sym (append-assoc front counts over)) ∙ take-at (front ++ counts) over (120 * left) through in
-        let tail : length over ≡ length f - 120 * left = length-drop (120 * at + length (flatten (behind s) ++ (trailer s))) f ∙ omega (arith, length-append (flatten (behind s)) (trailer s), pieces s .3, behind-length, behind-count) in
-        let size : length (front ++ (counts ++ over)) ≡ length f = length-append front (counts ++ over) ∙ omega (arith, length-append counts over, front-length, s .size) in
-        (λ i. kept i ++ replicate (size i - 120 * left) 32) ∙ ap (λ (l : List ℕ). l ++ replicate (length f - 120 * left) 32) (sym joined)
+  blanked : let all = (flatten (before s) ++ renewed) ++ (counts ++ over) in
+      take (120 * left) all ++ replicate (length all - 120 * left) 32 ≡ withdrawn f k n (totalsLeft v)
+  blanked =
+      let front = flatten (before s) ++ renewed in
+      let end = recounted-length (totalsLeft v) (trailer s) (pieces s .3) in
+      let ends = s .ends in
+      let starts = s .starts in
+      let through : length (front ++ counts) ≡ 120 * left = length-append front counts ∙ omega (arith, front-length) in
+      let kept : take (120 * left) (front ++ (counts ++ over)) ≡ front ++ counts = ap (take (120 * left)) (sym (append-assoc front counts over)) ∙ take-at (front ++ counts) over (120 * left) through in
+      let tail : length over ≡ length f - 120 * left = length-drop (120 * at + length (flatten (behind s) ++ (trailer s))) f ∙ omega (arith, length-append (flatten (behind s)) (trailer s), pieces s .3, behind-length, behind-count) in
+      let size : length (front ++ (counts ++ over)) ≡ length f = length-append front (counts ++ over) ∙ omega (arith, length-append counts over, front-length, s .size) in
+      (λ i. kept i ++ replicate (size i - 120 * left) 32) ∙ ap (λ (l : List ℕ). l ++ replicate (length f - 120 * left) 32) (sym joined)
 
-    pub withdrawn-so :
-        (f₁ f₂ f₃ f₄ : List ℕ) → f₁ ≡ put (120 * at) (drop (120 * (at + m)) f) f
-        → f₂ ≡ put (120 * at) (flatten (renumberedFrom (k - 1) (cut (left - 1 - at) (drop (120 * at) f₁)))) f₁
-        → f₃ ≡ written left 83 (digits 7 left) (written left 53 (digits 15 c′) (written left 46 (digits 7 d′) f₂))
-        → f₄ ≡ take (120 * left) f₃ ++ replicate (length f₃ - 120 * left) 32 → f₄ ≡ withdrawn f k (n - 1) d′ c′ left
-    withdrawn-so f₁ f₂ f₃ f₄ first-step second-step third-step last-step =
-        let one = first-step ∙ moved in
-        let two = second-step ∙ ap (λ (l : List ℕ). put (120 * at) (flatten (renumberedFrom (k - 1) (cut (left - 1 - at) (drop (120 * at) l)))) l) one ∙ numbered in
-        let three = third-step ∙ ap (λ (l : List ℕ). written left 83 (digits 7 left) (written left 53 (digits 15 c′) (written left 46 (digits 7 d′) l))) two ∙ counted in
-        last-step ∙ ap (λ (l : List ℕ). take (120 * left) l ++ replicate (length l - 120 * left) 32) three ∙ blanked
+  pub withdrawn-so :
+      (f₁ f₂ f₃ f₄ : List ℕ) → f₁ ≡ put (120 * at) (drop (120 * (at + m)) f) f
+      → f₂ ≡ put (120 * at) (flatten (renumberedFrom (k - 1) (cut (left - 1 - at) (drop (120 * at) f₁)))) f₁
+      → f₃ ≡ countedAt (totalsLeft v) f₂
+      → f₄ ≡ take (120 * left) f₃ ++ replicate (length f₃ - 120 * left) 32 → f₄ ≡ withdrawn f k n (totalsLeft v)
+  withdrawn-so f₁ f₂ f₃ f₄ first-step second-step third-step last-step =
+      let one = first-step ∙ moved in
+      let two = second-step ∙ ap (λ (l : List ℕ). put (120 * at) (flatten (renumberedFrom (k - 1) (cut (left - 1 - at) (drop (120 * at) l)))) l) one ∙ numbered in
+      let three = third-step ∙ ap (countedAt (totalsLeft v)) two ∙ counted in
+      last-step ∙ ap (λ (l : List ℕ). take (120 * left) l ++ replicate (length l - 120 * left) 32) three ∙ blanked

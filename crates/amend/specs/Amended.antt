@@ -5,10 +5,12 @@ use lib.ListN.{length}
 use Rattle.sequences.specs.Part.{put}
 use Rattle.flow.specs.Verdict.{Verdict, refused, verdict}
 use Rattle.flow.specs.declared.answer.Answer.{Answer}
+use Rattle.flow.specs.declared.answer.Refusal.{Refusal}
+use Rattle.flow.specs.declared.answer.Totals.{Totals}
 
 -- the answer, the length of the flow left, and the caller's bytes afterwards
 pub record Amended : Type 0 where
-  pub answer : Verdict
+  pub answer : Verdict Totals
   pub size : ℕ
   pub bytes : List ℕ
 
@@ -17,8 +19,8 @@ abbrev pub amended : Answer → ℕ → List ℕ → Amended
 amended r size bytes = record { answer = verdict r; size = size; bytes = bytes }
 
 -- "after a refusal all lent memory is as before", and the next call is lent as many bytes
-abbrev pub unchanged : ℕ → ℕ → ℕ → List ℕ → Amended
-unchanged n r p f = record { answer = refused n r p; size = length f; bytes = f }
+abbrev pub unchanged : Refusal → List ℕ → Amended
+unchanged x f = record { answer = refused x; size = length f; bytes = f }
 
 -- a record with bytes written over it from position p on
 abbrev pub writtenAt : ℕ → List ℕ → List ℕ → List ℕ

@@ -6,25 +6,33 @@ use mathlib.Core.List.{List}
 use lib.Dec.{leb}
 use lib.ListN.{length}
 use Rattle.fields.specs.Digits.{digits}
-use Rattle.flow.specs.Seek.{Target, target, refused, seek}
-use Rattle.flow.specs.Verdict.{accepted}
+use Rattle.flow.specs.Seek.{seek}
+use Rattle.flow.specs.Verdict.{Verdict, accepted, refused, ofCall}
+use Rattle.flow.specs.declared.answer.Totals.{Totals}
+use Rattle.flow.specs.declared.location.Target.{Target}
 use Rattle.amend.specs.Amended.{Amended, unchanged, written}
 
--- the flow with the new amount in record `first`, a 14, and the new total in record n, the trailer
-abbrev pub changed : ℕ → ℕ → ℕ → ℕ → List ℕ → List ℕ
-changed first new n total f = written n 53 (digits 15 total) (written first 34 (digits 13 new) f)
+-- the totals with the new amount for the one that stood there
+abbrev pub totalsChanged : Target → ℕ → Totals
+totalsChanged v new =
+    let t = v .totals in
+    record { dispositions = t .dispositions; cents = t .cents - v .stand .cents + new; records = t .records }
+
+-- the flow with the new amount in record `first`, a 14, and the total in its last record, the trailer
+abbrev pub changed : ℕ → ℕ → Totals → List ℕ → List ℕ
+changed first new t f = written (t .records) 53 (digits 15 (t .cents)) (written first 34 (digits 13 new) f)
 
 -- disposition k stands in the flow: 16, then 17, then the change
-abbrev pub changeAt : ℕ → ℕ → ℕ → ℕ → ℕ → ℕ → List ℕ → Amended
-changeAt d c n first a new f =
-    let total = c - a + new in
+abbrev pub changeAt : Target → ℕ → List ℕ → Amended
+changeAt v new f =
+    let t = totalsChanged v new in
     cond (leb new 9999999999999)
-    (cond (leb total 999999999999999) (record { answer = accepted d total n; size = length f; bytes = changed first new n total f }) (unchanged 17 0 0 f))
-    (unchanged 16 0 0 f)
+    (cond (leb (t .cents) 999999999999999) (record { answer = accepted t; size = length f; bytes = changed (v .stand .first) new t f }) (unchanged (ofCall 17) f))
+    (unchanged (ofCall 16) f)
 
-abbrev pub changeFound : Target → ℕ → List ℕ → Amended
-changeFound (target d c n first m a) new f = changeAt d c n first a new f
-changeFound (refused e r p) new f = unchanged e r p f
+abbrev pub changeFound : Verdict Target → ℕ → List ℕ → Amended
+changeFound (accepted v) new f = changeAt v new f
+changeFound (refused x) new f = unchanged x f
 
 unfoldable pub change : List ℕ → ℕ → ℕ → Amended
 change f k new = changeFound (seek f k) new f

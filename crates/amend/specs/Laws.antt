@@ -5,36 +5,39 @@ use mathlib.Core.Logic.{_↔_}
 use mathlib.Core.Path.{_≡_}
 use lib.ListN.{length, take, getD, replicate}
 use Rattle.records.specs.Field.{Span, _to_, byteAt}
-use Rattle.flow.specs.Find.{standing, IsNumber, find}
+use Rattle.flow.specs.Find.{IsNumber, find}
 use Rattle.flow.specs.Judge.{judge}
 use Rattle.flow.specs.Records.{recordAt}
-use Rattle.flow.specs.Verdict.{accepted, refused}
+use Rattle.flow.specs.Verdict.{accepted, refused, ofCall}
 use Rattle.amend.specs.Amended.{Amended, amended}
 use Rattle.amend.specs.Change.{change}
 use Rattle.amend.specs.Withdraw.{withdraw}
 use Rattle.flow.specs.declared.answer.Answer.{Answer}
+use Rattle.flow.specs.declared.answer.Refusal.{Refusal}
+use Rattle.flow.specs.declared.answer.Totals.{Totals}
+use Rattle.flow.specs.declared.location.Stand.{Stand}
 
 -- document 01's refusals of a change, each where those before it do not apply
-pub data ChangeFault (f : List ℕ) (k new : ℕ) : ℕ → ℕ → ℕ → Type 0 where
-  not-read : (e r p : ℕ) → judge f ≡ refused e r p → ChangeFault f k new e r p
-  no-disposition : (d c n : ℕ) → judge f ≡ accepted d c n → ¬ IsNumber k d → ChangeFault f k new 15 0 0
-  amount-too-large : (d c n : ℕ) → judge f ≡ accepted d c n → IsNumber k d → 9999999999999 < new → ChangeFault f k new 16 0 0
+pub data ChangeFault (f : List ℕ) (k new : ℕ) : Refusal → Type 0 where
+  not-read : (x : Refusal) → judge f ≡ refused x → ChangeFault f k new x
+  no-disposition : (t : Totals) → judge f ≡ accepted t → ¬ IsNumber k (t .dispositions) → ChangeFault f k new (ofCall 15)
+  amount-too-large : (t : Totals) → judge f ≡ accepted t → IsNumber k (t .dispositions) → 9999999999999 < new → ChangeFault f k new (ofCall 16)
   -- the new total is the old one less the old amount, plus the new one
   total-too-large :
-      (d c n first m a : ℕ) → judge f ≡ accepted d c n → find f k ≡ standing first m a → new ≤ 9999999999999 → 999999999999999 < c - a + new
-      → ChangeFault f k new 17 0 0
+      (t : Totals) (s : Stand) → judge f ≡ accepted t → find f k ≡ accepted s → new ≤ 9999999999999 → 999999999999999 < t .cents - s .cents + new
+      → ChangeFault f k new (ofCall 17)
 
 abbrev pub ChangeRefused : Type 0
-ChangeRefused = (f : List ℕ) (k new e r p : ℕ) → (change f k new .answer ≡ refused e r p) ↔ ChangeFault f k new e r p
+ChangeRefused = (f : List ℕ) (k new : ℕ) (x : Refusal) → (change f k new .answer ≡ refused x) ↔ ChangeFault f k new x
 
 -- and of a withdrawal
-pub data WithdrawFault (f : List ℕ) (k : ℕ) : ℕ → ℕ → ℕ → Type 0 where
-  not-read : (e r p : ℕ) → judge f ≡ refused e r p → WithdrawFault f k e r p
-  no-disposition : (d c n : ℕ) → judge f ≡ accepted d c n → ¬ IsNumber k d → WithdrawFault f k 15 0 0
-  only-one : (c n : ℕ) → judge f ≡ accepted 1 c n → k ≡ 1 → WithdrawFault f k 18 0 0
+pub data WithdrawFault (f : List ℕ) (k : ℕ) : Refusal → Type 0 where
+  not-read : (x : Refusal) → judge f ≡ refused x → WithdrawFault f k x
+  no-disposition : (t : Totals) → judge f ≡ accepted t → ¬ IsNumber k (t .dispositions) → WithdrawFault f k (ofCall 15)
+  only-one : (t : Totals) → judge f ≡ accepted t → t .dispositions ≡ 1 → k ≡ 1 → WithdrawFault f k (ofCall 18)
 
 abbrev pub WithdrawRefused : Type 0
-WithdrawRefused = (f : List ℕ) (k e r p : ℕ) → (withdraw f k .answer ≡ refused e r p) ↔ WithdrawFault f k e r p
+WithdrawRefused = (f : List ℕ) (k : ℕ) (x : Refusal) → (withdraw f k .answer ≡ refused x) ↔ WithdrawFault f k x
 
 -- a refused call leaves every byte as it was, and the next is lent as many
 abbrev pub Untouched : List ℕ → Amended → Type 0
@@ -42,25 +45,25 @@ Untouched f a = (a .bytes ≡ f) × (a .size ≡ length f)
 
 abbrev pub RefusedUntouched : Type 0
 RefusedUntouched =
-    (f : List ℕ) (k e r p : ℕ)
-    → ((new : ℕ) → change f k new .answer ≡ refused e r p → Untouched f (change f k new))
-    × (withdraw f k .answer ≡ refused e r p → Untouched f (withdraw f k))
+    (f : List ℕ) (k : ℕ) (x : Refusal)
+    → ((new : ℕ) → change f k new .answer ≡ refused x → Untouched f (change f k new))
+    × (withdraw f k .answer ≡ refused x → Untouched f (withdraw f k))
 
 -- the flow that an amendment leaves: as many of the bytes as its length says
 abbrev pub flowLeft : Amended → List ℕ
 flowLeft a = take (a .size) (a .bytes)
 
--- an accepted amendment answers with the three numbers of the flow left, which the reader accepts; behind it the memory is blank
-pub record Leaves (f : List ℕ) (a : Amended) (d c n : ℕ) : Type 0 where
-  pub read : judge (flowLeft a) ≡ accepted d c n
+-- an accepted amendment answers with the totals of the flow left, which the reader accepts; behind it the memory is blank
+pub record Leaves (f : List ℕ) (a : Amended) (t : Totals) : Type 0 where
+  pub read : judge (flowLeft a) ≡ accepted t
   pub within : a .size ≤ length f
   pub memory : a .bytes ≡ flowLeft a ++ replicate (length f - a .size) 32
 
 abbrev pub ChangeLeaves : Type 0
-ChangeLeaves = (f : List ℕ) (k new d c n : ℕ) → change f k new .answer ≡ accepted d c n → Leaves f (change f k new) d c n
+ChangeLeaves = (f : List ℕ) (k new : ℕ) (t : Totals) → change f k new .answer ≡ accepted t → Leaves f (change f k new) t
 
 abbrev pub WithdrawLeaves : Type 0
-WithdrawLeaves = (f : List ℕ) (k d c n : ℕ) → withdraw f k .answer ≡ accepted d c n → Leaves f (withdraw f k) d c n
+WithdrawLeaves = (f : List ℕ) (k : ℕ) (t : Totals) → withdraw f k .answer ≡ accepted t → Leaves f (withdraw f k) t
 
 -- index i of a flow lies in positions p to q of record r
 pub record Lies (i r p q : ℕ) : Type 0 where
@@ -74,7 +77,8 @@ pub record AmountOnly (f left : List ℕ) (n first : ℕ) : Type 0 where
 
 abbrev pub ChangeTouches : Type 0
 ChangeTouches =
-    (f : List ℕ) (k new d c n first m a : ℕ) → judge f ≡ accepted d c n → find f k ≡ standing first m a → AmountOnly f (change f k new .bytes) n first
+    (f : List ℕ) (k new : ℕ) (t : Totals) (s : Stand) → judge f ≡ accepted t → find f k ≡ accepted s
+    → AmountOnly f (change f k new .bytes) (t .records) (s .first)
 
 -- position p lies outside of spans
 abbrev pub Outside : List Span → ℕ → Type 0
@@ -96,8 +100,8 @@ pub record Moved (f left : List ℕ) (n first m : ℕ) : Type 0 where
 
 abbrev pub WithdrawTouches : Type 0
 WithdrawTouches =
-    (f : List ℕ) (k d c n first m a d′ c′ n′ : ℕ) → judge f ≡ accepted d c n → find f k ≡ standing first m a → withdraw f k .answer ≡ accepted d′ c′ n′
-    → Moved f (flowLeft (withdraw f k)) n first m × (n′ ≡ n - m)
+    (f : List ℕ) (k : ℕ) (t left : Totals) (s : Stand) → judge f ≡ accepted t → find f k ≡ accepted s → withdraw f k .answer ≡ accepted left
+    → Moved f (flowLeft (withdraw f k)) (t .records) (s .first) (s .records) × (left .records ≡ t .records - s .records)
 
 -- what an answer, a length and bytes stand for on paper determines them
 abbrev pub AmendedDetermined : Type 0

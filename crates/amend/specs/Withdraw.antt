@@ -11,9 +11,11 @@ use Rattle.records.specs.Kinds.{hasType}
 use Rattle.records.specs.declared.kind.Kind.the-variants.{R14}
 use Rattle.flow.specs.Find.{dispositionsIn}
 use Rattle.flow.specs.Records.{recordAt}
-use Rattle.flow.specs.Seek.{Target, target, refused, seek}
-use Rattle.flow.specs.Verdict.{accepted}
-use Rattle.amend.specs.Amended.{Amended, unchanged, writtenAt}
+use Rattle.flow.specs.Seek.{seek}
+use Rattle.flow.specs.Verdict.{Verdict, accepted, refused, ofCall}
+use Rattle.flow.specs.declared.answer.Totals.{Totals}
+use Rattle.flow.specs.declared.location.Target.{Target}
+use Rattle.amend.specs.Amended.{Amended, unchanged, writtenAt, written}
 
 -- a record with another number at 4-10
 abbrev pub renumbered : ℕ → List ℕ → List ℕ
@@ -33,29 +35,41 @@ unfoldable pub renumberedFrom : ℕ → List (List ℕ) → List (List ℕ)
 renumberedFrom j [] = []
 renumberedFrom j (rec ∷ recs) = let i = j + cond (hasType R14 rec) 1 0 in renumbered i rec ∷ renumberedFrom i recs
 
--- the trailer with other counts: 46-52, 53-67 and 83-89
-abbrev pub recounted : ℕ → ℕ → ℕ → List ℕ → List ℕ
-recounted d c n rec = writtenAt 83 (digits 7 n) (writtenAt 53 (digits 15 c) (writtenAt 46 (digits 7 d) rec))
+-- the totals without disposition k: it, its cents and its records go
+abbrev pub totalsLeft : Target → Totals
+totalsLeft v =
+    let t = v .totals in
+    record { dispositions = t .dispositions - 1; cents = t .cents - v .stand .cents; records = t .records - v .stand .records }
 
--- the records that are left, of a flow with a trailer at index t: the header, the other dispositions, and the trailer with the counts d, c
--- and n
-abbrev pub recordsLeft : List ℕ → ℕ → ℕ → ℕ → ℕ → ℕ → List (List ℕ)
-recordsLeft f k t d c n = (recordAt 0 f ∷ flatten (without k (dispositionsIn f))) ++ (recounted d c n (recordAt t f) ∷ [])
+-- the trailer with other totals: 46-52, 53-67 and 83-89
+abbrev pub recounted : Totals → List ℕ → List ℕ
+recounted t rec = writtenAt 83 (digits 7 (t .records)) (writtenAt 53 (digits 15 (t .cents)) (writtenAt 46 (digits 7 (t .dispositions)) rec))
+
+-- for the contract of a private function: a flow of t's records with these totals in the last of them
+abbrev pub countedAt : Totals → List ℕ → List ℕ
+countedAt t f =
+    let n = t .records in
+    written n 83 (digits 7 n) (written n 53 (digits 15 (t .cents)) (written n 46 (digits 7 (t .dispositions)) f))
+
+-- the records that are left, of a flow of n records: the header, the other dispositions, and the trailer with the totals t
+abbrev pub recordsLeft : List ℕ → ℕ → ℕ → Totals → List (List ℕ)
+recordsLeft f k n t = (recordAt 0 f ∷ flatten (without k (dispositionsIn f))) ++ (recounted t (recordAt (n - 1) f) ∷ [])
 
 -- "the freed bytes at the end of the lent memory become blanks"
-abbrev pub withdrawn : List ℕ → ℕ → ℕ → ℕ → ℕ → ℕ → List ℕ
-withdrawn f k t d c n = flatten (recordsLeft f k t d c n) ++ replicate (length f - 120 * n) 32
+abbrev pub withdrawn : List ℕ → ℕ → ℕ → Totals → List ℕ
+withdrawn f k n t = flatten (recordsLeft f k n t) ++ replicate (length f - 120 * t .records) 32
 
--- disposition k, of m records and a cents, stands in the flow: 18, then the withdrawal
-abbrev pub withdrawAt : ℕ → ℕ → ℕ → ℕ → ℕ → ℕ → List ℕ → Amended
-withdrawAt k d c n m a f =
-    cond (ltb 1 d)
-    (record { answer = accepted (d - 1) (c - a) (n - m); size = 120 * (n - m); bytes = withdrawn f k (n - 1) (d - 1) (c - a) (n - m) })
-    (unchanged 18 0 0 f)
+-- disposition k stands in the flow: 18, then the withdrawal
+abbrev pub withdrawAt : ℕ → Target → List ℕ → Amended
+withdrawAt k v f =
+    let t = totalsLeft v in
+    cond (ltb 1 (v .totals .dispositions))
+    (record { answer = accepted t; size = 120 * t .records; bytes = withdrawn f k (v .totals .records) t })
+    (unchanged (ofCall 18) f)
 
-abbrev pub withdrawFound : Target → ℕ → List ℕ → Amended
-withdrawFound (target d c n first m a) k f = withdrawAt k d c n m a f
-withdrawFound (refused e r p) k f = unchanged e r p f
+abbrev pub withdrawFound : Verdict Target → ℕ → List ℕ → Amended
+withdrawFound (accepted v) k f = withdrawAt k v f
+withdrawFound (refused x) k f = unchanged x f
 
 unfoldable pub withdraw : List ℕ → ℕ → Amended
 withdraw f k = withdrawFound (seek f k) k f

@@ -1,13 +1,12 @@
 // Another amount for a disposition.
 ghost use mathlib.Core.Path.{_≡_};
 ghost use lib.ListN.{length};
-ghost use Rattle.flow.specs.Verdict.{verdict};
-ghost use Rattle.flow.specs.Verdict.{refused as Verdict·refused};
 ghost use Rattle.amend.specs.Amended.{amended};
 ghost use Rattle.amend.specs.Change.{change as Change·change};
 use crate::digits::place_number;
 use flow::Answer;
 use flow::Sought;
+use flow::Totals;
 
 // The most cents of a disposition, thirteen digits, and of a flow, fifteen.
 const MOST_CENTS: u64 = 9999999999999;
@@ -27,48 +26,24 @@ pub fn change(flow: &mut [u8], k: u64, cents: u64) -> Answer
     ensures { λ r. ⌜ amended r (length (now (flow .entry))) (now (flow .exit)) ≡ Change·change (now (flow .entry)) k cents ⌝ }
 {
     match flow::seek(flow, k) {
-        Sought::Refused {
-            number,
-            record,
-            position,
-        } => Answer::Refused {
-            number,
-            record,
-            position,
-        },
-        Sought::At {
-            dispositions,
-            cents: before,
-            records,
-            first,
-            size: _,
-            amount,
-        } => {
+        Sought::Refused(refusal) => Answer::Refused(refusal),
+        Sought::At(target) => {
             if MOST_CENTS < cents {
-                return refused(AMOUNT_TOO_LARGE);
+                return Answer::Refused(flow::refusal_of_call(AMOUNT_TOO_LARGE));
             }
-            let total = before - amount + cents;
-            if MOST_TOTAL < total {
-                return refused(TOTAL_TOO_LARGE);
+            let stand = target.stand;
+            let before = target.totals;
+            let totals = Totals {
+                dispositions: before.dispositions,
+                cents: before.cents - stand.cents + cents,
+                records: before.records,
+            };
+            if MOST_TOTAL < totals.cents {
+                return Answer::Refused(flow::refusal_of_call(TOTAL_TOO_LARGE));
             }
-            place_number(flow, first, 34, 46, cents);
-            place_number(flow, records, 53, 67, total);
-            Answer::Accepted {
-                dispositions,
-                cents: total,
-                records,
-            }
+            place_number(flow, stand.first, 34, 46, cents);
+            place_number(flow, totals.records, 53, 67, totals.cents);
+            Answer::Accepted(totals)
         }
-    }
-}
-
-// Refused by a number that stands for the call and no record of the flow.
-fn refused(number: u64) -> Answer
-    ensures { λ r. ⌜ verdict r ≡ Verdict·refused number 0 0 ⌝ }
-{
-    Answer::Refused {
-        number,
-        record: 0,
-        position: 0,
     }
 }

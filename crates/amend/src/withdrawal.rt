@@ -4,23 +4,24 @@ ghost use mathlib.Core.List.{_++_, flatten};
 ghost use mathlib.Core.Path.{_≡_};
 ghost use lib.ListN.{length, take, drop, replicate};
 ghost use Rattle.sequences.specs.Part.{put};
-ghost use Rattle.fields.specs.Digits.{digits};
 ghost use Rattle.flow.specs.Records.{cut};
 ghost use Rattle.flow.specs.Verdict.{verdict};
 ghost use Rattle.flow.specs.Verdict.{refused as Verdict·refused};
-ghost use Rattle.amend.specs.Amended.{amended, written};
-ghost use Rattle.amend.specs.Withdraw.{renumberedFrom};
+ghost use Rattle.amend.specs.Amended.{amended};
+ghost use Rattle.amend.specs.Withdraw.{renumberedFrom, countedAt};
 ghost use Rattle.amend.specs.Withdraw.{withdraw as Withdraw·withdraw};
 use crate::digits::index;
 use crate::digits::place_number;
 use crate::digits::place_seven;
 use crate::digits::seven_digits;
 use flow::Answer;
+use flow::Refusal;
 use flow::Sought;
+use flow::Totals;
 use records::Kind;
 
-// What a withdrawal answers: the three numbers of the flow left and its length; or the refusal, and
-// the length that it was lent.
+// What a withdrawal answers: the totals of the flow left and its length; or the refusal, and the
+// length that it was lent.
 pub struct Withdrawn {
     pub answer: Answer,
     pub length: u64,
@@ -37,49 +38,36 @@ pub fn withdraw(flow: &mut [u8], k: u64) -> Withdrawn
     ensures { λ r. ⌜ amended (r .answer) (r .length) (now (flow .exit)) ≡ Withdraw·withdraw (now (flow .entry)) k ⌝ }
 {
     match flow::seek(flow, k) {
-        Sought::Refused {
-            number,
-            record,
-            position,
-        } => refused(number, record, position, flow.len()),
-        Sought::At {
-            dispositions,
-            cents,
-            records,
-            first,
-            size,
-            amount,
-        } => {
-            if dispositions <= 1 {
-                return refused(ONLY_DISPOSITION, 0, 0, flow.len());
+        Sought::Refused(refusal) => refused(refusal, flow.len()),
+        Sought::At(target) => {
+            let stand = target.stand;
+            let before = target.totals;
+            if before.dispositions <= 1 {
+                return refused(flow::refusal_of_call(ONLY_DISPOSITION), flow.len());
             }
-            let left = records - size;
-            let at = index(first) - 1;
-            move_up(flow, 120 * at, 120 * (at + index(size)));
-            renumber(flow, at, index(left) - 1, k - 1);
-            recount(flow, left, dispositions - 1, cents - amount);
-            blank(flow, 120 * index(left));
+            let totals = Totals {
+                dispositions: before.dispositions - 1,
+                cents: before.cents - stand.cents,
+                records: before.records - stand.records,
+            };
+            let at = index(stand.first) - 1;
+            move_up(flow, 120 * at, 120 * (at + index(stand.records)));
+            renumber(flow, at, index(totals.records) - 1, k - 1);
+            recount(flow, totals);
+            blank(flow, 120 * index(totals.records));
             Withdrawn {
-                answer: Answer::Accepted {
-                    dispositions: dispositions - 1,
-                    cents: cents - amount,
-                    records: left,
-                },
-                length: 120 * left,
+                answer: Answer::Accepted(totals),
+                length: 120 * totals.records,
             }
         }
     }
 }
 
-fn refused(number: u64, record: u64, position: u64, length: usize) -> Withdrawn
-    ensures { λ r. ⌜ (verdict (r .answer) ≡ Verdict·refused number «record» position) × (r .length ≡ length) ⌝ }
+fn refused(refusal: Refusal, length: usize) -> Withdrawn
+    ensures { λ r. ⌜ (verdict (r .answer) ≡ Verdict·refused refusal) × (r .length ≡ length) ⌝ }
 {
     Withdrawn {
-        answer: Answer::Refused {
-            number,
-            record,
-            position,
-        },
+        answer: Answer::Refused(refusal),
         length: length as u64,
     }
 }
@@ -123,15 +111,15 @@ fn renumber(flow: &mut [u8], from: usize, to: usize, before: u64)
     }
 }
 
-// Gives the trailer, record n, its counts.
-fn recount(flow: &mut [u8], n: u64, dispositions: u64, cents: u64)
-    requires { ⌜ 1 ≤ n ⌝ }
-    requires { ⌜ 120 * n ≤ length (now flow) ⌝ }
-    ensures { λ _. ⌜ now (flow .exit) ≡ written n 83 (digits 7 n)
-        (written n 53 (digits 15 cents) (written n 46 (digits 7 dispositions) (now (flow .entry)))) ⌝ }
+// Gives the trailer, the last of the flow's records, the totals.
+fn recount(flow: &mut [u8], totals: Totals)
+    requires { ⌜ 1 ≤ totals .records ⌝ }
+    requires { ⌜ 120 * totals .records ≤ length (now flow) ⌝ }
+    ensures { λ _. ⌜ now (flow .exit) ≡ countedAt totals (now (flow .entry)) ⌝ }
 {
-    place_number(flow, n, 46, 52, dispositions);
-    place_number(flow, n, 53, 67, cents);
+    let n = totals.records;
+    place_number(flow, n, 46, 52, totals.dispositions);
+    place_number(flow, n, 53, 67, totals.cents);
     place_number(flow, n, 83, 89, n);
 }
 

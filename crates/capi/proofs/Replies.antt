@@ -6,12 +6,13 @@ use native.Mathlib.Omega.{arith}
 use lib.ListN.{length, getD}
 use Rattle.fields.specs.Answer.{Answer}
 use Rattle.fields.specs.Answer.{accepted as Answer·accepted, refused as Answer·refused}
-use Rattle.flow.specs.Find.{Located, standing}
-use Rattle.flow.specs.Find.{refused as Find·refused}
-use Rattle.flow.specs.Verdict.{Verdict, accepted, refused}
+use Rattle.flow.specs.Output.{output}
+use Rattle.flow.specs.Verdict.{Verdict, accepted, refused, refusal}
+use Rattle.flow.specs.declared.answer.Refusal.{Refusal}
+use Rattle.flow.specs.declared.answer.Totals.{Totals}
+use Rattle.flow.specs.declared.location.Stand.{Stand}
 use Rattle.list.specs.Encode.{encode}
 use Rattle.list.specs.Items.{itemsIn}
-use Rattle.list.specs.Output.{output}
 use Rattle.list.specs.ReadBack.{listOf, judgeRoom, readBack}
 use Rattle.list.specs.Write.{judgeList, write}
 use Rattle.amend.specs.Amended.{Amended}
@@ -19,12 +20,12 @@ use Rattle.amend.specs.Change.{change}
 use Rattle.amend.specs.Withdraw.{withdraw}
 use Rattle.amend.proofs.Answered.{refused-untouched}
 use Rattle.capi.specs.Laws.{RefusedLeaves, RepliesTell}
-use Rattle.capi.specs.Reply.{Reply, reply, ofNumber, ofVerdict, ofLocated, ofOutput}
+use Rattle.capi.specs.Reply.{Reply, reply, ofNumber, ofRefusal, ofVerdict, ofLocated, ofOutput}
 
 -- an output is written where the call is accepted
-output-alone : (v : Verdict) (bytes out : List ℕ) → ofOutput (output v bytes out) .status ≡ 0 → output v bytes out .bytes ≡ out
-output-alone (accepted d c n) bytes out e = absurd (omega arith)
-output-alone (refused e r p) bytes out h = refl
+output-alone : (v : Verdict Totals) (bytes out : List ℕ) → ofOutput (output v bytes out) .status ≡ 0 → output v bytes out .bytes ≡ out
+output-alone (accepted t) bytes out e = absurd (omega arith)
+output-alone (refused x) bytes out h = refl
 
 written-alone : (list out : List ℕ) → ofOutput (write list out) .status ≡ 0 → write list out .bytes ≡ out
 unfolding write
@@ -35,19 +36,19 @@ unfolding readBack
 read-back-alone f out = output-alone (judgeRoom f (length out)) (listOf f) out
 
 -- a reply with the status 0 is that of a refusal
-amended-alone : (f : List ℕ) (a : Amended) (l : ℕ) → ((e r p : ℕ) → a .answer ≡ refused e r p → a .bytes ≡ f) → ofVerdict (a .answer) l .status ≡ 0 → a .bytes ≡ f
+amended-alone : (f : List ℕ) (a : Amended) (l : ℕ) → ((x : Refusal) → a .answer ≡ refused x → a .bytes ≡ f) → ofVerdict (a .answer) l .status ≡ 0 → a .bytes ≡ f
 amended-alone f a l alone = by (a .answer) refl
   where
-    by : (v : Verdict) → a .answer ≡ v → ofVerdict v l .status ≡ 0 → a .bytes ≡ f
-    by (accepted d c n) e h = absurd (omega arith)
-    by (refused e r p) told h = alone e r p told
+    by : (v : Verdict Totals) → a .answer ≡ v → ofVerdict v l .status ≡ 0 → a .bytes ≡ f
+    by (accepted t) e h = absurd (omega arith)
+    by (refused x) told h = alone x told
 
 pub refused-leaves : RefusedLeaves
 refused-leaves = (
   written-alone,
   read-back-alone,
-  λ f k new. amended-alone f (change f k new) 0 (λ e r p told. refused-untouched f k e r p .0 new told .0),
-  λ f k. amended-alone f (withdraw f k) (withdraw f k .size) (λ e r p told. refused-untouched f k e r p .1 told .0),
+  λ f k new. amended-alone f (change f k new) 0 (λ x told. refused-untouched f k x .0 new told .0),
+  λ f k. amended-alone f (withdraw f k) (withdraw f k .size) (λ x told. refused-untouched f k x .1 told .0),
 )
 
 -- the i-th entry
@@ -71,17 +72,20 @@ module _ {s a b c l s′ a′ b′ c′ l′ : ℕ} (e : reply s a b c l ≡ rep
   fourth : l ≡ l′
   fourth = ap (entry 3) e
 
-verdicts : (v u : Verdict) (l m : ℕ) → ofVerdict v l ≡ ofVerdict u m → (v ≡ u) × (l ≡ m)
-verdicts (accepted d c n) (accepted d′ c′ n′) l m e = (λ i. accepted (first e i) (second e i) (third e i), fourth e)
-verdicts (accepted d c n) (refused f r p) l m e = absurd (omega (arith, status e))
-verdicts (refused f r p) (accepted d c n) l m e = absurd (omega (arith, status e))
-verdicts (refused f r p) (refused f′ r′ p′) l m e = (λ i. refused (first e i) (second e i) (third e i), fourth e)
+refusals : (x y : Refusal) (l m : ℕ) → ofRefusal x l ≡ ofRefusal y m → x ≡ y
+refusals x y l m e = λ i. refusal (first e i) (second e i) (third e i)
 
-places : (v u : Located) → ofLocated v ≡ ofLocated u → v ≡ u
-places (standing a b c) (standing a′ b′ c′) e = λ i. standing (first e i) (second e i) (third e i)
-places (standing a b c) (Find·refused f r p) e = absurd (omega (arith, status e))
-places (Find·refused f r p) (standing a b c) e = absurd (omega (arith, status e))
-places (Find·refused f r p) (Find·refused f′ r′ p′) e = λ i. Find·refused (first e i) (second e i) (third e i)
+verdicts : (v u : Verdict Totals) (l m : ℕ) → ofVerdict v l ≡ ofVerdict u m → (v ≡ u) × (l ≡ m)
+verdicts (accepted t) (accepted u) l m e = (λ i. accepted (record { dispositions = first e i; cents = second e i; records = third e i }), fourth e)
+verdicts (accepted t) (refused y) l m e = absurd (omega (arith, status e))
+verdicts (refused x) (accepted u) l m e = absurd (omega (arith, status e))
+verdicts (refused x) (refused y) l m e = (ap refused (refusals x y l m e), fourth e)
+
+places : (v u : Verdict Stand) → ofLocated v ≡ ofLocated u → v ≡ u
+places (accepted s) (accepted r) e = λ i. accepted (record { first = first e i; records = second e i; cents = third e i })
+places (accepted s) (refused y) e = absurd (omega (arith, status e))
+places (refused x) (accepted s) e = absurd (omega (arith, status e))
+places (refused x) (refused y) e = ap refused (refusals x y 0 0 e)
 
 numbers : (v u : Answer ℕ) → ofNumber v ≡ ofNumber u → v ≡ u
 numbers (Answer·accepted v) (Answer·accepted u) e = ap Answer·accepted (first e)

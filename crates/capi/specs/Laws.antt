@@ -3,8 +3,9 @@ use Prim.Native.Nat.{ℕ}
 use mathlib.Core.List.{List}
 use mathlib.Core.Path.{_≡_}
 use Rattle.fields.specs.Answer.{Answer}
-use Rattle.flow.specs.Find.{Located}
 use Rattle.flow.specs.Verdict.{Verdict}
+use Rattle.flow.specs.declared.answer.Totals.{Totals}
+use Rattle.flow.specs.declared.location.Stand.{Stand}
 use Rattle.list.specs.ReadBack.{readBack}
 use Rattle.list.specs.Write.{write}
 use Rattle.amend.specs.Change.{change}
@@ -22,6 +23,6 @@ RefusedLeaves =
 -- a reply tells the whole answer: calls that are replied alike are answered alike. (Of an accepted date it tells no day.)
 abbrev pub RepliesTell : Type 0
 RepliesTell =
-    ((v u : Verdict) (l m : ℕ) → ofVerdict v l ≡ ofVerdict u m → (v ≡ u) × (l ≡ m))
-    × ((v u : Located) → ofLocated v ≡ ofLocated u → v ≡ u)
+    ((v u : Verdict Totals) (l m : ℕ) → ofVerdict v l ≡ ofVerdict u m → (v ≡ u) × (l ≡ m))
+    × ((v u : Verdict Stand) → ofLocated v ≡ ofLocated u → v ≡ u)
     × ((v u : Answer ℕ) → ofNumber v ≡ ofNumber u → v ≡ u)

@@ -1,8 +1,9 @@
 // The eight entries that the caller's `answer` receives, and what is returned beside them.
 ghost use mathlib.Core.Path.{_≡_};
 ghost use Rattle.flow.specs.Verdict.{verdict};
-ghost use Rattle.capi.specs.Reply.{replied, reply, ofVerdict};
+ghost use Rattle.capi.specs.Reply.{replied, reply, ofRefusal, ofVerdict};
 use flow::Answer;
+use flow::Refusal;
 
 const ACCEPTED: u8 = 1;
 
@@ -16,17 +17,20 @@ pub(crate) fn accept(answer: &mut [u64; 8], a: u64, b: u64, c: u64, length: u64)
     ACCEPTED
 }
 
-// Writes the number of a refusal, its record and its position, and the length where the call has one.
-pub(crate) fn refuse(
-    answer: &mut [u64; 8],
-    number: u64,
-    record: u64,
-    position: u64,
-    length: u64,
-) -> u8
-    ensures { λ r. ⌜ replied r (now (answer .exit)) ≡ reply 0 number «record» position length ⌝ }
+// Writes a refusal, and the length where the call has one.
+pub(crate) fn refuse(answer: &mut [u64; 8], refusal: Refusal, length: u64) -> u8
+    ensures { λ r. ⌜ replied r (now (answer .exit)) ≡ ofRefusal refusal length ⌝ }
 {
-    *answer = [number, record, position, length, 0, 0, 0, 0];
+    *answer = [
+        refusal.number,
+        refusal.record,
+        refusal.position,
+        length,
+        0,
+        0,
+        0,
+        0,
+    ];
     REFUSED
 }
 
@@ -35,15 +39,13 @@ pub(crate) fn tell(answer: &mut [u64; 8], told: Answer, length: u64) -> u8
     ensures { λ r. ⌜ replied r (now (answer .exit)) ≡ ofVerdict (verdict told) length ⌝ }
 {
     match told {
-        Answer::Accepted {
-            dispositions,
-            cents,
-            records,
-        } => accept(answer, dispositions, cents, records, length),
-        Answer::Refused {
-            number,
-            record,
-            position,
-        } => refuse(answer, number, record, position, length),
+        Answer::Accepted(totals) => accept(
+            answer,
+            totals.dispositions,
+            totals.cents,
+            totals.records,
+            length,
+        ),
+        Answer::Refused(refusal) => refuse(answer, refusal, length),
     }
 }

@@ -54,7 +54,7 @@ pub extern "C" fn mav_date(field: &[u8], answer: &mut [u64; 8]) -> u8
             month: _,
             year: _,
         } => accept(answer, 0, 0, 0, 0),
-        Date::Refused(number) => refuse(answer, number, 0, 0, 0),
+        Date::Refused(number) => refuse(answer, flow::refusal_of_call(number), 0),
     }
 }
 
@@ -72,16 +72,8 @@ pub extern "C" fn mav_find(flow: &[u8], k: u64, answer: &mut [u64; 8]) -> u8
     ensures { λ r. ⌜ replied r (now (answer .exit)) ≡ ofLocated (find (now (flow .entry)) k) ⌝ }
 {
     match flow::find(flow, k) {
-        Location::At {
-            first,
-            records,
-            cents,
-        } => accept(answer, first, records, cents, 0),
-        Location::Refused {
-            number,
-            record,
-            position,
-        } => refuse(answer, number, record, position, 0),
+        Location::At(stand) => accept(answer, stand.first, stand.records, stand.cents, 0),
+        Location::Refused(refusal) => refuse(answer, refusal, 0),
     }
 }
 
@@ -133,6 +125,6 @@ fn tell_number(answer: &mut [u64; 8], told: Number) -> u8
 {
     match told {
         Number::Value(value) => accept(answer, value, 0, 0, 0),
-        Number::Refused(number) => refuse(answer, number, 0, 0, 0),
+        Number::Refused(number) => refuse(answer, flow::refusal_of_call(number), 0),
     }
 }

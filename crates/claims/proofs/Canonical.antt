@@ -26,12 +26,14 @@ use Rattle.list.proofs.AllRecords.{encoded-count, encode-records}
 use Rattle.list.proofs.Gathering.{body-gathered}
 use Rattle.list.proofs.RecordsAgain.{ownItem}
 use Rattle.list.proofs.Rewritten.{own-list-items, own-proper-all, trailer-so}
-use Rattle.amend.specs.Change.{changed}
-use Rattle.amend.specs.Withdraw.{renumbered, recounted, recordsLeft}
+use Rattle.flow.specs.declared.answer.Totals.{Totals}
+use Rattle.flow.specs.declared.location.Target.{Target}
+use Rattle.amend.specs.Change.{totalsChanged, changed}
+use Rattle.amend.specs.Withdraw.{renumbered, totalsLeft, recounted, recordsLeft}
 use Rattle.amend.proofs.Among.{Among, restOf, changedOf}
 use Rattle.amend.proofs.Answered.{withdrawn-grammar, changed-grammar}
 use Rattle.amend.proofs.Kept.{repriced as Kept·repriced}
-use Rattle.amend.proofs.Left.{amounts, sizes, left-bytes, retyped, typedFrom, retold, here, behind}
+use Rattle.amend.proofs.Left.{totalsWith, left-bytes, retyped, typedFrom, retold, here, behind}
 use Rattle.claims.specs.Ledger.{firstRepriced}
 use Rattle.claims.proofs.Encoded.{trailer-recounted, detail-renumbered, opening-renumbered, opening-repriced}
 use Rattle.claims.proofs.Listed.{itemsBy, itemOfHeader, listed-so, items-retyped, items-retold}
@@ -91,12 +93,12 @@ abbrev pub bodyOf : List ℕ → List ℕ
 bodyOf im = gather (carried Im) im
 
 -- the three parts of a canonical flow
-pub record AsEncoded (f : List ℕ) (d c n : ℕ) (g : Grammar f d c n) : Type 0 where
+pub record AsEncoded (f : List ℕ) (t : Totals) (g : Grammar f t) : Type 0 where
   pub header : g .parts .header ≡ encodeItem 0 [] (itemOfHeader (g .parts .header))
   pub dispositions : Encoded (bodyOf (g .parts .header)) 0 (g .parts .dispositions)
-  pub trailer : g .parts .trailer ≡ encodeTrailer (bodyOf (g .parts .header)) d c n
+  pub trailer : g .parts .trailer ≡ encodeTrailer (bodyOf (g .parts .header)) t
 
-module _ (f : List ℕ) (d c n : ℕ) (g : Grammar f d c n) where
+module _ (f : List ℕ) (t : Totals) (g : Grammar f t) where
   abbrev im : List ℕ
   im = g .parts .header
 
@@ -107,21 +109,21 @@ module _ (f : List ℕ) (d c n : ℕ) (g : Grammar f d c n) where
   own = itemOfHeader im ∷ flatten (itemsBy ds)
 
   own-so : itemsOf f ≡ own
-  own-so = listed-so f d c n g
+  own-so = listed-so f t g
 
   records-so : recordsFor own ≡ encodeItem 0 [] (itemOfHeader im) ∷ encodeFrom 0 (bodyOf im) (flatten (itemsBy ds))
   unfolding encodeFrom
   records-so = refl
 
-  trailer-meant : trailerFor own ≡ encodeTrailer (bodyOf im) d c n
-  trailer-meant = ap trailerFor (sym own-so ∙ own-list-items f d c n g) ∙ trailer-so f d c n g
+  trailer-meant : trailerFor own ≡ encodeTrailer (bodyOf im) t
+  trailer-meant = ap trailerFor (sym own-so ∙ own-list-items f t g) ∙ trailer-so f t g
 
   again : recordsOf (encode own) ≡ recordsFor own ++ (trailerFor own ∷ [])
-  again = encode-records own (subst (All Proper) (sym (own-list-items f d c n g) ∙ own-so) (own-proper-all f d c n g))
+  again = encode-records own (subst (All Proper) (sym (own-list-items f t g) ∙ own-so) (own-proper-all f t g))
 
-  pub canonical-encoded : Canonical f → AsEncoded f d c n g
+  pub canonical-encoded : Canonical f → AsEncoded f t g
   canonical-encoded canonical =
-      let same : recordsFor own ++ (trailerFor own ∷ []) ≡ (im ∷ flatten (map recordsIn ds)) ++ (g .parts .trailer ∷ []) = sym again ∙ ap recordsOf (ap encode (sym own-so) ∙ canonical) ∙ between f d c n g in
+      let same : recordsFor own ++ (trailerFor own ∷ []) ≡ (im ∷ flatten (map recordsIn ds)) ++ (g .parts .trailer ∷ []) = sym again ∙ ap recordsOf (ap encode (sym own-so) ∙ canonical) ∙ between f t g in
       let count : length (recordsFor own) ≡ length own = encoded-count 0 [] own in
       let joined = length-append (recordsFor own) (trailerFor own ∷ []) in
       let parted = length-append (im ∷ flatten (map recordsIn ds)) (g .parts .trailer ∷ []) in
@@ -130,13 +132,13 @@ module _ (f : List ℕ) (d c n : ℕ) (g : Grammar f d c n) where
       let front = sym (both .0) ∙ records-so in
       record {
         header = head-eq-of-cons-eq front;
-        dispositions = joined-encoded (bodyOf im) 0 ds (grammar-shape f d c n g) (tail-eq-of-cons-eq front);
+        dispositions = joined-encoded (bodyOf im) 0 ds (grammar-shape f t g) (tail-eq-of-cons-eq front);
         trailer = sym (head-eq-of-cons-eq (both .1)) ∙ trailer-meant;
       }
 
-  pub encoded-canonical : AsEncoded f d c n g → Canonical f
+  pub encoded-canonical : AsEncoded f t g → Canonical f
   encoded-canonical e =
-      let front : recordsFor own ≡ im ∷ flatten (map recordsIn ds) = records-so ∙ (λ i. sym (e .header) i ∷ sym (encoded-joined (bodyOf im) 0 ds (grammar-shape f d c n g) (e .dispositions)) i) in
+      let front : recordsFor own ≡ im ∷ flatten (map recordsIn ds) = records-so ∙ (λ i. sym (e .header) i ∷ sym (encoded-joined (bodyOf im) 0 ds (grammar-shape f t g) (e .dispositions)) i) in
       ap encode own-so ∙ (λ i. flatten (front i ++ ((trailer-meant ∙ sym (e .trailer)) i ∷ []))) ∙ sym (left-bytes (g .parts)) ∙ g .bytes
 
 -- a record that has an item, and its item
@@ -183,8 +185,11 @@ module _ (header abi : List ℕ) where
           ap₂ (λ (x : List ℕ) (xs : List (List ℕ)). x ∷ xs) opening (tail-eq-of-cons-eq e)
 
 -- so an amendment of a canonical flow leaves a canonical one
-module _ (f : List ℕ) (k d c n first m a : ℕ) (w : Among f k d c n first m a) (canonical : Canonical f) where
-  abbrev g : Grammar f d c n
+module _ (f : List ℕ) (k : ℕ) (v : Target) (w : Among f k v) (canonical : Canonical f) where
+  abbrev t : Totals
+  t = v .totals
+
+  abbrev g : Grammar f t
   g = w .grammar
 
   abbrev header : List ℕ
@@ -193,8 +198,8 @@ module _ (f : List ℕ) (k d c n first m a : ℕ) (w : Among f k d c n first m a
   abbrev abi : List ℕ
   abi = headerOf (g .parts .header) .abi
 
-  was : AsEncoded f d c n g
-  was = canonical-encoded f d c n g canonical
+  was : AsEncoded f t g
+  was = canonical-encoded f t g canonical
 
   each : Encoded header 0 (w .pre ++ (w .this ∷ w .post))
   each = subst (Encoded header 0) (w .split) (was .dispositions)
@@ -209,32 +214,30 @@ module _ (f : List ℕ) (k d c n first m a : ℕ) (w : Among f k d c n first m a
   back = counted-behind (AsItems header) 0 (w .pre) (w .this ∷ w .post) each
 
   recounted-trailer :
-      (ds : List (List Typed)) {d′ c′ n′ : ℕ} → length ds ≡ d′ → amounts ds ≡ c′ → 2 + sizes ds ≡ n′
-      → recounted (length ds) (amounts ds) (2 + sizes ds) (g .parts .trailer) ≡ encodeTrailer header d′ c′ n′
-  recounted-trailer ds count cents records =
-      ap (recounted (length ds) (amounts ds) (2 + sizes ds)) (was .trailer) ∙ trailer-recounted header d c n (length ds) (amounts ds) (2 + sizes ds) ∙ (λ i. encodeTrailer header (count i) (cents i) (records i))
+      (ds : List (List Typed)) {u : Totals} → totalsWith ds ≡ u → recounted (totalsWith ds) (g .parts .trailer) ≡ encodeTrailer header u
+  recounted-trailer ds same = ap (recounted (totalsWith ds)) (was .trailer) ∙ trailer-recounted header t (totalsWith ds) ∙ ap (encodeTrailer header) same
 
-  pub withdrawn-canonical : (some : 2 ≤ d) → Canonical (flatten (recordsLeft f k (n - 1) (d - 1) (c - a) (n - m)))
+  pub withdrawn-canonical : (some : 2 ≤ t .dispositions) → Canonical (flatten (recordsLeft f k (t .records) (totalsLeft v)))
   withdrawn-canonical some =
-      let left = withdrawn-grammar f k d c n first m a w some in
+      let left = withdrawn-grammar f k v w some in
       let same : suc count ≡ 1 + length (w .pre) = omega arith in
-      let rest : Encoded header count (typedFrom (1 + length (w .pre)) (w .post)) = subst (λ (j : ℕ). Encoded header count (typedFrom j (w .post))) same (typed-encoded header abi count _ (w .post) (behind f d c n g (w .pre) (w .this) (w .post) (w .split)) (back .1)) in
-      let ds = restOf f k d c n first m a w in
-      encoded-canonical (flatten (recordsLeft f k (n - 1) (d - 1) (c - a) (n - m))) (d - 1) (c - a) (n - m) left
+      let rest : Encoded header count (typedFrom (1 + length (w .pre)) (w .post)) = subst (λ (j : ℕ). Encoded header count (typedFrom j (w .post))) same (typed-encoded header abi count _ (w .post) (behind f t g (w .pre) (w .this) (w .post) (w .split)) (back .1)) in
+      let ds = restOf f k v w in
+      encoded-canonical (flatten (recordsLeft f k (t .records) (totalsLeft v))) (totalsLeft v) left
       (record {
         header = was .header;
         dispositions = counted-append (AsItems header) 0 (w .pre) (typedFrom (1 + length (w .pre)) (w .post)) front rest;
-        trailer = recounted-trailer ds (left .dispositions) (left .cents) (left .records);
+        trailer = recounted-trailer ds (left .totals);
       })
 
-  pub changed-canonical : (new : ℕ) (small : new < 10000000000000) (fits : c - a + new ≤ 999999999999999) → Canonical (changed first new n (c - a + new) f)
+  pub changed-canonical : (new : ℕ) (small : new < 10000000000000) (fits : totalsChanged v new .cents ≤ 999999999999999) → Canonical (changed (v .stand .first) new (totalsChanged v new) f)
   changed-canonical new small fits =
-      let left = changed-grammar f k d c n first m a new w small fits in
-      let ds = changedOf f k d c n first m a w new small in
-      let this = retold-encoded header abi (suc count) (1 + length (w .pre)) new (w .this) (here f d c n g (w .pre) (w .this) (w .post) (w .split)) (back .0) in
-      encoded-canonical (changed first new n (c - a + new) f) d (c - a + new) n left
+      let left = changed-grammar f k v new w small fits in
+      let ds = changedOf f k v w new small in
+      let this = retold-encoded header abi (suc count) (1 + length (w .pre)) new (w .this) (here f t g (w .pre) (w .this) (w .post) (w .split)) (back .0) in
+      encoded-canonical (changed (v .stand .first) new (totalsChanged v new) f) (totalsChanged v new) left
       (record {
         header = was .header;
         dispositions = counted-append (AsItems header) 0 (w .pre) (retold new (w .this) ∷ w .post) front (this, back .1);
-        trailer = recounted-trailer ds (left .dispositions) (left .cents) (left .records);
+        trailer = recounted-trailer ds (left .totals);
       })

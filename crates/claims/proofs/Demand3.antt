@@ -9,6 +9,7 @@ use Rattle.sequences.specs.Part.{put}
 use Rattle.sequences.proofs.Part.{put-at}
 use Rattle.flow.specs.Judge.{judge}
 use Rattle.flow.specs.Verdict.{accepted}
+use Rattle.flow.specs.declared.answer.Totals.{Totals}
 use Rattle.list.specs.Encode.{encode}
 use Rattle.list.specs.Items.{Item, listBytes}
 use Rattle.list.specs.ReadBack.{itemsOf}
@@ -48,24 +49,24 @@ record After (g : List ℕ) (all : ℕ) (m : Memory) (answers : List Reply) (lis
   answered : answers ≡ due
 
 after-calls :
-    (calls : List Call) (g : List ℕ) (room d c n : ℕ) → judge g ≡ accepted d c n → let m = blanksBehind g room in
+    (calls : List Call) (g : List ℕ) (room : ℕ) {t : Totals} → judge g ≡ accepted t → let m = blanksBehind g room in
     After g (length g + room) (run calls m) (replies calls m) (listAfter calls (itemsOf g)) (repliesOn calls (itemsOf g))
 unfolding run replies listAfter repliesOn
-after-calls [] g room d c n read =
+after-calls [] g room read =
     let blank : room ≡ length g + room - length g = omega arith in
     record {
       held = held-as g (length g + room) (blanksBehind g room) (itemsOf g) g (held-so g room) read refl (λ x. x) refl (omega arith) (ap (λ (i : ℕ). g ++ replicate i 32) blank);
       answered = refl;
     }
-after-calls (call ∷ calls) g room d c n read =
-    let s = one-step g d c n read call in
+after-calls (call ∷ calls) g room read =
+    let s = one-step g _ read call in
     let h = s .held in
     let a = amend call g in
     let left = flowLeft a in
     let more = length g - a .size + room in
     let within = h .within in
     let all : length left + more ≡ length g + room = omega (arith, h .sized) in
-    let rest = after-calls calls left more _ _ _ (h .read) in
+    let rest = after-calls calls left more (h .read) in
     let reply : replyOf call (amend call (flowIn (blanksBehind g room))) ≡ entry call (itemsOf g) .reply = ap (λ (l : List ℕ). replyOf call (amend call l)) (held-so g room) ∙ s .reply in
     let next = sym (behind-so call g room (entry call (itemsOf g)) s) in
     let moved = subst (λ (A : Type 0). A) (λ i. After left (all i) (run calls (next i)) (replies calls (next i)) (listAfter calls (h .items i)) (repliesOn calls (h .items i))) rest in
@@ -89,10 +90,10 @@ touched-all [] m = tt
 touched-all (call ∷ calls) m = (call-touched call (flowIn m), touched-all calls (behind call m))
 
 pub demand3 : Demand3
-demand3 f d c n read calls =
+demand3 f t read calls =
     let first : blanksBehind f 0 ≡ holding f = λ i. record { bytes = append-nil f i; size = length f } in
     let all : length f + 0 ≡ length f = omega arith in
-    let x = subst (λ (A : Type 0). A) (λ i. After f (all i) (run calls (first i)) (replies calls (first i)) (listAfter calls (itemsOf f)) (repliesOn calls (itemsOf f))) (after-calls calls f 0 d c n read) in
+    let x = subst (λ (A : Type 0). A) (λ i. After f (all i) (run calls (first i)) (replies calls (first i)) (listAfter calls (itemsOf f)) (repliesOn calls (itemsOf f))) (after-calls calls f 0 read) in
     let h = x .held in (
       record {
         read = h .read;

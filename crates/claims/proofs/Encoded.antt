@@ -27,11 +27,12 @@ use Rattle.list.proofs.Carried.{body-fits, body-outside}
 use Rattle.list.proofs.OneRecord.{abi-short}
 use Rattle.list.proofs.Placing.{Fits, Outside, fill-again}
 use Rattle.list.proofs.TableSpans.{first, carried-within}
+use Rattle.flow.specs.declared.answer.Totals.{Totals}
 use Rattle.amend.specs.Withdraw.{renumbered, recounted}
 use Rattle.claims.specs.Ledger.{repriced}
 
--- the trailer with other counts
-module _ (header : List ℕ) (d c n d′ c′ n′ : ℕ) where
+-- the trailer with other totals
+module _ (header : List ℕ) (t u : Totals) where
   abbrev copied : List ℕ
   copied = carriedAt Im 4 45 header
 
@@ -47,9 +48,15 @@ module _ (header : List ℕ) (d c n d′ c′ n′ : ℕ) where
   sizes : (w v u : ℕ) → length (digits w v) ≡ length (digits w u)
   sizes w v u = written-length w v ∙ sym (written-length w u)
 
-  pub trailer-recounted : recounted d′ c′ n′ (encodeTrailer header d c n) ≡ encodeTrailer header d′ c′ n′
+  pub trailer-recounted : recounted u (encodeTrailer header t) ≡ encodeTrailer header u
   unfolding encodeTrailer
   trailer-recounted =
+      let d = t .dispositions in
+      let c = t .cents in
+      let n = t .records in
+      let d′ = u .dispositions in
+      let c′ = u .cents in
+      let n′ = u .records in
       let short : length copied ≤ 42 = part-at-most 0 42 header in
       let seven : (v : ℕ) → length (digits 7 v) ≡ 7 = written-length 7 in
       let fifteen : (v : ℕ) → length (digits 15 v) ≡ 15 = written-length 15 in

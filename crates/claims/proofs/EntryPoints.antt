@@ -26,6 +26,7 @@ use Rattle.flow.proofs.walk.Walk.may_close.Met.{met as walk-may-close-met}
 use Rattle.flow.proofs.find.Met.{met as find-met}
 use Rattle.flow.proofs.disposition.Met.{met as disposition-met}
 use Rattle.flow.proofs.seek.Met.{met as seek-met}
+use Rattle.flow.proofs.refusal_of_call.Met.{met as refusal-of-call-met}
 use Rattle.list.proofs.write.Met.{met as write-met}
 use Rattle.list.proofs.read_back.Met.{met as read-back-met}
 use Rattle.amend.proofs.change.Met.{met as change-met}
@@ -69,6 +70,7 @@ entry-points =
       find = (λ M. find-met, λ κs a g w. refl);
       disposition = (λ M. disposition-met, λ κs a g w. refl);
       seek = (λ M. seek-met, λ κs a g w. refl);
+      refusal-of-call = (λ M. refusal-of-call-met, λ κs a g w. refl);
       write = (λ M. write-met, λ κs a g w. refl);
       read-back = (λ M. read-back-met, λ κs a g w. refl);
       change = (λ M. change-met, λ κs a g w. refl);

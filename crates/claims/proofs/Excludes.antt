@@ -16,13 +16,15 @@ use Rattle.records.specs.Bytes.{badFrom}
 use Rattle.records.specs.Checks.{isListed, checks}
 use Rattle.records.specs.Finding.{firstFault}
 use Rattle.records.specs.Judge.{judge as Record·judge}
-use Rattle.flow.specs.Examples.{flowOf, headerIm, trailerEf, second, further59, firstClosed, withFurther, twoRents}
+use Rattle.flow.specs.Examples.{flowOf, headerIm, trailerEf, second, further59, firstClosed, withFurther, twoRents, twoRentTotals}
 use Rattle.flow.specs.Judge.{go, judge}
 use Rattle.flow.specs.Order.{among}
 use Rattle.flow.specs.Records.{cut, recordAt, recordsOf}
 use Rattle.flow.specs.Steps.{typed, judgeRecord}
-use Rattle.flow.specs.Verdict.{Verdict, accepted, refused}
-use Rattle.flow.proofs.Accepted.{accepted-not-refused, accepted-exact}
+use Rattle.flow.specs.Verdict.{Verdict, accepted, refused, refusal, ofCall}
+use Rattle.flow.specs.declared.answer.Refusal.{Refusal}
+use Rattle.flow.specs.declared.answer.Totals.{Totals}
+use Rattle.flow.proofs.Accepted.{accepted-not-refused, accepted-same, accepted-exact}
 use Rattle.flow.proofs.Examples.{examples as flow}
 use Rattle.grammar.specs.Fault.{FaultBehind, bad-byte}
 use Rattle.grammar.proofs.FirstFault.{first-fault-exact}
@@ -38,37 +40,37 @@ use Rattle.list.proofs.Examples.{examples as list}
 use Rattle.amend.specs.Amended.{Amended}
 use Rattle.amend.proofs.Answered.{change-refused, withdraw-refused}
 use Rattle.claims.specs.Demand3.{Kept}
-use Rattle.claims.specs.Excludes.{Reader, AcceptsExactly, RefusesFirst, Refusal, LowestNumber, lastWrong, ChangesFaithfully, WithdrawsFaithfully, Service, Serves, LibraryMeets, Excludes}
+use Rattle.claims.specs.Excludes.{Reader, AcceptsExactly, RefusesFirst, Refuses, LowestNumber, lastWrong, ChangesFaithfully, WithdrawsFaithfully, Service, Serves, LibraryMeets, Excludes}
 use Rattle.claims.specs.Ledger.{Call, change, withdraw, withAmount, withoutDisposition, changeOn, withdrawOn, listAfter}
 use Rattle.claims.specs.Run.{Memory, holding, flowIn}
 use Rattle.claims.proofs.Demand3.{demand3}
 use Rattle.claims.proofs.Examples.{examples}
 
 -- a reader that meets demand 2 accepts where the reader of the library does, and only there
-reads-so : (read : Reader) → AcceptsExactly read → (f : List ℕ) (d c n : ℕ) → judge f ≡ accepted d c n → read f ≡ accepted d c n
-reads-so read exact f d c n e = exact f d c n .1 (grammar-exact f d c n .0 e)
+reads-so : (read : Reader) → AcceptsExactly read → (f : List ℕ) (t : Totals) → judge f ≡ accepted t → read f ≡ accepted t
+reads-so read exact f t e = exact f t .1 (grammar-exact f t .0 e)
 
-read-so : (read : Reader) → AcceptsExactly read → (f : List ℕ) (d c n : ℕ) → read f ≡ accepted d c n → judge f ≡ accepted d c n
-read-so read exact f d c n e = grammar-exact f d c n .1 (exact f d c n .0 e)
+read-so : (read : Reader) → AcceptsExactly read → (f : List ℕ) (t : Totals) → read f ≡ accepted t → judge f ≡ accepted t
+read-so read exact f t e = grammar-exact f t .1 (exact f t .0 e)
 
-two-read : (read : Reader) → AcceptsExactly read → read twoRents ≡ accepted 2 83050 16
-two-read read exact = reads-so read exact twoRents 2 83050 16 (flow .two-rents)
+two-read : (read : Reader) → AcceptsExactly read → read twoRents ≡ accepted twoRentTotals
+two-read read exact = reads-so read exact twoRents twoRentTotals (flow .two-rents)
 
 -- an answer that is accepted is no refusal
-not-refused : {v : Verdict} {d c n : ℕ} → v ≡ accepted d c n → ¬ Refusal v
-not-refused a (n, r, p, e) = accepted-not-refused (sym e ∙ a)
+not-refused : {v : Verdict Totals} {t : Totals} → v ≡ accepted t → ¬ Refuses v
+not-refused a (x, e) = accepted-not-refused (sym e ∙ a)
 
-one-reply : (read : Reader) → AcceptsExactly read → (v : Verdict) → ¬ ((f : List ℕ) → read f ≡ v)
+one-reply : (read : Reader) → AcceptsExactly read → (v : Verdict Totals) → ¬ ((f : List ℕ) → read f ≡ v)
 one-reply read exact v all =
-    let empty : read [] ≡ accepted 2 83050 16 = all [] ∙ sym (all twoRents) ∙ two-read read exact in
-    accepted-not-refused (sym (flow .empty) ∙ read-so read exact [] 2 83050 16 empty)
+    let empty : read [] ≡ accepted twoRentTotals = all [] ∙ sym (all twoRents) ∙ two-read read exact in
+    accepted-not-refused (sym (flow .empty) ∙ read-so read exact [] twoRentTotals empty)
 
 -- an amendment that meets demand 1 does not refuse where the library's accepts
-changes-so : (amend : List ℕ → ℕ → ℕ → Amended) → ChangesFaithfully amend → ¬ Refusal (amend twoRents 2 40000 .answer)
-changes-so amend faithful (e, r, p, refusal) = accepted-not-refused (sym (change-refused twoRents 2 40000 e r p .1 (faithful twoRents 2 40000 e r p refusal)) ∙ examples .two .0)
+changes-so : (amend : List ℕ → ℕ → ℕ → Amended) → ChangesFaithfully amend → ¬ Refuses (amend twoRents 2 40000 .answer)
+changes-so amend faithful (x, e) = accepted-not-refused (sym (change-refused twoRents 2 40000 x .1 (faithful twoRents 2 40000 x e)) ∙ examples .two .0)
 
-withdraws-so : (amend : List ℕ → ℕ → Amended) → WithdrawsFaithfully amend → ¬ Refusal (amend twoRents 1 .answer)
-withdraws-so amend faithful (e, r, p, refusal) = accepted-not-refused (sym (withdraw-refused twoRents 1 e r p .1 (faithful twoRents 1 e r p refusal)) ∙ examples .three .0)
+withdraws-so : (amend : List ℕ → ℕ → Amended) → WithdrawsFaithfully amend → ¬ Refuses (amend twoRents 1 .answer)
+withdraws-so amend faithful (x, e) = accepted-not-refused (sym (withdraw-refused twoRents 1 x .1 (faithful twoRents 1 x e)) ∙ examples .three .0)
 
 -- the calls, and what the ledger has behind them
 abbrev first : Call
@@ -99,40 +101,40 @@ module _ (serve : Service) (serves : Serves serve) where
   left calls = flowIn (serve calls twoRents .after)
 
   kept : (calls : List Call) → Kept twoRents calls (serve calls twoRents .after) (serve calls twoRents .answers)
-  kept = serves twoRents 2 83050 16 (flow .two-rents)
+  kept = serves twoRents twoRentTotals (flow .two-rents)
 
-  first-left : (d c n : ℕ) → judge (left (first ∷ [])) ≡ accepted d c n → c ≡ 85000
-  first-left d c n e = cc (kept (first ∷ []) .read, first-total)
+  first-left : (t : Totals) → judge (left (first ∷ [])) ≡ accepted t → t .cents ≡ 85000
+  first-left t e = ap (λ (u : Totals). u .cents) (accepted-same (sym e ∙ kept (first ∷ []) .read)) ∙ first-total
 
-  both-left : (d c n : ℕ) → judge (left both) ≡ accepted d c n → c ≡ 40001
-  both-left d c n e = cc (kept both .read, both-total)
+  both-left : (t : Totals) → judge (left both) ≡ accepted t → t .cents ≡ 40001
+  both-left t e = ap (λ (u : Totals). u .cents) (accepted-same (sym e ∙ kept both .read)) ∙ both-total
 
   changed : ¬ (serve (first ∷ []) twoRents .after ≡ holding twoRents)
   changed same =
-      let none : _≡_ {A = ℕ} 83050 85000 = first-left 2 83050 16 (ap (λ (m : Memory). judge (flowIn m)) same ∙ flow .two-rents) in
+      let none : _≡_ {A = ℕ} 83050 85000 = first-left twoRentTotals (ap (λ (m : Memory). judge (flowIn m)) same ∙ flow .two-rents) in
       omega arith
 
   changed-again : ¬ (serve both twoRents .after ≡ serve (first ∷ []) twoRents .after)
   changed-again same =
-      let again = both-left _ _ _ (ap (λ (m : Memory). judge (flowIn m)) same ∙ kept (first ∷ []) .read) in
+      let again = both-left _ (ap (λ (m : Memory). judge (flowIn m)) same ∙ kept (first ∷ []) .read) in
       omega (arith, first-total)
 
-  withdrawn : (d c n : ℕ) → judge (left (withdraw 1 ∷ [])) ≡ accepted d c n → d ≡ 1
-  withdrawn d c n e = cc (kept (withdraw 1 ∷ []) .read, one-left)
+  withdrawn : (t : Totals) → judge (left (withdraw 1 ∷ [])) ≡ accepted t → t .dispositions ≡ 1
+  withdrawn t e = ap (λ (u : Totals). u .dispositions) (accepted-same (sym e ∙ kept (withdraw 1 ∷ []) .read)) ∙ one-left
 
   moved : left (withdraw 1 ∷ []) ≡ encode (itemsIn (flowOf (headerItem ++ secondItems)))
   moved = kept (withdraw 1 ∷ []) .canonical (list .canonical) ∙ ap encode list-left
 
 -- a reader that meets demand 1 refuses where the reader of the library does
-refuses-so : (read : Reader) → RefusesFirst read → (f : List ℕ) (n r p : ℕ) → judge f ≡ refused n r p → read f ≡ refused n r p
-refuses-so read exact f n r p e = exact f n r p .1 (first-fault-exact f n r p .0 e)
+refuses-so : (read : Reader) → RefusesFirst read → (f : List ℕ) (x : Refusal) → judge f ≡ refused x → read f ≡ refused x
+refuses-so read exact f x e = exact f x .1 (first-fault-exact f x .0 e)
 
 -- the second rent alone under the two-rent header, with a line end before its 20: record 2 has a wrong number, and record 3 a byte outside 32
 -- to 126, which has a lower one
 abbrev twoFaults : List ℕ
 twoFaults = put 240 (10 ∷ []) (flowOf (headerIm ∷ (second ++ (trailerEf ∷ []))))
 
-lowest-record : judge twoFaults ≡ refused 9 2 4
+lowest-record : judge twoFaults ≡ refused (refusal 9 2 4)
 unfolding judge go cut judgeRecord typed among Record·judge firstFault checks isListed badFrom isEqual numberFrom every isDay daysIn isLeap
 lowest-record = refl
 
@@ -145,15 +147,15 @@ later-stands = refl
 
 not-lowest : (read : Reader) → RefusesFirst read → ¬ LowestNumber read
 not-lowest read exact lowest =
-    let none : 9 ≤ 2 = lowest twoFaults 9 2 4 (refuses-so read exact twoFaults 9 2 4 lowest-record) _ _ _ 2 1 later-stands later-fault in
+    let none : 9 ≤ 2 = lowest twoFaults (refusal 9 2 4) (refuses-so read exact twoFaults (refusal 9 2 4) lowest-record) _ _ _ 2 1 later-stands later-fault in
     omega arith
 
-mixed-judged : (judge (withFurther (take 1 firstClosed ++ (further59 ∷ []))) ≡ refused 3 7 2) × (judge (withFurther (further59 ∷ take 1 firstClosed)) ≡ refused 3 7 2)
+mixed-judged : (judge (withFurther (take 1 firstClosed ++ (further59 ∷ []))) ≡ refused (refusal 3 7 2)) × (judge (withFurther (further59 ∷ take 1 firstClosed)) ≡ refused (refusal 3 7 2))
 unfolding judge go cut judgeRecord typed among Record·judge firstFault checks isListed badFrom isEqual numberFrom every isDay daysIn isLeap
 mixed-judged = (refl, refl)
 
 -- with room the last record is refused, without it the call
-last-judged : judgeItems (itemsIn lastWrong) ≡ refused 6 15 94
+last-judged : judgeItems (itemsIn lastWrong) ≡ refused (refusal 6 15 94)
 unfolding judgeItems encodeFrom encodeItem fill bodyPlaced flatten itemsFrom firstKind digits go judgeRecord typed among Record·judge firstFault checks isListed badFrom isEqual numberFrom every isDay daysIn isLeap
 last-judged = refl
 
@@ -165,13 +167,13 @@ last-count : suc (length (itemsIn lastWrong)) ≡ 16
 unfolding itemsFrom firstKind
 last-count = refl
 
-last-refused : (room : ℕ) → Refusal (judgeList lastWrong room)
+last-refused : (room : ℕ) → Refuses (judgeList lastWrong room)
 unfolding judgeList
 last-refused room = rw (last-read, last-count) (by (leb 1920 room))
   where
-    by : (b : Bool) → Refusal (cond b (judgeItems (itemsIn lastWrong)) (refused 21 0 0))
-    by true = (6, 15, 94, last-judged)
-    by false = (21, 0, 0, refl)
+    by : (b : Bool) → Refuses (cond b (judgeItems (itemsIn lastWrong)) (refused (ofCall 21)))
+    by true = (refusal 6 15 94, last-judged)
+    by false = (ofCall 21, refl)
 
 pub excludes : Excludes
 excludes =
@@ -182,11 +184,11 @@ excludes =
       withdraw-always-refuses = λ amend faithful all. withdraws-so amend faithful (all twoRents 1);
       touches-nothing = λ serve serves all. changed serve serves (all (first ∷ []) twoRents);
       fakes-the-rest = λ serve serves all. changed-again serve serves (all first (change 1 1 ∷ []) twoRents);
-      made-up-counts = λ read exact f d c n e. accepted-exact f d c n (read-so read exact f d c n e);
-      copied-twice = λ serve serves (c, n, e). let none : _≡_ {A = ℕ} 2 1 = withdrawn serve serves 2 c n e in omega arith;
+      made-up-counts = λ read exact f t e. accepted-exact f t (read-so read exact f t e);
+      copied-twice = λ serve serves (t, e, two). omega (arith, withdrawn serve serves t e);
       moved-up = moved;
-      further-mixed = λ read exact. (refuses-so read exact _ 3 7 2 (mixed-judged .0), refuses-so read exact _ 3 7 2 (mixed-judged .1));
-      written-early = (last-judged, λ writer untouched out. let (n, r, p, e) = last-refused (length out) in untouched lastWrong out n r p e);
+      further-mixed = λ read exact. (refuses-so read exact _ (refusal 3 7 2) (mixed-judged .0), refuses-so read exact _ (refusal 3 7 2) (mixed-judged .1));
+      written-early = (last-judged, λ writer untouched out. let (x, e) = last-refused (length out) in untouched lastWrong out x e);
       lowest-number = not-lowest;
     }
 
@@ -195,8 +197,8 @@ library-meets =
     record {
       accepts-exactly = grammar-exact;
       refuses-first = first-fault-exact;
-      refuses-untouched = λ list out n r p e. write-leaves list out .1 n r p e;
-      changes-faithfully = λ f k new e r p same. change-refused f k new e r p .0 same;
-      withdraws-faithfully = λ f k e r p same. withdraw-refused f k e r p .0 same;
-      serves = λ f d c n read calls. demand3 f d c n read calls .0;
+      refuses-untouched = λ list out x e. write-leaves list out .1 x e;
+      changes-faithfully = λ f k new x same. change-refused f k new x .0 same;
+      withdraws-faithfully = λ f k x same. withdraw-refused f k x .0 same;
+      serves = λ f t read calls. demand3 f t read calls .0;
     }

@@ -19,6 +19,8 @@ use Rattle.records.specs.Field.{Span, _to_, field}
 use Rattle.records.specs.Kinds.{opens}
 use Rattle.records.specs.declared.kind.Kind.{Kind}
 use Rattle.records.specs.declared.kind.Kind.the-variants.{Im, R14}
+use Rattle.flow.specs.declared.answer.Totals.{Totals}
+use Rattle.flow.specs.declared.location.Target.{Target}
 use Rattle.grammar.specs.Grammar.{Typed, kindsOf, Numbered, RightDisposition, Grammar}
 use Rattle.grammar.specs.Grammar.{amountOf as Grammar·amountOf}
 use Rattle.grammar.proofs.Dispositions.{Detail, detail-opens, Opened, opened-by, opened-so, Member, InShape}
@@ -60,7 +62,7 @@ items-open (d ∷ ds) shape = (go d (opened-so d (shape .0)), items-open ds (sha
     go d (opened-by r rs e details) = record { first = ownItem r; others = map ownItem rs; whole = refl; passes = ap opens e; none = details-shut rs details }
 
 -- so the list of a flow is its header's item and its dispositions', and the ledger finds them there
-module _ (f : List ℕ) (d c n : ℕ) (g : Grammar f d c n) where
+module _ (f : List ℕ) (t : Totals) (g : Grammar f t) where
   abbrev head : Item
   head = itemOfHeader (g .parts .header)
 
@@ -68,18 +70,18 @@ module _ (f : List ℕ) (d c n : ℕ) (g : Grammar f d c n) where
   ds = g .parts .dispositions
 
   pub listed-so : itemsOf f ≡ head ∷ flatten (itemsBy ds)
-  listed-so = own-list-items f d c n g ∙ ap (λ (l : List Item). head ∷ l) (map-flatten ownItem ds)
+  listed-so = own-list-items f t g ∙ ap (λ (l : List Item). head ∷ l) (map-flatten ownItem ds)
 
   head-so : leading (itemsOf f) ≡ head ∷ []
   unfolding lead
-  head-so = ap leading listed-so ∙ ap (λ (l : List Item). head ∷ l) (lead-joined isD (itemsBy ds) (items-open ds (grammar-shape f d c n g)))
+  head-so = ap leading listed-so ∙ ap (λ (l : List Item). head ∷ l) (lead-joined isD (itemsBy ds) (items-open ds (grammar-shape f t g)))
 
   dispositions-so : dispositions (itemsOf f) ≡ itemsBy ds
   unfolding groups
-  dispositions-so = ap dispositions listed-so ∙ groups-joined isD (itemsBy ds) (items-open ds (grammar-shape f d c n g))
+  dispositions-so = ap dispositions listed-so ∙ groups-joined isD (itemsBy ds) (items-open ds (grammar-shape f t g))
 
 -- disposition k among them
-module _ (f : List ℕ) (k d c n first m a : ℕ) (w : Among f k d c n first m a) where
+module _ (f : List ℕ) (k : ℕ) (v : Target) (w : Among f k v) where
   abbrev own : Item
   own = itemOfHeader (w .grammar .parts .header)
 
@@ -93,18 +95,18 @@ module _ (f : List ℕ) (k d c n first m a : ℕ) (w : Among f k d c n first m a
   behind = itemsBy (w .post)
 
   found-so : dispositions (itemsOf f) ≡ before ++ (here ∷ behind)
-  found-so = dispositions-so f d c n (w .grammar) ∙ ap itemsBy (w .split) ∙ map-append (map ownItem) (w .pre) (w .this ∷ w .post)
+  found-so = dispositions-so f (v .totals) (w .grammar) ∙ ap itemsBy (w .split) ∙ map-append (map ownItem) (w .pre) (w .this ∷ w .post)
 
   parts : (take (k - 1) (dispositions (itemsOf f)) ≡ before) × (getD (dispositions (itemsOf f)) (k - 1) [] ≡ here) × (drop k (dispositions (itemsOf f)) ≡ behind)
   parts = parted k [] (dispositions (itemsOf f)) before here behind found-so (w .numbered ∙ ap (λ (i : ℕ). 1 + i) (sym (length-map (w .pre) (map ownItem))))
 
   pub without-listed : withoutDisposition k (itemsOf f) ≡ own ∷ flatten (before ++ behind)
   unfolding withoutDisposition
-  without-listed = λ i. head-so f d c n (w .grammar) i ++ flatten (parts .0 i ++ parts .2 i)
+  without-listed = λ i. head-so f (v .totals) (w .grammar) i ++ flatten (parts .0 i ++ parts .2 i)
 
   pub amount-listed : (new : ℕ) → withAmount k new (itemsOf f) ≡ own ∷ flatten (before ++ (firstRepriced new here ∷ behind))
   unfolding withAmount
-  amount-listed new = λ i. head-so f d c n (w .grammar) i ++ flatten (parts .0 i ++ (firstRepriced new (parts .1 i) ∷ parts .2 i))
+  amount-listed new = λ i. head-so f (v .totals) (w .grammar) i ++ flatten (parts .0 i ++ (firstRepriced new (parts .1 i) ∷ parts .2 i))
 
 -- bytes carried from behind the number are not touched by another number
 gather-kept :

@@ -24,10 +24,11 @@ use Rattle.records.proofs.EachKind.{each-kind}
 use Rattle.records.proofs.FirstFault.{right-not-refused}
 use Rattle.records.proofs.Numbers.{numbersOf, refused-by}
 use Rattle.flow.specs.Find.{IsNumber, find}
-use Rattle.flow.specs.Find.{refused as Located·refused}
 use Rattle.flow.specs.Judge.{judge}
 use Rattle.flow.specs.Steps.{judgeRecord}
-use Rattle.flow.specs.Verdict.{accepted, refused}
+use Rattle.flow.specs.Verdict.{accepted, refused, refusal, ofCall}
+use Rattle.flow.specs.declared.answer.Refusal.{Refusal}
+use Rattle.flow.specs.declared.answer.Totals.{Totals}
 use Rattle.flow.specs.declared.walk.Walk.{Walk}
 use Rattle.flow.proofs.Dispositions.{find-refused}
 use Rattle.flow.proofs.Sought.{seek-exact}
@@ -115,23 +116,23 @@ walking header w company i rec n p e = by (eqb (length rec) 120) refl
         subst (OneOf placeNumbers) one refl
 
 -- reading
-read-number : {f : List ℕ} {n r p : ℕ} → FirstFault f n r p → OneOf readingNumbers n
+read-number : {f : List ℕ} {x : Refusal} → FirstFault f x → OneOf readingNumbers (x .number)
 unfolding every isListed
 read-number (wrong-length wrong) = refl
 read-number (in-record before rec behind n p sized same each fault) = among readingNumbers placeNumbers n refl (place-number fault)
 read-number (still-due sized each none) = refl
 
-reading : (f : List ℕ) (n r p : ℕ) → judge f ≡ refused n r p → OneOf readingNumbers n
-reading f n r p e = read-number (first-fault-exact f n r p .0 e)
+reading : (f : List ℕ) (x : Refusal) → judge f ≡ refused x → OneOf readingNumbers (x .number)
+reading f x e = read-number (first-fault-exact f x .0 e)
 
 -- where a disposition is
-finding : (f : List ℕ) (k n r p : ℕ) → find f k ≡ Located·refused n r p → OneOf findingNumbers n
+finding : (f : List ℕ) (k : ℕ) (x : Refusal) → find f k ≡ refused x → OneOf findingNumbers (x .number)
 unfolding every isListed
-finding f k n r p e = by (find-refused f k n r p .0 e)
+finding f k x e = by (find-refused f k x .0 e)
   where
-    by : (judge f ≡ refused n r p) ⊎ ((d c m : ℕ) × (judge f ≡ accepted d c m) × ¬ IsNumber k d × (n ≡ 15) × (r ≡ 0) × (p ≡ 0)) → OneOf findingNumbers n
-    by (inl wrong) = among findingNumbers readingNumbers n refl (reading f n r p wrong)
-    by (inr (d, c, m, read, none, number, none-of, position)) = rw number
+    by : (judge f ≡ refused x) ⊎ ((t : Totals) × (judge f ≡ accepted t) × ¬ IsNumber k (t .dispositions) × (x ≡ ofCall 15)) → OneOf findingNumbers (x .number)
+    by (inl wrong) = among findingNumbers readingNumbers (x .number) refl (reading f x wrong)
+    by (inr (t, read, none, same)) = rw same
 
 -- writing: those of every row but that of EF, which no item encodes; 9, which stands in them, is taken out at the end
 abbrev rowNumbers : List ℕ
@@ -143,27 +144,27 @@ writing-row ctx rec =
     each-kind (λ (k : Kind). hasItem k ≡ true → areAmong rowNumbers (numbersOf (checks k ctx rec)) ≡ true)
     (λ h. refl, (λ h. refl, (λ h. refl, (λ h. refl, (λ h. refl, (λ h. refl, (λ h. refl, (λ h. refl, (λ h. refl, (λ h. refl, (λ h. absurd (true≢false (sym h)), tt)))))))))))
 
-write-number : {list : List ℕ} {room n r p : ℕ} → WriteFault list room n r p → OneOf rowNumbers n
+write-number : {list : List ℕ} {room : ℕ} {x : Refusal} → WriteFault list room x → OneOf rowNumbers (x .number)
 unfolding isListed
 write-number =
     write-refused-by (OneOf rowNumbers) refl refl (λ k ctx rec so n p first. among rowNumbers (numbersOf (checks k ctx rec)) n (writing-row ctx rec k (so .listed)) (row-broken ctx rec k n p first)) refl refl refl refl
 
-writing : (list : List ℕ) (room n r p : ℕ) → judgeList list room ≡ refused n r p → OneOf writingNumbers n
-writing list room n r p e = other-than 9 writingNumbers n (λ nine. numbers-supplied list room r p (e ∙ ap (λ (m : ℕ). refused m r p) nine)) (write-number (write-refused list room n r p .0 e))
+writing : (list : List ℕ) (room : ℕ) (x : Refusal) → judgeList list room ≡ refused x → OneOf writingNumbers (x .number)
+writing list room x e = other-than 9 writingNumbers (x .number) (λ nine. numbers-supplied list room (x .«record») (x .position) (e ∙ ap (λ (m : ℕ). refused (refusal m (x .«record») (x .position))) nine)) (write-number (write-refused list room x .0 e))
 
 -- the calls that read first, and then have numbers of their own
-change-number : {f : List ℕ} {k new n r p : ℕ} → ChangeFault f k new n r p → OneOf changeNumbers n
+change-number : {f : List ℕ} {k new : ℕ} {x : Refusal} → ChangeFault f k new x → OneOf changeNumbers (x .number)
 unfolding every isListed
-change-number {f} (not-read e r p refusal) = among changeNumbers readingNumbers e refl (reading f e r p refusal)
-change-number (no-disposition d c n read none) = refl
-change-number (amount-too-large d c n read some large) = refl
-change-number (total-too-large d c n first m a read found small large) = refl
+change-number {f} (not-read x wrong) = among changeNumbers readingNumbers (x .number) refl (reading f x wrong)
+change-number (no-disposition t read none) = refl
+change-number (amount-too-large t read some large) = refl
+change-number (total-too-large t s read found small large) = refl
 
-withdraw-number : {f : List ℕ} {k n r p : ℕ} → WithdrawFault f k n r p → OneOf withdrawalNumbers n
+withdraw-number : {f : List ℕ} {k : ℕ} {x : Refusal} → WithdrawFault f k x → OneOf withdrawalNumbers (x .number)
 unfolding every isListed
-withdraw-number {f} (not-read e r p refusal) = among withdrawalNumbers readingNumbers e refl (reading f e r p refusal)
-withdraw-number (no-disposition d c n read none) = refl
-withdraw-number (only-one c n read one) = refl
+withdraw-number {f} (not-read x wrong) = among withdrawalNumbers readingNumbers (x .number) refl (reading f x wrong)
+withdraw-number (no-disposition t read none) = refl
+withdraw-number (only-one t read count one) = refl
 
 pub numbers-given : NumbersGiven
 unfolding every isListed
@@ -176,11 +177,11 @@ numbers-given =
       walking = walking;
       reading = reading;
       finding = finding;
-      seeking = λ f k n r p e. finding f k n r p (seek-exact f k .1 n r p .0 e);
+      seeking = λ f k x e. finding f k x (seek-exact f k .1 x .0 e);
       writing = writing;
-      reading-back = λ f room n r p e. by-room f room n r p (read-back-refused f room n r p .0 e);
-      changing = λ f k new n r p e. change-number (change-refused f k new n r p .0 e);
-      withdrawing = λ f k n r p e. withdraw-number (withdraw-refused f k n r p .0 e);
+      reading-back = λ f room x e. by-room f room x (read-back-refused f room x .0 e);
+      changing = λ f k new x e. change-number (change-refused f k new x .0 e);
+      withdrawing = λ f k x e. withdraw-number (withdraw-refused f k x .0 e);
     }
   where
     by-date : (bs : List ℕ) (n : ℕ) → ((n ≡ 5) × ¬ SixDigits bs) ⊎ ((n ≡ 8) × SixDigits bs × ¬ Gregorian (dayOf bs)) → OneOf (5 ∷ 8 ∷ []) n
@@ -188,7 +189,7 @@ numbers-given =
     by-date bs n (inr h) = rw (h .0)
 
     by-room :
-        (f : List ℕ) (room n r p : ℕ) → (judge f ≡ refused n r p) ⊎ ((d c m : ℕ) × (judge f ≡ accepted d c m) × (room < length (listOf f)) × (n ≡ 21) × (r ≡ 0) × (p ≡ 0))
-        → OneOf readingBackNumbers n
-    by-room f room n r p (inl e) = among readingBackNumbers readingNumbers n refl (reading f n r p e)
-    by-room f room n r p (inr (d, c, m, e, short, number, none-of, position)) = rw number
+        (f : List ℕ) (room : ℕ) (x : Refusal) → (judge f ≡ refused x) ⊎ ((t : Totals) × (judge f ≡ accepted t) × (room < length (listOf f)) × (x ≡ ofCall 21))
+        → OneOf readingBackNumbers (x .number)
+    by-room f room x (inl e) = among readingBackNumbers readingNumbers (x .number) refl (reading f x e)
+    by-room f room x (inr (t, e, short, same)) = rw same

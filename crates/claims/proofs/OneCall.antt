@@ -8,26 +8,30 @@ use lib.Dec.{leb, ltb}
 use lib.ListN.{length, take, replicate}
 use lib.Seq.{take-length}
 use borrow.Author.Tests.{leb-true, le-leb, lt-leb, lt-ltb, le-ltb}
-use Rattle.flow.specs.Find.{standing, IsNumber, find}
+use Rattle.flow.specs.Find.{IsNumber, find}
 use Rattle.flow.specs.Judge.{judge}
-use Rattle.flow.specs.Seek.{Target, target, seek}
-use Rattle.flow.specs.Verdict.{accepted}
-use Rattle.flow.proofs.Accepted.{accepted-not-refused}
-use Rattle.flow.proofs.Sought.{apart, read-found, sought-read}
+use Rattle.flow.specs.Seek.{target, seek}
+use Rattle.flow.specs.Verdict.{Verdict, accepted, ofCall}
+use Rattle.flow.specs.declared.answer.Refusal.{Refusal}
+use Rattle.flow.specs.declared.answer.Totals.{Totals}
+use Rattle.flow.specs.declared.location.Target.{Target}
+use Rattle.flow.proofs.Accepted.{accepted-not-refused, accepted-same}
+use Rattle.flow.proofs.Sought.{read-found, sought-read}
 use Rattle.grammar.specs.Grammar.{Typed, amountOf}
 use Rattle.grammar.proofs.Grammar.{grammar-exact}
-use Rattle.list.specs.Encode.{dispositionsOf, centsOf}
+use Rattle.list.specs.Encode.{dispositionsOf, centsOf, totalsOf}
 use Rattle.list.specs.Items.{Item}
 use Rattle.list.specs.ReadBack.{itemsOf, Canonical}
 use Rattle.list.proofs.RecordsAgain.{ownItem}
-use Rattle.list.proofs.Rewritten.{own-list-items, own-sums, items-so}
+use Rattle.list.proofs.Rewritten.{own-list-items, own-sums}
 use Rattle.amend.specs.Amended.{Amended, unchanged}
-use Rattle.amend.specs.Change.{changed as Change·changed}
+use Rattle.amend.specs.Change.{totalsChanged}
 use Rattle.amend.specs.Change.{change as Change·change}
 use Rattle.amend.specs.Laws.{ChangeFault, not-read, no-disposition, amount-too-large, total-too-large, WithdrawFault, only-one}
-use Rattle.amend.specs.Withdraw.{withdraw as Withdraw·withdraw, withdrawn as Withdraw·withdrawn}
+use Rattle.amend.specs.Withdraw.{totalsLeft}
+use Rattle.amend.specs.Withdraw.{withdraw as Withdraw·withdraw}
 use Rattle.amend.proofs.Among.{Among, among-so, restOf, changedOf}
-use Rattle.amend.proofs.Answered.{Changing, changing, changes, Withdrawing, withdrawing, withdraws, refuses, changed-grammar, withdrawn-grammar, refused-untouched, seeking, Seeking, stands, unread, none}
+use Rattle.amend.proofs.Answered.{changedBy, Changing, changing, changes, withdrawnBy, Withdrawing, withdrawing, withdraws, refuses, changed-grammar, withdrawn-grammar, refused-untouched, seeking, Seeking, stands, unread, none}
 use Rattle.amend.proofs.Leaving.{change-touches, withdraw-touches, changedFlow, changed-read, changed-size, changed-whole, withdrawnFlow, withdrawn-read, withdrawn-length, withdrawn-size, withdrawn-front}
 use Rattle.amend.proofs.Left.{typedFrom, retold, here, behind, changed-cents, changed-numbered}
 use Rattle.claims.specs.Demand3.{TouchesOnly, numberOf, Amends, Touched}
@@ -38,7 +42,7 @@ use Rattle.claims.proofs.Listed.{itemsBy, itemOfHeader, listed-so, with
 
 -- memory that was made of the flow g, as long as `all`, beside a list: it holds a flow whose list this is, and blanks behind it
 pub record Held (g : List ℕ) (all : ℕ) (m : Memory) (list : List Item) : Type 0 where
-  pub read : judge (flowIn m) ≡ accepted (dispositionsOf list) (centsOf list) (suc (length list))
+  pub read : judge (flowIn m) ≡ accepted (totalsOf list)
   pub items : itemsOf (flowIn m) ≡ list
   pub canonical : Canonical g → Canonical (flowIn m)
   pub sized : length (flowIn m) ≡ m .size
@@ -53,26 +57,19 @@ pub record Step (f : List ℕ) (call : Call) (a : Amended) (e : Entry) : Type 0 
   pub held : Held f (length f) (memoryOf a) (e .items)
   pub reply : replyOf call a ≡ e .reply
 
--- the numbers of an accepted flow are those of its list
-pub numbers-listed : (f : List ℕ) (d c n : ℕ) → judge f ≡ accepted d c n → (dispositionsOf (itemsOf f) ≡ d) × (centsOf (itemsOf f) ≡ c) × (suc (length (itemsOf f)) ≡ n)
-numbers-listed f d c n read =
-    let g = grammar-exact f d c n .0 read in
-    let own = own-list-items f d c n g in
-    let sums = own-sums f d c n g in
-    (ap dispositionsOf own ∙ sums .0, ap centsOf own ∙ sums .1, ap (λ (is : List Item). suc (length is)) own ∙ items-so f d c n g)
-
-pub list-numbers : (f : List ℕ) {d c n : ℕ} → judge f ≡ accepted d c n → judge f ≡ accepted (dispositionsOf (itemsOf f)) (centsOf (itemsOf f)) (suc (length (itemsOf f)))
-list-numbers f {d} {c} {n} read =
-    let same = numbers-listed f d c n read in
-    read ∙ (λ i. accepted (sym (same .0) i) (sym (same .1) i) (sym (same .2) i))
+-- the totals of an accepted flow are those of its list
+pub totals-listed : (f : List ℕ) (t : Totals) → judge f ≡ accepted t → totalsOf (itemsOf f) ≡ t
+totals-listed f t read =
+    let g = grammar-exact f t .0 read in
+    ap totalsOf (own-list-items f t g) ∙ own-sums f t g
 
 -- what is held is known as a flow and as a list
 pub held-as :
-    (g : List ℕ) (all : ℕ) (m : Memory) (list : List Item) (left : List ℕ) {d c n : ℕ} → flowIn m ≡ left → judge left ≡ accepted d c n → itemsOf left ≡ list
+    (g : List ℕ) (all : ℕ) (m : Memory) (list : List Item) (left : List ℕ) {t : Totals} → flowIn m ≡ left → judge left ≡ accepted t → itemsOf left ≡ list
     → (Canonical g → Canonical left) → length left ≡ m .size → m .size ≤ all → m .bytes ≡ left ++ replicate (all - m .size) 32 → Held g all m list
-held-as g all m list left own read listed canonical size within memory =
+held-as g all m list left {t} own read listed canonical size within memory =
     record {
-      read = ap judge own ∙ list-numbers left read ∙ ap (λ (l : List Item). accepted (dispositionsOf l) (centsOf l) (suc (length l))) listed;
+      read = ap judge own ∙ read ∙ ap accepted (sym (totals-listed left t read) ∙ ap totalsOf listed);
       items = ap itemsOf own ∙ listed;
       canonical = λ c. subst Canonical (sym own) (canonical c);
       sized = ap (λ (l : List ℕ). length l) own ∙ size;
@@ -100,150 +97,146 @@ has-none k d is count absent = by (leb 1 k) (leb k d) refl refl
     by true true low high = absurd (absent (leb-true 1 k low, leb-true k d high))
 
 -- a refused call beside a refusal on the ledger
-module _ (f : List ℕ) (d c n : ℕ) (read : judge f ≡ accepted d c n) where
+module _ (f : List ℕ) (t : Totals) (read : judge f ≡ accepted t) where
   abbrev is : List Item
   is = itemsOf f
 
-  kept-alone : (call : Call) (number : ℕ) → (e : Entry) → e ≡ refusal number is → Step f call (unchanged number 0 0 f) e
+  kept-alone : (call : Call) (number : ℕ) → (e : Entry) → e ≡ refusal number is → Step f call (unchanged (ofCall number) f) e
   kept-alone call number e same =
-      subst (Step f call (unchanged number 0 0 f)) (sym same)
-      (record { held = held-as f (length f) (memoryOf (unchanged number 0 0 f)) is f (take-length f) read refl (λ canonical. canonical) refl (omega arith) (whole-memory f f); reply = told call })
+      subst (Step f call (unchanged (ofCall number) f)) (sym same)
+      (record { held = held-as f (length f) (memoryOf (unchanged (ofCall number) f)) is f (take-length f) read refl (λ canonical. canonical) refl (omega arith) (whole-memory f f); reply = told call })
     where
-      told : (call : Call) → replyOf call (unchanged number 0 0 f) ≡ refused number 0 0
+      told : (call : Call) → replyOf call (unchanged (ofCall number) f) ≡ refused (ofCall number)
       told (change k new) = refl
       told (withdraw k) = refl
 
-  count : dispositionsOf is ≡ d
-  count = numbers-listed f d c n read .0
+  count : dispositionsOf is ≡ t .dispositions
+  count = ap (λ (u : Totals). u .dispositions) (totals-listed f t read)
 
-  numbers-same : (k d′ c′ n′ : ℕ) → judge f ≡ accepted d′ c′ n′ → (IsNumber k d′ → IsNumber k d) × (IsNumber k d → IsNumber k d′)
-  numbers-same k d′ c′ n′ other =
-      let same : accepted d′ c′ n′ ≡ accepted d c n = sym other ∙ read in
-      let equal : d′ ≡ d = cc in
+  numbers-same : (k : ℕ) {u : Totals} → judge f ≡ accepted u → (IsNumber k (u .dispositions) → IsNumber k (t .dispositions)) × (IsNumber k (t .dispositions) → IsNumber k (u .dispositions))
+  numbers-same k other =
+      let equal = ap (λ (u : Totals). u .dispositions) (accepted-same (sym other ∙ read)) in
       (subst (IsNumber k) equal, subst (IsNumber k) (sym equal))
 
-  found-number : (k d′ c′ n′ first m a : ℕ) → seek f k ≡ target d′ c′ n′ first m a → IsNumber k d
-  found-number k d′ c′ n′ first m a found = go (seek f k) (seeking f k) found
+  found-number : (k : ℕ) (v : Target) → seek f k ≡ accepted v → IsNumber k (t .dispositions)
+  found-number k v found = go (seek f k) (seeking f k) found
     where
-      go : (t : Target) → Seeking f k t → t ≡ target d′ c′ n′ first m a → IsNumber k d
-      go t (unread wrong) e = absurd (apart e)
-      go t (none other absent) e = absurd (apart e)
-      go t (stands {d = d₀} {c = c₀} {n = n₀} other place numbers) e = numbers-same k d₀ c₀ n₀ other .0 numbers
+      go : (l : Verdict Target) → Seeking f k l → l ≡ accepted v → IsNumber k (t .dispositions)
+      go l (unread wrong) e = absurd (accepted-not-refused e)
+      go l (none other absent) e = absurd (accepted-not-refused e)
+      go l (stands other place numbers) e = numbers-same k other .0 numbers
 
   -- another amount on the ledger, and in the flow
-  module _ (k new d′ c′ n′ first m a : ℕ) (found : seek f k ≡ target d′ c′ n′ first m a) (small : new ≤ 9999999999999) where
-    abbrev w : Among f k d′ c′ n′ first m a
+  module _ (k new : ℕ) (v : Target) (found : seek f k ≡ accepted v) (small : new ≤ 9999999999999) where
+    abbrev w : Among f k v
     w = among-so f k found
 
     below : new < 10000000000000
     below = omega arith
 
     abbrev ds : List (List Typed)
-    ds = changedOf f k d′ c′ n′ first m a w new below
+    ds = changedOf f k v w new below
 
     amount-so : withAmount k new is ≡ itemOfHeader (w .grammar .parts .header) ∷ flatten (itemsBy ds)
     amount-so =
-        let right = here f d′ c′ n′ (w .grammar) (w .pre) (w .this) (w .post) (w .split) in
+        let right = here f (v .totals) (w .grammar) (w .pre) (w .this) (w .post) (w .split) in
         let same : itemsBy ds ≡ itemsBy (w .pre) ++ (firstRepriced new (map ownItem (w .this)) ∷ itemsBy (w .post)) = map-append (map ownItem) (w .pre) (retold new (w .this) ∷ w .post) ∙ ap (λ (l : List Item). itemsBy (w .pre) ++ (l ∷ itemsBy (w .post))) (items-retold new _ _ (w .this) right) in
-        amount-listed f k d′ c′ n′ first m a w new ∙ ap (λ (l : List (List Item)). itemOfHeader (w .grammar .parts .header) ∷ flatten l) (sym same)
+        amount-listed f k v w new ∙ ap (λ (l : List (List Item)). itemOfHeader (w .grammar .parts .header) ∷ flatten l) (sym same)
 
-    amount-cents : centsOf (withAmount k new is) ≡ c′ - a + new
+    amount-cents : centsOf (withAmount k new is) ≡ totalsChanged v new .cents
     unfolding centsOf
     amount-cents =
-        let each = changed-numbered f d′ c′ n′ (w .grammar) (w .pre) (w .this) (w .post) (w .split) new below in
-        let total = changed-cents f d′ c′ n′ (w .grammar) (w .pre) (w .this) (w .post) (w .split) new below in
-        let own : c′ - amountOf (w .this) + new ≡ c′ - a + new = ap (λ (x : ℕ). c′ - x + new) (sym (w .amount)) in
+        let each = changed-numbered f (v .totals) (w .grammar) (w .pre) (w .this) (w .post) (w .split) new below in
+        let total = changed-cents f (v .totals) (w .grammar) (w .pre) (w .this) (w .post) (w .split) new below in
+        let own : v .totals .cents - amountOf (w .this) + new ≡ totalsChanged v new .cents = ap (λ (x : ℕ). v .totals .cents - x + new) (sym (w .amount)) in
         ap centsOf amount-so ∙ omega (arith, items-cents _ 1 ds each)
 
   module _ (k new : ℕ) where
-    change-refused : {e r p : ℕ} → ChangeFault f k new e r p → Step f (change k new) (unchanged e r p f) (changeOn k new is)
+    change-refused : {x : Refusal} → ChangeFault f k new x → Step f (change k new) (unchanged x f) (changeOn k new is)
     unfolding changeOn
-    change-refused (not-read e r p wrong) = absurd (accepted-not-refused (sym wrong ∙ read))
-    change-refused (no-disposition d′ c′ n′ other absent) =
-        let missing : has k is ≡ false = has-none k d is count (λ numbers. absent (numbers-same k d′ c′ n′ other .1 numbers)) in
+    change-refused (not-read x wrong) = absurd (accepted-not-refused (sym wrong ∙ read))
+    change-refused (no-disposition u other absent) =
+        let missing : has k is ≡ false = has-none k (t .dispositions) is count (λ numbers. absent (numbers-same k other .1 numbers)) in
         kept-alone (change k new) 15 (changeOn k new is) (rw missing)
-    change-refused (amount-too-large d′ c′ n′ other numbers large) =
-        let there : has k is ≡ true = has-number k d is count (numbers-same k d′ c′ n′ other .0 numbers) in
+    change-refused (amount-too-large u other numbers large) =
+        let there : has k is ≡ true = has-number k (t .dispositions) is count (numbers-same k other .0 numbers) in
         let above : leb new 9999999999999 ≡ false = lt-leb new 9999999999999 large in
         kept-alone (change k new) 16 (changeOn k new is) (rw (there, above))
-    change-refused (total-too-large d′ c′ n′ first m a other place small large) =
+    change-refused (total-too-large u s other place small large) =
+        let v = target u s in
         let found = read-found f k other place in
-        let there : has k is ≡ true = has-number k d is count (found-number k d′ c′ n′ first m a found) in
+        let there : has k is ≡ true = has-number k (t .dispositions) is count (found-number k v found) in
         let within : leb new 9999999999999 ≡ true = le-leb new 9999999999999 small in
-        let above : leb (centsOf (withAmount k new is)) 999999999999999 ≡ false = ap (λ (x : ℕ). leb x 999999999999999) (amount-cents k new d′ c′ n′ first m a found small) ∙ lt-leb (c′ - a + new) 999999999999999 large in
+        let above : leb (centsOf (withAmount k new is)) 999999999999999 ≡ false = ap (λ (x : ℕ). leb x 999999999999999) (amount-cents k new v found small) ∙ lt-leb (totalsChanged v new .cents) 999999999999999 large in
         kept-alone (change k new) 17 (changeOn k new is) (rw (there, within, above))
 
     change-made :
-        (d′ c′ n′ first m a : ℕ) (found : seek f k ≡ target d′ c′ n′ first m a) (small : new ≤ 9999999999999) (fits : c′ - a + new ≤ 999999999999999)
-        → Step f (change k new) (record { answer = accepted d′ (c′ - a + new) n′; size = length f; bytes = Change·changed first new n′ (c′ - a + new) f }) (changeOn k new is)
+        (v : Target) (found : seek f k ≡ accepted v) (small : new ≤ 9999999999999) (fits : totalsChanged v new .cents ≤ 999999999999999)
+        → Step f (change k new) (changedBy v new f) (changeOn k new is)
     unfolding changeOn
-    change-made d′ c′ n′ first m a found small fits =
+    change-made v found small fits =
         let w′ = among-so f k found in
-        let left = changedFlow f k d′ c′ n′ first m a found new small fits in
-        let whole : take (length f) left ≡ left = changed-whole f k d′ c′ n′ first m a found new small fits in
-        let told : judge left ≡ accepted d′ (c′ - a + new) n′ = changed-read f k d′ c′ n′ first m a found new small fits in
-        let g = changed-grammar f k d′ c′ n′ first m a new w′ (below k new d′ c′ n′ first m a found small) fits in
-        let listed : itemsOf left ≡ withAmount k new is = listed-so left d′ (c′ - a + new) n′ g ∙ sym (amount-so k new d′ c′ n′ first m a found small) in
-        let there : has k is ≡ true = has-number k d is count (found-number k d′ c′ n′ first m a found) in
+        let left = changedFlow f k v found new small fits in
+        let whole : take (length f) left ≡ left = changed-whole f k v found new small fits in
+        let told : judge left ≡ accepted (totalsChanged v new) = changed-read f k v found new small fits in
+        let g = changed-grammar f k v new w′ (below k new v found small) fits in
+        let listed : itemsOf left ≡ withAmount k new is = listed-so left (totalsChanged v new) g ∙ sym (amount-so k new v found small) in
+        let there : has k is ≡ true = has-number k (t .dispositions) is count (found-number k v found) in
         let within : leb new 9999999999999 ≡ true = le-leb new 9999999999999 small in
-        let low : leb (centsOf (withAmount k new is)) 999999999999999 ≡ true = ap (λ (x : ℕ). leb x 999999999999999) (amount-cents k new d′ c′ n′ first m a found small) ∙ le-leb (c′ - a + new) 999999999999999 fits in
-        let own : changeOn k new is ≡ record { reply = change-accepted (dispositionsOf (withAmount k new is)) (centsOf (withAmount k new is)) (suc (length (withAmount k new is))); items = withAmount k new is } = rw (there, within, low) in
-        let numbers = numbers-listed left d′ (c′ - a + new) n′ told in
-        let reply = (λ i. change-accepted (sym (numbers .0) i) (sym (numbers .1) i) (sym (numbers .2) i)) ∙ ap (λ (l : List Item). change-accepted (dispositionsOf l) (centsOf l) (suc (length l))) listed in
-        let canonical : Canonical f → Canonical left = λ c. changed-canonical f k d′ c′ n′ first m a w′ c new (below k new d′ c′ n′ first m a found small) fits in
-        subst (Step f (change k new) _) (sym own) (record { held = held-as f (length f) _ (withAmount k new is) left whole told listed canonical (changed-size f k d′ c′ n′ first m a found new small fits) (omega arith) (whole-memory f left); reply = reply })
+        let low : leb (centsOf (withAmount k new is)) 999999999999999 ≡ true = ap (λ (x : ℕ). leb x 999999999999999) (amount-cents k new v found small) ∙ le-leb (totalsChanged v new .cents) 999999999999999 fits in
+        let own : changeOn k new is ≡ record { reply = change-accepted (totalsOf (withAmount k new is)); items = withAmount k new is } = rw (there, within, low) in
+        let reply = ap change-accepted (sym (totals-listed left (totalsChanged v new) told) ∙ ap totalsOf listed) in
+        let canonical : Canonical f → Canonical left = λ c. changed-canonical f k v w′ c new (below k new v found small) fits in
+        subst (Step f (change k new) _) (sym own) (record { held = held-as f (length f) _ (withAmount k new is) left whole told listed canonical (changed-size f k v found new small fits) (omega arith) (whole-memory f left); reply = reply })
 
     pub change-step : Step f (change k new) (Change·change f k new) (changeOn k new is)
     change-step = go (Change·change f k new) (changing f k new)
       where
         go : (x : Amended) → Changing f k new x → Step f (change k new) x (changeOn k new is)
         go x (refuses fault) = change-refused fault
-        go x (changes {d = d′} {c = c′} {n = n′} {first = first} {m = m} {a = a} found small fits) = change-made d′ c′ n′ first m a found small fits
+        go x (changes {v = v} found small fits) = change-made v found small fits
 
   -- a disposition less on the ledger, and in the flow
   module _ (k : ℕ) where
-    withdraw-refused : {e r p : ℕ} → WithdrawFault f k e r p → Step f (withdraw k) (unchanged e r p f) (withdrawOn k is)
+    withdraw-refused : {x : Refusal} → WithdrawFault f k x → Step f (withdraw k) (unchanged x f) (withdrawOn k is)
     unfolding withdrawOn
-    withdraw-refused (not-read e r p wrong) = absurd (accepted-not-refused (sym wrong ∙ read))
-    withdraw-refused (no-disposition d′ c′ n′ other absent) =
-        let missing : has k is ≡ false = has-none k d is count (λ numbers. absent (numbers-same k d′ c′ n′ other .1 numbers)) in
+    withdraw-refused (not-read x wrong) = absurd (accepted-not-refused (sym wrong ∙ read))
+    withdraw-refused (no-disposition u other absent) =
+        let missing : has k is ≡ false = has-none k (t .dispositions) is count (λ numbers. absent (numbers-same k other .1 numbers)) in
         kept-alone (withdraw k) 15 (withdrawOn k is) (rw missing)
-    withdraw-refused (only-one c′ n′ other one) =
-        let there : has k is ≡ true = has-number k d is count (numbers-same k 1 c′ n′ other .0 (omega arith, omega arith)) in
-        let same : accepted 1 c′ n′ ≡ accepted d c n = sym other ∙ read in
-        let alone : d ≡ 1 = cc in
+    withdraw-refused (only-one u other alone one) =
+        let there : has k is ≡ true = has-number k (t .dispositions) is count (numbers-same k other .0 (omega arith, omega arith)) in
+        let same = ap (λ (w : Totals). w .dispositions) (accepted-same (sym other ∙ read)) in
         let few : ltb 1 (dispositionsOf is) ≡ false = le-ltb 1 (dispositionsOf is) (omega (arith, count)) in
         kept-alone (withdraw k) 18 (withdrawOn k is) (rw (there, few))
 
     withdraw-made :
-        (d′ c′ n′ first m a : ℕ) (found : seek f k ≡ target d′ c′ n′ first m a) (some : 2 ≤ d′)
-        → Step f (withdraw k) (record { answer = accepted (d′ - 1) (c′ - a) (n′ - m); size = 120 * (n′ - m); bytes = Withdraw·withdrawn f k (n′ - 1) (d′ - 1) (c′ - a) (n′ - m) }) (withdrawOn k is)
+        (v : Target) (found : seek f k ≡ accepted v) (some : 2 ≤ v .totals .dispositions) → Step f (withdraw k) (withdrawnBy k v f) (withdrawOn k is)
     unfolding withdrawOn
-    withdraw-made d′ c′ n′ first m a found some =
+    withdraw-made v found some =
         let w′ = among-so f k found in
-        let left = withdrawnFlow f k d′ c′ n′ first m a found some in
+        let left = withdrawnFlow f k v found some in
         let list = withoutDisposition k is in
-        let front = withdrawn-front f k d′ c′ n′ first m a found some in
-        let told : judge left ≡ accepted (d′ - 1) (c′ - a) (n′ - m) = withdrawn-read f k d′ c′ n′ first m a found some in
-        let g = withdrawn-grammar f k d′ c′ n′ first m a w′ some in
-        let later = behind f d′ c′ n′ (w′ .grammar) (w′ .pre) (w′ .this) (w′ .post) (w′ .split) in
-        let same : itemsBy (restOf f k d′ c′ n′ first m a w′) ≡ itemsBy (w′ .pre) ++ itemsBy (w′ .post) = map-append (map ownItem) (w′ .pre) (typedFrom (1 + length (w′ .pre)) (w′ .post)) ∙ ap (λ (l : List (List Item)). itemsBy (w′ .pre) ++ l) (typed-items _ _ _ (w′ .post) later) in
-        let listed : itemsOf left ≡ list = listed-so left (d′ - 1) (c′ - a) (n′ - m) g ∙ ap (λ (l : List (List Item)). itemOfHeader (w′ .grammar .parts .header) ∷ flatten l) same ∙ sym (without-listed f k d′ c′ n′ first m a w′) in
-        let there : has k is ≡ true = has-number k d is count (found-number k d′ c′ n′ first m a found) in
-        let equal = numbers-listed f d′ c′ n′ (sought-read f k found .0) .0 in
+        let front = withdrawn-front f k v found some in
+        let told : judge left ≡ accepted (totalsLeft v) = withdrawn-read f k v found some in
+        let g = withdrawn-grammar f k v w′ some in
+        let later = behind f (v .totals) (w′ .grammar) (w′ .pre) (w′ .this) (w′ .post) (w′ .split) in
+        let same : itemsBy (restOf f k v w′) ≡ itemsBy (w′ .pre) ++ itemsBy (w′ .post) = map-append (map ownItem) (w′ .pre) (typedFrom (1 + length (w′ .pre)) (w′ .post)) ∙ ap (λ (l : List (List Item)). itemsBy (w′ .pre) ++ l) (typed-items _ _ _ (w′ .post) later) in
+        let listed : itemsOf left ≡ list = listed-so left (totalsLeft v) g ∙ ap (λ (l : List (List Item)). itemOfHeader (w′ .grammar .parts .header) ∷ flatten l) same ∙ sym (without-listed f k v w′) in
+        let there : has k is ≡ true = has-number k (t .dispositions) is count (found-number k v found) in
+        let equal = ap (λ (u : Totals). u .dispositions) (totals-listed f (v .totals) (sought-read f k found .0)) in
         let more : ltb 1 (dispositionsOf is) ≡ true = lt-ltb 1 (dispositionsOf is) (omega arith) in
         let own : withdrawOn k is ≡ withdrawLeaving list = rw (there, more) in
-        let numbers = numbers-listed left (d′ - 1) (c′ - a) (n′ - m) told in
-        let reply = (λ i. withdrawal-accepted (sym (numbers .0) i) (sym (numbers .1) i) (sym (numbers .2) i) (120 * sym (numbers .2) i)) ∙ ap (λ (l : List Item). withdrawal-accepted (dispositionsOf l) (centsOf l) (suc (length l)) (120 * suc (length l))) listed in
-        let canonical : Canonical f → Canonical left = λ c. withdrawn-canonical f k d′ c′ n′ first m a w′ c some in
-        subst (Step f (withdraw k) _) (sym own) (record { held = held-as f (length f) _ list left front told listed canonical (withdrawn-length f k d′ c′ n′ first m a found some) (withdrawn-size f k d′ c′ n′ first m a found some) refl; reply = reply })
+        let reply = ap (λ (u : Totals). withdrawal-accepted u (120 * u .records)) (sym (totals-listed left (totalsLeft v) told) ∙ ap totalsOf listed) in
+        let canonical : Canonical f → Canonical left = λ c. withdrawn-canonical f k v w′ c some in
+        subst (Step f (withdraw k) _) (sym own) (record { held = held-as f (length f) _ list left front told listed canonical (withdrawn-length f k v found some) (withdrawn-size f k v found some) refl; reply = reply })
 
     pub withdraw-step : Step f (withdraw k) (Withdraw·withdraw f k) (withdrawOn k is)
     withdraw-step = go (Withdraw·withdraw f k) (withdrawing f k)
       where
         go : (x : Amended) → Withdrawing f k x → Step f (withdraw k) x (withdrawOn k is)
         go x (refuses fault) = withdraw-refused fault
-        go x (withdraws {d = d′} {c = c′} {n = n′} {first = first} {m = m} {a = a} found some) = withdraw-made d′ c′ n′ first m a found some
+        go x (withdraws {v = v} found some) = withdraw-made v found some
 
   -- so of either call
   pub one-step : (call : Call) → Step f call (amend call f) (entry call is)
@@ -252,35 +245,25 @@ module _ (f : List ℕ) (d c n : ℕ) (read : judge f ≡ accepted d c n) where
 
 -- what is sought was read and found, and what is then touched is what an accepted call touches
 amends :
-    (call : Call) (f : List ℕ) (a : Amended) {d c n first m cents : ℕ} → seek f (numberOf call) ≡ target d c n first m cents
-    → (judge f ≡ accepted d c n → find f (numberOf call) ≡ standing first m cents → TouchesOnly call f a first m n) → Amends call f a
-amends call f a {d} {c} {n} {first} {m} {cents} sought touches =
+    (call : Call) (f : List ℕ) (a : Amended) {v : Target} → seek f (numberOf call) ≡ accepted v
+    → (judge f ≡ accepted (v .totals) → find f (numberOf call) ≡ accepted (v .stand) → TouchesOnly call f a v) → Amends call f a
+amends call f a {v} sought touches =
     let both = sought-read f (numberOf call) sought in
-    record {
-      dispositions = d;
-      cents = c;
-      records = n;
-      first = first;
-      size = m;
-      amount = cents;
-      read = both .0;
-      found = both .1;
-      touches = touches (both .0) (both .1);
-    }
+    record { target = v; read = both .0; found = both .1; touches = touches (both .0) (both .1) }
 
 -- which bytes a call touches
 pub call-touched : (call : Call) (f : List ℕ) → Touched call f (amend call f)
 call-touched (change k new) f =
-    record { only = λ d c n same. go (Change·change f k new) (changing f k new) same; none = λ e r p same. refused-untouched f k e r p .0 new same }
+    record { only = λ t same. go (Change·change f k new) (changing f k new) same; none = λ x same. refused-untouched f k x .0 new same }
   where
-    go : {d c n : ℕ} (x : Amended) → Changing f k new x → x .answer ≡ accepted d c n → Amends (change k new) f (Change·change f k new)
+    go : {t : Totals} (x : Amended) → Changing f k new x → x .answer ≡ accepted t → Amends (change k new) f (Change·change f k new)
     go x (refuses fault) same = absurd (accepted-not-refused same)
-    go x (changes sought small fits) same = amends (change k new) f _ sought (λ read found. change-touches f k new _ _ _ _ _ _ read found)
+    go x (changes sought small fits) same = amends (change k new) f _ sought (λ read found. change-touches f k new _ _ read found)
 call-touched (withdraw k) f =
-    record { only = λ d c n same. go (Withdraw·withdraw f k) (withdrawing f k) same same; none = λ e r p same. refused-untouched f k e r p .1 same }
+    record { only = λ t same. go (Withdraw·withdraw f k) (withdrawing f k) same same; none = λ x same. refused-untouched f k x .1 same }
   where
     go :
-        {d c n : ℕ} (x : Amended) → Withdrawing f k x → x .answer ≡ accepted d c n → Withdraw·withdraw f k .answer ≡ accepted d c n
+        {t : Totals} (x : Amended) → Withdrawing f k x → x .answer ≡ accepted t → Withdraw·withdraw f k .answer ≡ accepted t
         → Amends (withdraw k) f (Withdraw·withdraw f k)
     go x (refuses fault) same own = absurd (accepted-not-refused same)
-    go x (withdraws sought some) same own = amends (withdraw k) f _ sought (λ read found. withdraw-touches f k _ _ _ _ _ _ _ _ _ read found own .0)
+    go x (withdraws sought some) same own = amends (withdraw k) f _ sought (λ read found. withdraw-touches f k _ _ _ read found own .0)

@@ -15,13 +15,12 @@ use Rattle.records.specs.Judge.{judge as Record·judge}
 use Rattle.records.specs.Laws.{ChecksInOrder, BrokenExact, OneForLength}
 use Rattle.records.specs.declared.kind.Kind.{Kind}
 use Rattle.flow.specs.Find.{find}
-use Rattle.flow.specs.Find.{refused as Located·refused}
 use Rattle.flow.specs.Judge.{judge}
 use Rattle.flow.specs.Laws.{LengthRefused, FindRefused, PartPlaced, SeekExact}
 use Rattle.flow.specs.Seek.{seek}
-use Rattle.flow.specs.Seek.{refused as Target·refused}
 use Rattle.flow.specs.Steps.{judgeRecord}
 use Rattle.flow.specs.Verdict.{refused}
+use Rattle.flow.specs.declared.answer.Refusal.{Refusal}
 use Rattle.flow.specs.declared.walk.Walk.{Walk}
 use Rattle.grammar.specs.Laws.{FirstFaultExact, RightOrFaulty, PlaceFaultExact, PartEmpty}
 use Rattle.list.specs.Laws.{FaultyExact, WriteRefused, WriteAnswers, WriteLeaves, ReadBackRefused, ReadBackAnswers, ReadBackLeaves}
@@ -71,13 +70,13 @@ pub record NumbersGiven : Type 0 where
   pub date : (bs : List ℕ) (n : ℕ) → dateField bs ≡ Answer·refused n → OneOf (5 ∷ 8 ∷ []) n
   pub record-judging : (k : Kind) (ctx : Context) (rec : List ℕ) (n p : ℕ) → Record·judge k ctx rec ≡ Finding·refused n p → OneOf recordNumbers n
   pub walking : (header : Header) (w : Walk) (company : List ℕ) (i : ℕ) (rec : List ℕ) (n p : ℕ) → judgeRecord header w company i rec ≡ Finding·refused n p → OneOf placeNumbers n
-  pub reading : (f : List ℕ) (n r p : ℕ) → judge f ≡ refused n r p → OneOf readingNumbers n
-  pub finding : (f : List ℕ) (k n r p : ℕ) → find f k ≡ Located·refused n r p → OneOf findingNumbers n
-  pub seeking : (f : List ℕ) (k n r p : ℕ) → seek f k ≡ Target·refused n r p → OneOf findingNumbers n
-  pub writing : (list : List ℕ) (room n r p : ℕ) → judgeList list room ≡ refused n r p → OneOf writingNumbers n
-  pub reading-back : (f : List ℕ) (room n r p : ℕ) → judgeRoom f room ≡ refused n r p → OneOf readingBackNumbers n
-  pub changing : (f : List ℕ) (k new n r p : ℕ) → change f k new .answer ≡ refused n r p → OneOf changeNumbers n
-  pub withdrawing : (f : List ℕ) (k n r p : ℕ) → withdraw f k .answer ≡ refused n r p → OneOf withdrawalNumbers n
+  pub reading : (f : List ℕ) (x : Refusal) → judge f ≡ refused x → OneOf readingNumbers (x .number)
+  pub finding : (f : List ℕ) (k : ℕ) (x : Refusal) → find f k ≡ refused x → OneOf findingNumbers (x .number)
+  pub seeking : (f : List ℕ) (k : ℕ) (x : Refusal) → seek f k ≡ refused x → OneOf findingNumbers (x .number)
+  pub writing : (list : List ℕ) (room : ℕ) (x : Refusal) → judgeList list room ≡ refused x → OneOf writingNumbers (x .number)
+  pub reading-back : (f : List ℕ) (room : ℕ) (x : Refusal) → judgeRoom f room ≡ refused x → OneOf readingBackNumbers (x .number)
+  pub changing : (f : List ℕ) (k new : ℕ) (x : Refusal) → change f k new .answer ≡ refused x → OneOf changeNumbers (x .number)
+  pub withdrawing : (f : List ℕ) (k : ℕ) (x : Refusal) → withdraw f k .answer ≡ refused x → OneOf withdrawalNumbers (x .number)
 
 pub record Demand1 : Type 2 where
   -- "whatever bytes we lend, every entry point ends with an answer and asks nothing of us first"

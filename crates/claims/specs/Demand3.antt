@@ -1,12 +1,15 @@
 -- Demand 3, as one statement about every list of calls. Assumes nothing.
-use Prim.Native.Nat.{ℕ, suc, _-_, _≤_}
+use Prim.Native.Nat.{ℕ, _-_, _≤_}
 use mathlib.Core.List.{List, _++_}
 use mathlib.Core.Path.{_≡_}
 use lib.ListN.{length, replicate}
-use Rattle.flow.specs.Find.{standing, find}
+use Rattle.flow.specs.Find.{find}
 use Rattle.flow.specs.Judge.{judge}
 use Rattle.flow.specs.Verdict.{accepted, refused}
-use Rattle.list.specs.Encode.{dispositionsOf, centsOf, encode}
+use Rattle.flow.specs.declared.answer.Refusal.{Refusal}
+use Rattle.flow.specs.declared.answer.Totals.{Totals}
+use Rattle.flow.specs.declared.location.Target.{Target}
+use Rattle.list.specs.Encode.{totalsOf, encode}
 use Rattle.list.specs.Items.{Item, listBytes}
 use Rattle.list.specs.ReadBack.{itemsOf, listOf, Canonical}
 use Rattle.amend.specs.Amended.{Amended}
@@ -17,7 +20,7 @@ use Rattle.claims.specs.Run.{Memory, holding, flowIn, run, replies, Each
 -- what is left of the flow f in the memory, and what was answered, beside the list on the ledger and its replies
 pub record Agrees (f : List ℕ) (after : Memory) (answers : List Reply) (list : List Item) (due : List Reply) : Type 0 where
   -- "the flow left is accepted": with the count, the total and the records of the list on the ledger
-  pub read : judge (flowIn after) ≡ accepted (dispositionsOf list) (centsOf list) (suc (length list))
+  pub read : judge (flowIn after) ≡ accepted (totalsOf list)
   -- "its request list is exactly the one on the sheet": as items, and as bytes
   pub items : itemsOf (flowIn after) ≡ list
   pub bytes : listOf (flowIn after) ≡ listBytes list
@@ -34,11 +37,11 @@ pub record Agrees (f : List ℕ) (after : Memory) (answers : List Reply) (list :
 abbrev pub Kept : List ℕ → List Call → Memory → List Reply → Type 0
 Kept f calls after answers = Agrees f after answers (listAfter calls (itemsOf f)) (repliesOn calls (itemsOf f))
 
--- the positions that document 01 names for an accepted call, where disposition k stands from record `first` on and has m records, and the
--- trailer is record n: of a change by byte index; of a withdrawal by comparing each record that is kept with the one that it came from
-abbrev pub TouchesOnly : Call → List ℕ → Amended → ℕ → ℕ → ℕ → Type 0
-TouchesOnly (change k new) f a first m n = AmountOnly f (a .bytes) n first
-TouchesOnly (withdraw k) f a first m n = Moved f (flowLeft a) n first m
+-- the positions that document 01 names for an accepted call, where disposition k stands as it was found, and the trailer is the last
+-- record: of a change by byte index; of a withdrawal by comparing each record that is kept with the one that it came from
+abbrev pub TouchesOnly : Call → List ℕ → Amended → Target → Type 0
+TouchesOnly (change k new) f a v = AmountOnly f (a .bytes) (v .totals .records) (v .stand .first)
+TouchesOnly (withdraw k) f a v = Moved f (flowLeft a) (v .totals .records) (v .stand .first) (v .stand .records)
 
 abbrev pub numberOf : Call → ℕ
 numberOf (change k new) = k
@@ -46,23 +49,18 @@ numberOf (withdraw k) = k
 
 -- an accepted call: the flow that it was lent is accepted, disposition k stands in it, and no position but these differs
 pub record Amends (call : Call) (f : List ℕ) (a : Amended) : Type 0 where
-  pub dispositions : ℕ
-  pub cents : ℕ
-  pub records : ℕ
-  pub first : ℕ
-  pub size : ℕ
-  pub amount : ℕ
-  pub read : judge f ≡ accepted dispositions cents records
-  pub found : find f (numberOf call) ≡ standing first size amount
-  pub touches : TouchesOnly call f a first size records
+  pub target : Target
+  pub read : judge f ≡ accepted (target .totals)
+  pub found : find f (numberOf call) ≡ accepted (target .stand)
+  pub touches : TouchesOnly call f a target
 
 -- "each accepted call touches only the positions document 01 names for it; each refused one touches none"
 pub record Touched (call : Call) (f : List ℕ) (a : Amended) : Type 0 where
-  pub only : (d c n : ℕ) → a .answer ≡ accepted d c n → Amends call f a
-  pub none : (e r p : ℕ) → a .answer ≡ refused e r p → Untouched f a
+  pub only : (t : Totals) → a .answer ≡ accepted t → Amends call f a
+  pub none : (x : Refusal) → a .answer ≡ refused x → Untouched f a
 
 -- "take any accepted flow and any list of calls on it", also an empty one
 abbrev pub Demand3 : Type 0
 Demand3 =
-    (f : List ℕ) (d c n : ℕ) → judge f ≡ accepted d c n → (calls : List Call)
+    (f : List ℕ) (t : Totals) → judge f ≡ accepted t → (calls : List Call)
     → Kept f calls (run calls (holding f)) (replies calls (holding f)) × EachCall Touched calls (holding f)

@@ -53,6 +53,8 @@ use Rattle.flow.proofs.disposition.Reads.{requires as disposition-requires}
 use Rattle.flow.proofs.disposition.Statement.{statement as disposition-statement}
 use Rattle.flow.proofs.seek.Reads.{requires as seek-requires}
 use Rattle.flow.proofs.seek.Statement.{statement as seek-statement}
+use Rattle.flow.proofs.refusal_of_call.Reads.{requires as refusal-of-call-requires}
+use Rattle.flow.proofs.refusal_of_call.Statement.{statement as refusal-of-call-statement}
 use Rattle.list.proofs.write.Reads.{requires as write-requires}
 use Rattle.list.proofs.write.Statement.{statement as write-statement}
 use Rattle.list.proofs.read_back.Reads.{requires as read-back-requires}
@@ -114,6 +116,7 @@ pub record EntryPoints : Type 2 where
   pub find : EntryPoint find-statement find-requires
   pub disposition : EntryPoint disposition-statement disposition-requires
   pub seek : EntryPoint seek-statement seek-requires
+  pub refusal-of-call : EntryPoint refusal-of-call-statement refusal-of-call-requires
   -- list: a list: writing it, and reading a flow back
   pub write : EntryPoint write-statement write-requires
   pub read-back : EntryPoint read-back-statement read-back-requires

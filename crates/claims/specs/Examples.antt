@@ -12,7 +12,7 @@ use Rattle.records.specs.Field.{field}
 use Rattle.flow.specs.Examples.{flowOf, headerIm, trailerEf, further59, withFurther, twoRents}
 use Rattle.flow.specs.Judge.{judge}
 use Rattle.flow.specs.Records.{recordAt}
-use Rattle.flow.specs.Verdict.{accepted, refused}
+use Rattle.flow.specs.Verdict.{accepted, refused, refusal, ofCall}
 use Rattle.list.specs.Encode.{trailerFor, encode}
 use Rattle.list.specs.Examples.{headerItem, secondItems, twoRentList, oneRentList}
 use Rattle.list.specs.Items.{listBytes, itemsIn}
@@ -32,31 +32,31 @@ pub record Examples : Type 0 where
   -- "disposition 2 changed to 40000: total 85000", in the answer and in the bytes of EF; and the amount in those of record 9
   pub two :
       let a = change twoRents 2 40000 in
-      (a .answer ≡ accepted 2 85000 16)
+      (a .answer ≡ accepted (record { dispositions = 2; cents = 85000; records = 16 }))
       × (field 53 67 (recordAt 15 (flowLeft a)) ≡ text "000000000085000")
       × (field 34 46 (recordAt 8 (flowLeft a)) ≡ text "0000000040000")
   -- "disposition 1 withdrawn instead: 1,080 bytes, total 38050, 840 blanks"
   pub three :
       let a = withdraw twoRents 1 in
-      (a .answer ≡ accepted 1 38050 9)
+      (a .answer ≡ accepted (record { dispositions = 1; cents = 38050; records = 9 }))
       × (a .size ≡ 1080)
       × (field 53 67 (recordAt 8 (flowLeft a)) ≡ text "000000000038050")
       × (drop 1080 (a .bytes) ≡ replicate 840 32)
   -- "empty flow: 1"
-  pub four : judge [] ≡ refused 1 0 0
+  pub four : judge [] ≡ refused (ofCall 1)
   -- "one right IM alone: 4 at record 2"
-  pub five : judge (flowOf (headerIm ∷ [])) ≡ refused 4 2 0
+  pub five : judge (flowOf (headerIm ∷ [])) ≡ refused (refusal 4 2 0)
   -- "IM then EF: 3 at record 2"
-  pub six : judge (flowOf (headerIm ∷ trailerEf ∷ [])) ≡ refused 3 2 2
+  pub six : judge (flowOf (headerIm ∷ trailerEf ∷ [])) ≡ refused (refusal 3 2 2)
   -- "290228 is a date's digits but year 2028, February 29: a date; 290227: 8"
   pub seven :
       (dateField (text "290228") ≡ Answer·accepted (record { day = 29; month = 2; year = 2028 })) × (dateField (text "290227") ≡ Answer·refused 8)
   -- "six 59s: 3 at the sixth", which is record 11
-  pub eight : judge (withFurther (further59 ∷ further59 ∷ further59 ∷ further59 ∷ further59 ∷ further59 ∷ [])) ≡ refused 3 11 2
+  pub eight : judge (withFurther (further59 ∷ further59 ∷ further59 ∷ further59 ∷ further59 ∷ further59 ∷ [])) ≡ refused (refusal 3 11 2)
   -- "a list of one disposition with R and no S has 643 bytes and spells 1,080"
   pub nine : (length oneRentList ≡ 643) × (length oneRent ≡ 1080)
   -- "withdrawing 1 of 1: 18", and nothing is touched
-  pub ten : (withdraw oneRent 1 .answer ≡ refused 18 0 0) × Untouched oneRent (withdraw oneRent 1)
+  pub ten : (withdraw oneRent 1 .answer ≡ refused (ofCall 18)) × Untouched oneRent (withdraw oneRent 1)
 
 -- beside these, a list of calls on the ledger that starts as the two-rent flow's list: an amount, a number and an amount that are refused, a
 -- withdrawal, one of the only disposition, and an amount of what is now the first
@@ -73,7 +73,13 @@ someCalls =
 pub record LedgerExample : Type 0 where
   pub answered :
       repliesOn someCalls (itemsIn twoRentList)
-      ≡ change-accepted 2 85000 16 ∷ Reply·refused 15 0 0 ∷ Reply·refused 16 0 0 ∷ withdrawal-accepted 1 40000 9 1080 ∷ Reply·refused 18 0 0 ∷ change-accepted 1 39000 9 ∷ []
+      ≡ change-accepted (record { dispositions = 2; cents = 85000; records = 16 })
+      ∷ Reply·refused (ofCall 15)
+      ∷ Reply·refused (ofCall 16)
+      ∷ withdrawal-accepted (record { dispositions = 1; cents = 40000; records = 9 }) 1080
+      ∷ Reply·refused (ofCall 18)
+      ∷ change-accepted (record { dispositions = 1; cents = 39000; records = 9 })
+      ∷ []
   -- the header's item, and the second rent's with the new amount
   pub left :
       listBytes (listAfter someCalls (itemsIn twoRentList))

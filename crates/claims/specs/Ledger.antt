@@ -1,5 +1,5 @@
 -- The ledger of demand 3 (document 01, "Questions and changes"; its word is "sheet"): a request list that is fed with the calls alone. It
--- knows items and calls, and no flow. Assumes nothing.
+-- knows items and calls, and no flow: it shares with reading one the shape of an answer alone. Assumes nothing.
 use Prim.Native.Nat.{ℕ, suc, _-_, _*_}
 use mathlib.Core.Bool.{Bool, cond, _&&_}
 use mathlib.Core.List.{List, [], _∷_, _++_, flatten}
@@ -10,7 +10,10 @@ use Rattle.sequences.specs.Part.{put}
 use Rattle.fields.specs.Digits.{digits}
 use Rattle.records.specs.Kinds.{opens}
 use Rattle.records.specs.declared.kind.Kind.the-variants.{R14}
-use Rattle.list.specs.Encode.{indexIn, dispositionsOf, centsOf}
+use Rattle.flow.specs.Verdict.{ofCall}
+use Rattle.flow.specs.declared.answer.Refusal.{Refusal}
+use Rattle.flow.specs.declared.answer.Totals.{Totals}
+use Rattle.list.specs.Encode.{indexIn, dispositionsOf, centsOf, totalsOf}
 use Rattle.list.specs.Items.{Item, item}
 use Rattle.list.specs.Table.{carried}
 
@@ -19,12 +22,11 @@ pub data Call : Type 0 where
   change : ℕ → ℕ → Call
   withdraw : ℕ → Call
 
--- what a call is answered: accepted, with dispositions, cents and records, and a withdrawal with the new length too; or refused, with
--- number, record and position
+-- what a call is answered: accepted, with the totals, and a withdrawal with the new length too; or refused
 pub data Reply : Type 0 where
-  change-accepted : ℕ → ℕ → ℕ → Reply
-  withdrawal-accepted : ℕ → ℕ → ℕ → ℕ → Reply
-  refused : ℕ → ℕ → ℕ → Reply
+  change-accepted : Totals → Reply
+  withdrawal-accepted : Totals → ℕ → Reply
+  refused : Refusal → Reply
 
 -- "disposition k is the k-th D with the items after it, up to the next D or the end"; before the first D stands the item of the header
 abbrev pub isD : Item → Bool
@@ -62,7 +64,7 @@ pub record Entry : Type 0 where
 
 -- "a refused call answers the refusal's number with 0, 0 and leaves the sheet as it was"
 abbrev pub refusal : ℕ → List Item → Entry
-refusal n is = record { reply = refused n 0 0; items = is }
+refusal n is = record { reply = refused (ofCall n); items = is }
 
 -- there is a disposition k
 abbrev pub has : ℕ → List Item → Bool
@@ -73,7 +75,7 @@ has k is = leb 1 k && leb k (dispositionsOf is)
 abbrev pub changeLeaving : List Item → List Item → Entry
 changeLeaving left is =
     cond (leb (centsOf left) 999999999999999)
-    (record { reply = change-accepted (dispositionsOf left) (centsOf left) (suc (length left)); items = left })
+    (record { reply = change-accepted (totalsOf left); items = left })
     (refusal 17 is)
 
 unfoldable pub changeOn : ℕ → ℕ → List Item → Entry
@@ -81,7 +83,7 @@ changeOn k new is = cond (has k is) (cond (leb new 9999999999999) (changeLeaving
 
 -- "refused by 15, 18 likewise"; "a withdrawal also 120 times that last number, the new length"
 abbrev pub withdrawLeaving : List Item → Entry
-withdrawLeaving left = record { reply = withdrawal-accepted (dispositionsOf left) (centsOf left) (suc (length left)) (120 * suc (length left)); items = left }
+withdrawLeaving left = record { reply = withdrawal-accepted (totalsOf left) (120 * totalsOf left .records); items = left }
 
 unfoldable pub withdrawOn : ℕ → List Item → Entry
 withdrawOn k is = cond (has k is) (cond (ltb 1 (dispositionsOf is)) (withdrawLeaving (withoutDisposition k is)) (refusal 18 is)) (refusal 15 is)

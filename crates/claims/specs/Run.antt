@@ -6,6 +6,7 @@ use lib.ListN.{length, take}
 use Rattle.sequences.specs.Part.{put}
 use Rattle.flow.specs.Verdict.{Verdict, accepted}
 use Rattle.flow.specs.Verdict.{refused as Verdict·refused}
+use Rattle.flow.specs.declared.answer.Totals.{Totals}
 use Rattle.amend.specs.Amended.{Amended}
 use Rattle.amend.specs.Change.{change as Change·change}
 use Rattle.amend.specs.Withdraw.{withdraw as Withdraw·withdraw}
@@ -17,10 +18,10 @@ amend (change k new) f = Change·change f k new
 amend (withdraw k) f = Withdraw·withdraw f k
 
 -- what it is answered, with the length where it is a withdrawal that was accepted
-abbrev pub replied : Call → Verdict → ℕ → Reply
-replied (change k new) (accepted d c n) size = change-accepted d c n
-replied (withdraw k) (accepted d c n) size = withdrawal-accepted d c n size
-replied call (Verdict·refused e r p) size = refused e r p
+abbrev pub replied : Call → Verdict Totals → ℕ → Reply
+replied (change k new) (accepted t) size = change-accepted t
+replied (withdraw k) (accepted t) size = withdrawal-accepted t size
+replied call (Verdict·refused x) size = refused x
 
 abbrev pub replyOf : Call → Amended → Reply
 replyOf call a = replied call (a .answer) (a .size)

@@ -18,13 +18,15 @@ use Rattle.records.specs.declared.kind.Kind.{Kind}
 use Rattle.records.specs.declared.kind.Kind.the-variants.{R14}
 use Rattle.records.proofs.ByKind.{right-asked, opens-type}
 use Rattle.records.proofs.Numbers.{one-for-length}
-use Rattle.flow.specs.Judge.{after, ended, go, judge}
+use Rattle.flow.specs.Judge.{after, totals, ended, go, judge}
 use Rattle.flow.specs.Records.{RightLength, isLength, recordsOf}
 use Rattle.flow.specs.Laws.{LengthRefused, Ceiling, AcceptedExact, AnswerDetermined}
 use Rattle.flow.specs.Order.{permitted, isDue, among}
 use Rattle.flow.specs.Steps.{start, countsAt, step, latest, typed, judgeRecord}
 use Rattle.flow.specs.Sums.{dispositionsOf, centsOf}
-use Rattle.flow.specs.Verdict.{Verdict, accepted, refused}
+use Rattle.flow.specs.Verdict.{Verdict, accepted, refused, refusal, ofCall}
+use Rattle.flow.specs.declared.answer.Refusal.{Refusal}
+use Rattle.flow.specs.declared.answer.Totals.{Totals}
 use Rattle.flow.specs.declared.answer.Answer.the-variants.{Accepted, Refused}
 use Rattle.flow.specs.declared.order.Found.{Found}
 use Rattle.flow.specs.declared.order.Found.the-variants.{Of, Missing}
@@ -33,16 +35,23 @@ use Rattle.flow.proofs.Cut.{cut-count, Whole, cut-whole}
 use Rattle.flow.proofs.Exact.{right-typed}
 use Rattle.flow.proofs.Lengths.{length-said}
 
-pub accepted-not-refused : {d c n e r p : ℕ} → refused e r p ≡ accepted d c n → ⊥
+-- an acceptance is no refusal; and what was accepted, or refused, tells itself
+pub accepted-not-refused : {A : Type 0} {a : A} {x : Refusal} → refused x ≡ accepted a → ⊥
 accepted-not-refused e = let z : _≡_ {A = ℕ} 0 1 = cc in omega arith
 
+pub accepted-same : {A : Type 0} {a b : A} → accepted a ≡ accepted b → a ≡ b
+accepted-same e = cc
+
+pub refused-same : {A : Type 0} {x y : Refusal} → _≡_ {A = Verdict A} (refused x) (refused y) → x ≡ y
+refused-same e = cc
+
 -- behind the last record of an accepted flow nothing is due, and the answer is the state's
-pub ended-so : (w : Walk) (i : ℕ) {d c n : ℕ} → ended w i ≡ accepted d c n → (isDue (permitted (w .place .due)) ≡ false) × (w .dispositions ≡ d) × (w .cents ≡ c) × (i ≡ n)
-ended-so w i {d} {c} {n} = go (isDue (permitted (w .place .due)))
+pub ended-so : (w : Walk) (i : ℕ) {t : Totals} → ended w i ≡ accepted t → (isDue (permitted (w .place .due)) ≡ false) × (totals w i ≡ t)
+ended-so w i {t} = go (isDue (permitted (w .place .due)))
   where
-    go : (b : Bool) → cond b (refused 4 (suc i) 0) (accepted (w .dispositions) (w .cents) i) ≡ accepted d c n → (b ≡ false) × (w .dispositions ≡ d) × (w .cents ≡ c) × (i ≡ n)
+    go : (b : Bool) → cond b (refused (refusal 4 (suc i) 0)) (accepted (totals w i)) ≡ accepted t → (b ≡ false) × (totals w i ≡ t)
     go true e = absurd (accepted-not-refused e)
-    go false e = (refl, cc, cc, cc)
+    go false e = (refl, accepted-same e)
 
 -- what a right record adds to the counts, by its type alone
 adds :
@@ -55,34 +64,47 @@ adds header w company n rec k c e =
     (rw kind, cents ∙ rw kind)
 
 -- behind a state, the counts are its own and those of the records to come
+pub record Adding (w : Walk) (i : ℕ) (recs : List (List ℕ)) (t : Totals) : Type 0 where
+  pub dispositions : t .dispositions ≡ w .dispositions + dispositionsOf recs
+  pub cents : t .cents ≡ w .cents + centsOf recs
+  pub records : t .records ≡ i + length recs
+
 exact-from :
-    (header : Header) (w : Walk) (company : List ℕ) (i : ℕ) (recs : List (List ℕ)) (d c n : ℕ) → go ended header w company i recs ≡ accepted d c n
-    → (d ≡ w .dispositions + dispositionsOf recs) × (c ≡ w .cents + centsOf recs) × (n ≡ i + length recs)
+    (header : Header) (w : Walk) (company : List ℕ) (i : ℕ) (recs : List (List ℕ)) (t : Totals) → go ended header w company i recs ≡ accepted t → Adding w i recs t
 unfolding go dispositionsOf centsOf
-exact-from header w company i [] d c n = λ e.
-    let told = ended-so w i e in
-    (omega arith, omega arith, omega arith)
-exact-from header w company i (rec ∷ recs) d c n = next (judgeRecord header w company (suc i) rec) refl (λ k a. exact-from header (step w k a) (latest k company rec) (suc i) recs d c n)
+exact-from header w company i [] t = λ e.
+    let told = ended-so w i e .1 in
+    record {
+      dispositions = sym (ap (λ (u : Totals). u .dispositions) told) ∙ omega arith;
+      cents = sym (ap (λ (u : Totals). u .cents) told) ∙ omega arith;
+      records = sym (ap (λ (u : Totals). u .records) told) ∙ omega arith;
+    }
+exact-from header w company i (rec ∷ recs) t = next (judgeRecord header w company (suc i) rec) refl (λ k a. exact-from header (step w k a) (latest k company rec) (suc i) recs t)
   where
     next :
         (x : Finding) → judgeRecord header w company (suc i) rec ≡ x
-        → ((k : Kind) (a : ℕ) → go ended header (step w k a) (latest k company rec) (suc i) recs ≡ accepted d c n → (d ≡ step w k a .dispositions + dispositionsOf recs) × (c ≡ step w k a .cents + centsOf recs) × (n ≡ suc i + length recs))
-        → after (suc i) x (λ k a. go ended header (step w k a) (latest k company rec) (suc i) recs) ≡ accepted d c n
-        → (d ≡ w .dispositions + (cond (hasType R14 rec) 1 0 + dispositionsOf recs)) × (c ≡ w .cents + (cond (hasType R14 rec) (number (field 34 46 rec)) 0 + centsOf recs)) × (n ≡ i + suc (length recs))
+        → ((k : Kind) (a : ℕ) → go ended header (step w k a) (latest k company rec) (suc i) recs ≡ accepted t → Adding (step w k a) (suc i) recs t)
+        → after (suc i) x (λ k a. go ended header (step w k a) (latest k company rec) (suc i) recs) ≡ accepted t → Adding w i (rec ∷ recs) t
     next (right k a) found rest e =
         let more = adds header w company (suc i) rec k a found in
         let counts = rest k a e in
-        (omega arith, omega arith, omega arith)
+        let dispositions = counts .dispositions in
+        let cents = counts .cents in
+        let records = counts .records in
+        record { dispositions = omega arith; cents = omega arith; records = omega arith }
     next (Finding·refused m p) found rest e = absurd (accepted-not-refused e)
 
 pub accepted-exact : AcceptedExact
 unfolding judge
-accepted-exact f d c n = go-on (isLength (length f)) refl
+accepted-exact f t = go-on (isLength (length f)) refl
   where
-    go-on : (b : Bool) → isLength (length f) ≡ b → cond b (go ended (headerOf (take 120 f)) start [] 0 (recordsOf f)) (refused 1 0 0) ≡ accepted d c n → (d ≡ dispositionsOf (recordsOf f)) × (c ≡ centsOf (recordsOf f)) × (n * 120 ≡ length f)
+    go-on : (b : Bool) → isLength (length f) ≡ b → cond b (go ended (headerOf (take 120 f)) start [] 0 (recordsOf f)) (refused (ofCall 1)) ≡ accepted t → (t .dispositions ≡ dispositionsOf (recordsOf f)) × (t .cents ≡ centsOf (recordsOf f)) × (t .records * 120 ≡ length f)
     go-on true h e =
-        let exact = exact-from (headerOf (take 120 f)) start [] 0 (recordsOf f) d c n e in
+        let exact = exact-from (headerOf (take 120 f)) start [] 0 (recordsOf f) t e in
         let said = length-said (length f) h in
+        let dispositions = exact .dispositions in
+        let cents = exact .cents in
+        let records = exact .records in
         (omega arith, omega arith, omega (arith, cut-count (length f / 120) f))
     go-on false h e = absurd (accepted-not-refused e)
 
@@ -97,22 +119,22 @@ record-not-one header w company n rec p whole e = bytes (eqb (badByte rec) 0) (a
     bytes false found x = let z : _≡_ {A = ℕ} 2 1 = cc in omega arith
 
 -- so of whole records no refusal is by 1
-refused-later : (header : Header) (w : Walk) (company : List ℕ) (i : ℕ) (recs : List (List ℕ)) (r p : ℕ) → Whole recs → ¬ (go ended header w company i recs ≡ refused 1 r p)
+refused-later : (header : Header) (w : Walk) (company : List ℕ) (i : ℕ) (recs : List (List ℕ)) (r p : ℕ) → Whole recs → ¬ (go ended header w company i recs ≡ refused (refusal 1 r p))
 unfolding go
 refused-later header w company i [] r p whole = end (isDue (permitted (w .place .due)))
   where
-    end : (b : Bool) → ¬ (cond b (refused 4 (suc i) 0) (accepted (w .dispositions) (w .cents) i) ≡ refused 1 r p)
-    end true x = let z : _≡_ {A = ℕ} 4 1 = cc in omega arith
+    end : (b : Bool) → ¬ (cond b (refused (refusal 4 (suc i) 0)) (accepted (totals w i)) ≡ refused (refusal 1 r p))
+    end true x = let z : _≡_ {A = ℕ} 4 1 = ap (λ (y : Refusal). y .number) (refused-same x) in omega arith
     end false x = accepted-not-refused (sym x)
 refused-later header w company i (rec ∷ recs) r p whole =
     next (judgeRecord header w company (suc i) rec) refl (λ k a. refused-later header (step w k a) (latest k company rec) (suc i) recs r p (whole .1))
   where
     next :
-        (x : Finding) → judgeRecord header w company (suc i) rec ≡ x → ((k : Kind) (a : ℕ) → ¬ (go ended header (step w k a) (latest k company rec) (suc i) recs ≡ refused 1 r p))
-        → ¬ (after (suc i) x (λ k a. go ended header (step w k a) (latest k company rec) (suc i) recs) ≡ refused 1 r p)
+        (x : Finding) → judgeRecord header w company (suc i) rec ≡ x → ((k : Kind) (a : ℕ) → ¬ (go ended header (step w k a) (latest k company rec) (suc i) recs ≡ refused (refusal 1 r p)))
+        → ¬ (after (suc i) x (λ k a. go ended header (step w k a) (latest k company rec) (suc i) recs) ≡ refused (refusal 1 r p))
     next (right k a) found rest x = rest k a x
     next (Finding·refused m q) found rest x =
-        let one : m ≡ 1 = cc in
+        let one : m ≡ 1 = ap (λ (y : Refusal). y .number) (refused-same x) in
         record-not-one header w company (suc i) rec q (whole .0) (found ∙ ap (λ (e : ℕ). Finding·refused e q) one)
 
 pub length-tested : (n : ℕ) → RightLength n → isLength n ≡ true
@@ -122,14 +144,14 @@ pub length-refused : LengthRefused
 unfolding judge
 length-refused f r p = (λ e. given (isLength (length f)) refl e, λ h. wrong (isLength (length f)) refl h)
   where
-    all : Verdict
+    all : Verdict Totals
     all = go ended (headerOf (take 120 f)) start [] 0 (recordsOf f)
 
-    given : (b : Bool) → isLength (length f) ≡ b → cond b all (refused 1 0 0) ≡ refused 1 r p → (r ≡ 0) × (p ≡ 0) × ¬ RightLength (length f)
+    given : (b : Bool) → isLength (length f) ≡ b → cond b all (refused (ofCall 1)) ≡ refused (refusal 1 r p) → (r ≡ 0) × (p ≡ 0) × ¬ RightLength (length f)
     given true t e = absurd (refused-later (headerOf (take 120 f)) start [] 0 (recordsOf f) r p (cut-whole (length f / 120) f (omega arith)) e)
-    given false t e = (cc, cc, λ h. true≢false (sym (length-tested (length f) h) ∙ t))
+    given false t e = (sym (ap (λ (y : Refusal). y .«record») (refused-same e)), sym (ap (λ (y : Refusal). y .position) (refused-same e)), λ h. true≢false (sym (length-tested (length f) h) ∙ t))
 
-    wrong : (b : Bool) → isLength (length f) ≡ b → (r ≡ 0) × (p ≡ 0) × ¬ RightLength (length f) → cond b all (refused 1 0 0) ≡ refused 1 r p
+    wrong : (b : Bool) → isLength (length f) ≡ b → (r ≡ 0) × (p ≡ 0) × ¬ RightLength (length f) → cond b all (refused (ofCall 1)) ≡ refused (refusal 1 r p)
     wrong true t h = absurd (h .2 (length-said (length f) t))
     wrong false t h = rw (h .0, h .1)
 
@@ -138,7 +160,7 @@ ceiling f h = length-refused f 0 0 .1 (refl, refl, λ k. omega arith)
 
 -- what an answer stands for determines it
 pub answer-determined : AnswerDetermined
-answer-determined (Accepted d c n) (Accepted d′ c′ n′) e = cc
-answer-determined (Accepted d c n) (Refused m r p) e = absurd (accepted-not-refused (sym e))
-answer-determined (Refused m r p) (Accepted d c n) e = absurd (accepted-not-refused e)
-answer-determined (Refused m r p) (Refused m′ r′ p′) e = cc
+answer-determined (Accepted t) (Accepted u) e = ap Accepted (accepted-same e)
+answer-determined (Accepted t) (Refused x) e = absurd (accepted-not-refused (sym e))
+answer-determined (Refused x) (Accepted t) e = absurd (accepted-not-refused e)
+answer-determined (Refused x) (Refused y) e = ap Refused (refused-same e)

@@ -28,48 +28,50 @@ use Rattle.records.specs.declared.kind.Kind.{Kind}
 use Rattle.records.specs.declared.kind.Kind.the-variants.{Im, R14, Ef}
 use Rattle.records.proofs.ByKind.{one-type, opens-type}
 use Rattle.records.proofs.FirstFault.{right-not-refused, kept, behind}
-use Rattle.flow.specs.Find.{Located, standing, dispositionsIn, startsAt, standsAt, behindReading, find, bytesAt, partOf, offsetAt, offsetOf, Stands, openingFrom}
-use Rattle.flow.specs.Find.{refused as Located·refused}
+use Rattle.flow.specs.Find.{dispositionsIn, startsAt, IsNumber, standsAt, find, bytesAt, partOf, offsetAt, offsetOf, Stands, openingFrom}
 use Rattle.flow.specs.Judge.{after, ended, go, judge}
 use Rattle.flow.specs.Records.{isLength, recordAt, recordsOf}
 use Rattle.flow.specs.Laws.{LocationDetermined, FindRefused, PartPlaced}
 use Rattle.flow.specs.Order.{In, permitted, isDue}
 use Rattle.flow.specs.Steps.{start, countsAt, step, latest, judgeRecord}
 use Rattle.flow.specs.Sums.{dispositionsOf}
-use Rattle.flow.specs.Verdict.{Verdict, accepted, refused}
+use Rattle.flow.specs.Verdict.{Verdict, accepted, refused, ofCall, andThen}
+use Rattle.flow.specs.declared.answer.Refusal.{Refusal}
+use Rattle.flow.specs.declared.answer.Totals.{Totals}
+use Rattle.flow.specs.declared.location.Stand.{Stand}
 use Rattle.flow.specs.declared.location.Location.the-variants.{At, Refused}
 use Rattle.flow.specs.declared.walk.Walk.{Walk}
-use Rattle.flow.proofs.Accepted.{accepted-not-refused, ended-so, accepted-exact}
+use Rattle.flow.proofs.Accepted.{accepted-not-refused, accepted-same, refused-same, ended-so, accepted-exact}
 use Rattle.flow.proofs.Cut.{cut-count, cut-at}
 use Rattle.flow.proofs.Exact.{last-kind, right-typed}
 use Rattle.flow.proofs.Lengths.{length-said}
 
 -- a record passed on the way to acceptance: it is right, and behind it the rest is accepted
-pub record Passed (header : Header) (w : Walk) (company : List ℕ) (i : ℕ) (rec : List ℕ) (recs : List (List ℕ)) (v : Verdict) : Type 0 where
+pub record Passed (header : Header) (w : Walk) (company : List ℕ) (i : ℕ) (rec : List ℕ) (recs : List (List ℕ)) (v : Verdict Totals) : Type 0 where
   pub kind : Kind
   pub cents : ℕ
   pub found : judgeRecord header w company (suc i) rec ≡ right kind cents
   pub rest : go ended header (step w kind cents) (latest kind company rec) (suc i) recs ≡ v
 
-module _ (header : Header) (w : Walk) (company : List ℕ) (i : ℕ) {d c n : ℕ} where
-  pub passed : (rec : List ℕ) (recs : List (List ℕ)) → go ended header w company i (rec ∷ recs) ≡ accepted d c n → Passed header w company i rec recs (accepted d c n)
+module _ (header : Header) (w : Walk) (company : List ℕ) (i : ℕ) {t : Totals} where
+  pub passed : (rec : List ℕ) (recs : List (List ℕ)) → go ended header w company i (rec ∷ recs) ≡ accepted t → Passed header w company i rec recs (accepted t)
   unfolding go
   passed rec recs = by (judgeRecord header w company (suc i) rec) refl
     where
       by :
           (x : Finding) → judgeRecord header w company (suc i) rec ≡ x
-          → after (suc i) x (λ k a. go ended header (step w k a) (latest k company rec) (suc i) recs) ≡ accepted d c n → Passed header w company i rec recs (accepted d c n)
+          → after (suc i) x (λ k a. go ended header (step w k a) (latest k company rec) (suc i) recs) ≡ accepted t → Passed header w company i rec recs (accepted t)
       by (right k a) found e = record { kind = k; cents = a; found = found; rest = e }
       by (Finding·refused m p) found e = absurd (accepted-not-refused e)
 
   -- behind the last record nothing is due
-  pub none-due : go ended header w company i [] ≡ accepted d c n → isDue (permitted (w .place .due)) ≡ false
+  pub none-due : go ended header w company i [] ≡ accepted t → isDue (permitted (w .place .due)) ≡ false
   unfolding go
   none-due e = ended-so w i e .0
 
 -- so the last record of an accepted flow is the trailer, which opens no disposition
 without-trailer :
-    (header : Header) (w : Walk) (company : List ℕ) (i : ℕ) (rec : List ℕ) (recs : List (List ℕ)) {d c n : ℕ} → go ended header w company i (rec ∷ recs) ≡ accepted d c n
+    (header : Header) (w : Walk) (company : List ℕ) (i : ℕ) (rec : List ℕ) (recs : List (List ℕ)) {t : Totals} → go ended header w company i (rec ∷ recs) ≡ accepted t
     → dispositionsOf (dropLast (rec ∷ recs)) ≡ dispositionsOf (rec ∷ recs)
 unfolding dispositionsOf
 without-trailer header w company i rec [] e =
@@ -100,12 +102,12 @@ only-kind (inl e) = e
 
 -- the header stands before the first 14, and no other record does
 header-leads-all :
-    (header : Header) (recs : List (List ℕ)) {d c n : ℕ} → go ended header start [] 0 recs ≡ accepted d c n → lead (hasType R14) (dropLast recs) ≡ getD recs 0 [] ∷ []
+    (header : Header) (recs : List (List ℕ)) {t : Totals} → go ended header start [] 0 recs ≡ accepted t → lead (hasType R14) (dropLast recs) ≡ getD recs 0 [] ∷ []
 unfolding lead
 header-leads-all header [] e = absurd (true≢false (none-due header start [] 0 e))
-header-leads-all header (rec ∷ recs) {d} {c} {n} e = by recs (subst (λ (l : Kind). go ended header (step start l (p .cents)) (latest l [] rec) 1 recs ≡ accepted d c n) im (p .rest))
+header-leads-all header (rec ∷ recs) {t} e = by recs (subst (λ (l : Kind). go ended header (step start l (p .cents)) (latest l [] rec) 1 recs ≡ accepted t) im (p .rest))
   where
-    p : Passed header start [] 0 rec recs (accepted d c n)
+    p : Passed header start [] 0 rec recs (accepted t)
     p = passed header start [] 0 rec recs e
 
     im : p .kind ≡ Im
@@ -114,7 +116,7 @@ header-leads-all header (rec ∷ recs) {d} {c} {n} e = by recs (subst (λ (l : K
     other : hasType R14 rec ≡ false
     other = sym (opens-type Im rec (subst (λ (l : Kind). hasType l rec ≡ true) im (right-typed header start [] 1 rec (p .kind) (p .cents) (p .found) .0)))
 
-    by : (recs : List (List ℕ)) → go ended header (step start Im (p .cents)) (latest Im [] rec) 1 recs ≡ accepted d c n → lead (hasType R14) (dropLast (rec ∷ recs)) ≡ rec ∷ []
+    by : (recs : List (List ℕ)) → go ended header (step start Im (p .cents)) (latest Im [] rec) 1 recs ≡ accepted t → lead (hasType R14) (dropLast (rec ∷ recs)) ≡ rec ∷ []
     by [] e = absurd (true≢false (none-due header (step start Im (p .cents)) (latest Im [] rec) 1 e))
     by (next ∷ []) e = rw other
     by (next ∷ third ∷ recs) e =
@@ -135,7 +137,7 @@ right-amount ctx rec k c = by (eqb (length rec) 120)
 
 -- so is that of each record 14 of an accepted flow
 amounts-all :
-    (header : Header) (w : Walk) (company : List ℕ) (i : ℕ) (recs : List (List ℕ)) {d c n : ℕ} → go ended header w company i recs ≡ accepted d c n
+    (header : Header) (w : Walk) (company : List ℕ) (i : ℕ) (recs : List (List ℕ)) {t : Totals} → go ended header w company i recs ≡ accepted t
     → (j : ℕ) → j < length recs → hasType R14 (getD recs j []) ≡ true → isDigits (field 34 46 (getD recs j [])) ≡ true
 amounts-all header w company i [] e j h t = absurd (not-suc-le-zero h)
 amounts-all header w company i (rec ∷ recs) e zero h t =
@@ -175,15 +177,15 @@ opening-end f i h =
     rw (lead-end (hasType R14) (untilTrailer f) i past) (omega arith)
 
 -- an accepted flow has whole records, and they are accepted
-pub accepted-records : (f : List ℕ) {d c n : ℕ} → judge f ≡ accepted d c n → (isLength (length f) ≡ true) × (go ended (headerOf (take 120 f)) start [] 0 (recordsOf f) ≡ accepted d c n)
+pub accepted-records : (f : List ℕ) {t : Totals} → judge f ≡ accepted t → (isLength (length f) ≡ true) × (go ended (headerOf (take 120 f)) start [] 0 (recordsOf f) ≡ accepted t)
 unfolding judge
-accepted-records f {d} {c} {n} = by (isLength (length f))
+accepted-records f {t} = by (isLength (length f))
   where
-    by : (b : Bool) → cond b (go ended (headerOf (take 120 f)) start [] 0 (recordsOf f)) (refused 1 0 0) ≡ accepted d c n → (b ≡ true) × (go ended (headerOf (take 120 f)) start [] 0 (recordsOf f) ≡ accepted d c n)
+    by : (b : Bool) → cond b (go ended (headerOf (take 120 f)) start [] 0 (recordsOf f)) (refused (ofCall 1)) ≡ accepted t → (b ≡ true) × (go ended (headerOf (take 120 f)) start [] 0 (recordsOf f) ≡ accepted t)
     by true e = (refl, e)
     by false e = absurd (accepted-not-refused e)
 
-module _ (f : List ℕ) {d c n : ℕ} (e : judge f ≡ accepted d c n) where
+module _ (f : List ℕ) {t : Totals} (e : judge f ≡ accepted t) where
   pub accepted-length : (120 ≤ length f) × (length f % 120 ≡ 0) × (length f ≤ 1199999880)
   accepted-length =
       let said = length-said (length f) (accepted-records f e .0) in
@@ -196,10 +198,10 @@ module _ (f : List ℕ) {d c n : ℕ} (e : judge f ≡ accepted d c n) where
       header-leads-all (headerOf (take 120 f)) (recordsOf f) (accepted-records f e .1) ∙ ap (λ (r : List ℕ). r ∷ []) (cut-at (length f / 120) 0 f (omega arith))
 
   -- as many dispositions stand in it as it is answered
-  pub dispositions-counted : length (dispositionsIn f) ≡ d
-  dispositions-counted = groups-counted (untilTrailer f) ∙ all (recordsOf f) (accepted-records f e .1) ∙ sym (accepted-exact f d c n e .0)
+  pub dispositions-counted : length (dispositionsIn f) ≡ t .dispositions
+  dispositions-counted = groups-counted (untilTrailer f) ∙ all (recordsOf f) (accepted-records f e .1) ∙ sym (accepted-exact f t e .0)
     where
-      all : (recs : List (List ℕ)) → go ended (headerOf (take 120 f)) start [] 0 recs ≡ accepted d c n → dispositionsOf (dropLast recs) ≡ dispositionsOf recs
+      all : (recs : List (List ℕ)) → go ended (headerOf (take 120 f)) start [] 0 recs ≡ accepted t → dispositionsOf (dropLast recs) ≡ dispositionsOf recs
       all [] x = refl
       all (rec ∷ recs) x = without-trailer (headerOf (take 120 f)) start [] 0 rec recs x
 
@@ -251,99 +253,82 @@ module _ (f : List ℕ) (k : ℕ) (s : Stands f k) where
       }
 
 -- a number from 1 up to the count stands in the flow
-pub stands : (f : List ℕ) (k : ℕ) {d c n : ℕ} → judge f ≡ accepted d c n → (leb 1 k && leb k d) ≡ true → Stands f k
-stands f k {d} e t =
-    let both = and-eq-true-iff (leb 1 k) (leb k d) .0 t in
-    record { dispositions = _; cents = _; records = _; read = e; some = leb-true 1 k (both .0); within = leb-true k d (both .1) }
+pub stands : (f : List ℕ) (k : ℕ) {t : Totals} → judge f ≡ accepted t → (leb 1 k && leb k (t .dispositions)) ≡ true → Stands f k
+stands f k {t} e test =
+    let both = and-eq-true-iff (leb 1 k) (leb k (t .dispositions)) .0 test in
+    record { totals = t; read = e; some = leb-true 1 k (both .0); within = leb-true k (t .dispositions) (both .1) }
 
 -- where it stands, disposition k + 1 of an accepted flow
-pub find-so : (f : List ℕ) (k : ℕ) {d c n : ℕ} → judge f ≡ accepted d c n → k < d → find f (suc k) ≡ standsAt (dispositionsIn f) (suc k)
+pub find-so : (f : List ℕ) (k : ℕ) {t : Totals} → judge f ≡ accepted t → k < t .dispositions → find f (suc k) ≡ accepted (standsAt (dispositionsIn f) (suc k))
 unfolding find
-find-so f k {d} e h = rw (e, le-leb 1 (suc k) (omega arith), le-leb (suc k) d h)
+find-so f k {t} e h = rw (e, le-leb 1 (suc k) (omega arith), le-leb (suc k) (t .dispositions) h)
 
 -- a question is refused, or disposition k stands in the flow
-data Asked (f : List ℕ) (k : ℕ) : Located → Type 0 where
-  not-read : {n r p : ℕ} → judge f ≡ refused n r p → Asked f k (Located·refused n r p)
-  not-there : {d c n : ℕ} → judge f ≡ accepted d c n → ¬ ((1 ≤ k) × (k ≤ d)) → Asked f k (Located·refused 15 0 0)
-  there : Stands f k → Asked f k (standsAt (dispositionsIn f) k)
+data Asked (f : List ℕ) (k : ℕ) : Verdict Stand → Type 0 where
+  not-read : {x : Refusal} → judge f ≡ refused x → Asked f k (refused x)
+  not-there : {t : Totals} → judge f ≡ accepted t → ¬ IsNumber k (t .dispositions) → Asked f k (refused (ofCall 15))
+  there : Stands f k → Asked f k (accepted (standsAt (dispositionsIn f) k))
 
 asked-so : (f : List ℕ) (k : ℕ) → Asked f k (find f k)
 unfolding find
 asked-so f k = by (judge f) refl
   where
-    test : {d c n : ℕ} → judge f ≡ accepted d c n → (b : Bool) → (leb 1 k && leb k d) ≡ b → Asked f k (cond b (standsAt (dispositionsIn f) k) (Located·refused 15 0 0))
-    test e true t = there (stands f k e t)
-    test {d} e false t = not-there e (λ h. true≢false (sym (and-eq-true-iff (leb 1 k) (leb k d) .1 (le-leb 1 k (h .0), le-leb k d (h .1))) ∙ t))
+    test : {t : Totals} → judge f ≡ accepted t → (b : Bool) → (leb 1 k && leb k (t .dispositions)) ≡ b → Asked f k (cond b (accepted (standsAt (dispositionsIn f) k)) (refused (ofCall 15)))
+    test e true holds = there (stands f k e holds)
+    test {t} e false fails = not-there e (λ h. true≢false (sym (and-eq-true-iff (leb 1 k) (leb k (t .dispositions)) .1 (le-leb 1 k (h .0), le-leb k (t .dispositions) (h .1))) ∙ fails))
 
-    by : (v : Verdict) → judge f ≡ v → Asked f k (behindReading v (λ d. cond (leb 1 k && leb k d) (standsAt (dispositionsIn f) k) (Located·refused 15 0 0)))
-    by (accepted d c n) e = test e (leb 1 k && leb k d) refl
-    by (refused n r p) e = not-read e
-
-accepted-count : {d c n d′ c′ n′ : ℕ} → accepted d c n ≡ accepted d′ c′ n′ → d ≡ d′
-accepted-count e = cc
-
--- what is told of a place, and what a refusal tells
-standing-not-refused : {a r c n q p : ℕ} → Located·refused n q p ≡ standing a r c → ⊥
-standing-not-refused e = let z : _≡_ {A = ℕ} 0 1 = cc in omega arith
-
-pub standing-same : {a r c x y z : ℕ} → standing a r c ≡ standing x y z → (a ≡ x) × (r ≡ y) × (c ≡ z)
-standing-same e = (cc, cc, cc)
-
-refused-same : {n r p n′ r′ p′ : ℕ} → Located·refused n r p ≡ Located·refused n′ r′ p′ → (n ≡ n′) × (r ≡ r′) × (p ≡ p′)
-refused-same e = (cc, cc, cc)
+    by : (v : Verdict Totals) → judge f ≡ v → Asked f k (andThen v (λ (t : Totals). cond (leb 1 k && leb k (t .dispositions)) (accepted (standsAt (dispositionsIn f) k)) (refused (ofCall 15))))
+    by (accepted t) e = test e (leb 1 k && leb k (t .dispositions)) refl
+    by (refused x) e = not-read e
 
 pub find-refused : FindRefused
-find-refused f k n r p = (λ e. said (find f k) e (asked-so f k), λ h. tested h (find f k) refl (asked-so f k))
+find-refused f k x = (λ e. said (find f k) e (asked-so f k), λ h. tested h (find f k) refl (asked-so f k))
   where
     NoSuch : Type 0
-    NoSuch = (d c m : ℕ) × (judge f ≡ accepted d c m) × ¬ ((1 ≤ k) × (k ≤ d)) × (n ≡ 15) × (r ≡ 0) × (p ≡ 0)
+    NoSuch = (t : Totals) × (judge f ≡ accepted t) × ¬ IsNumber k (t .dispositions) × (x ≡ ofCall 15)
 
-    said : (l : Located) → l ≡ Located·refused n r p → Asked f k l → (judge f ≡ refused n r p) ⊎ NoSuch
-    said l e (not-read x) = let same = refused-same e in inl (x ∙ cc)
-    said l e (not-there {d = d} {c = c} {n = m} x none) =
-        let same = refused-same e in
-        inr (d, c, m, x, none, sym (same .0), sym (same .1), sym (same .2))
-    said l e (there s) = absurd (standing-not-refused (sym e))
+    said : (l : Verdict Stand) → l ≡ refused x → Asked f k l → (judge f ≡ refused x) ⊎ NoSuch
+    said l e (not-read y) = inl (y ∙ ap refused (refused-same e))
+    said l e (not-there {t = t} y none) = inr (t, y, none, sym (refused-same e))
+    said l e (there s) = absurd (accepted-not-refused (sym e))
 
-    tested : (judge f ≡ refused n r p) ⊎ NoSuch → (l : Located) → find f k ≡ l → Asked f k l → l ≡ Located·refused n r p
-    tested (inl x) l e (not-read y) = cc
-    tested (inl x) l e (not-there y none) = absurd (accepted-not-refused (sym x ∙ y))
-    tested (inl x) l e (there s) = absurd (accepted-not-refused (sym x ∙ s .read))
-    tested (inr h) l e (not-read y) = absurd (accepted-not-refused (sym y ∙ h .3))
-    tested (inr h) l e (not-there y none) = cc
-    tested (inr h) l e (there s) =
-        let same : s .dispositions ≡ h .0 = accepted-count (sym (s .read) ∙ h .3) in
-        let within = s .within in
-        absurd (h .4 (s .some, omega arith))
+    tested : (judge f ≡ refused x) ⊎ NoSuch → (l : Verdict Stand) → find f k ≡ l → Asked f k l → l ≡ refused x
+    tested (inl y) l e (not-read z) = ap refused (refused-same (sym z ∙ y))
+    tested (inl y) l e (not-there z none) = absurd (accepted-not-refused (sym y ∙ z))
+    tested (inl y) l e (there s) = absurd (accepted-not-refused (sym y ∙ s .read))
+    tested (inr h) l e (not-read z) = absurd (accepted-not-refused (sym z ∙ h .1))
+    tested (inr h) l e (not-there z none) = ap refused (sym (h .3))
+    tested (inr h) l e (there s) = absurd (h .2 (s .some, subst (λ (t : Totals). k ≤ t .dispositions) (accepted-same (sym (s .read) ∙ h .1)) (s .within)))
 
 pub location-determined : LocationDetermined
-location-determined (At a r c) (At a′ r′ c′) e = cc
-location-determined (At a r c) (Refused m q p) e = absurd (standing-not-refused (sym e))
-location-determined (Refused m q p) (At a r c) e = absurd (standing-not-refused e)
-location-determined (Refused m q p) (Refused m′ q′ p′) e = cc
+location-determined (At s) (At s′) e = ap At (accepted-same e)
+location-determined (At s) (Refused x) e = absurd (accepted-not-refused (sym e))
+location-determined (Refused x) (At s) e = absurd (accepted-not-refused e)
+location-determined (Refused x) (Refused y) e = ap Refused (refused-same e)
 
 -- what was found stands where it was found
-pub found-stands : (f : List ℕ) (k : ℕ) {a r c : ℕ} → find f k ≡ standing a r c → Stands f k × (standing a r c ≡ standsAt (dispositionsIn f) k)
-found-stands f k {a} {r} {c} e = go (find f k) e (asked-so f k)
+pub found-stands : (f : List ℕ) (k : ℕ) {s : Stand} → find f k ≡ accepted s → Stands f k × (s ≡ standsAt (dispositionsIn f) k)
+found-stands f k {s} e = go (find f k) e (asked-so f k)
   where
-    go : (l : Located) → l ≡ standing a r c → Asked f k l → Stands f k × (standing a r c ≡ standsAt (dispositionsIn f) k)
-    go l e (not-read x) = absurd (standing-not-refused e)
-    go l e (not-there x none) = absurd (standing-not-refused e)
-    go l e (there s) = (s, sym e)
+    go : (l : Verdict Stand) → l ≡ accepted s → Asked f k l → Stands f k × (s ≡ standsAt (dispositionsIn f) k)
+    go l e (not-read y) = absurd (accepted-not-refused e)
+    go l e (not-there y none) = absurd (accepted-not-refused e)
+    go l e (there s) = (s, accepted-same (sym e))
 
 -- and within the flow, before the trailer
-pub found-within : (f : List ℕ) (k : ℕ) {a r c : ℕ} → find f k ≡ standing a r c → (1 ≤ a) × (120 * (a - 1 + r) + 120 ≤ length f)
+pub found-within : (f : List ℕ) (k : ℕ) {s : Stand} → find f k ≡ accepted s → (1 ≤ s .first) × (120 * (s .first - 1 + s .records) + 120 ≤ length f)
 found-within f k e =
     let found = found-stands f k e in
-    let same = standing-same (found .1) in
     let within = disposition-stands f k (found .0) .within in
-    (omega arith, omega arith)
+    rw (found .1) (omega arith, omega arith)
 
 pub part-placed : PartPlaced
-part-placed f k = (found, λ n r p e. ap offsetAt e)
+part-placed f k = (found, λ x e. ap offsetAt e)
   where
-    found : (first m a : ℕ) → find f k ≡ standing first m a → (offsetOf f k ≡ 120 * (first - 1)) × (partOf f k ≡ part (offsetOf f k) (120 * m) f) × (offsetOf f k + 120 * m + 120 ≤ length f)
-    found first m a e =
+    found :
+        (s : Stand) → find f k ≡ accepted s
+        → (offsetOf f k ≡ 120 * (s .first - 1)) × (partOf f k ≡ part (offsetOf f k) (120 * s .records) f) × (offsetOf f k + 120 * s .records + 120 ≤ length f)
+    found s e =
         let within = found-within f k e in
-        let start : offsetOf f k ≡ 120 * (first - 1) = ap offsetAt e in
-        (start, ap (λ (l : Located). bytesAt l f) e ∙ ap (λ (n : ℕ). part n (120 * m) f) (sym start), omega arith)
+        let start : offsetOf f k ≡ 120 * (s .first - 1) = ap offsetAt e in
+        (start, ap (λ (l : Verdict Stand). bytesAt l f) e ∙ ap (λ (n : ℕ). part n (120 * s .records) f) (sym start), omega arith)

@@ -28,6 +28,7 @@ use Rattle.flow.specs.Order.{permitted, isDue, placeAfter, among}
 use Rattle.flow.specs.Records.{recordAt, recordsFrom}
 use Rattle.flow.specs.Steps.{counted, step, latest, judgeRecord, stopped}
 use Rattle.flow.specs.Verdict.{Verdict}
+use Rattle.flow.specs.declared.answer.Totals.{Totals}
 use Rattle.flow.specs.declared.order.Due.{Due}
 use Rattle.flow.specs.declared.order.Due.the-variants.{OnlyIm, OnlyR14, R16OrR20, OnlyR20, OnlyR30, OnlyR40, R50OrR59, R59OrR51, OnlyR51, OnlyR70, R14OrEf, Nothing}
 use Rattle.flow.specs.declared.order.Found.{Found}
@@ -97,7 +98,7 @@ numbered-stopped header w company n rec k c whole found inside =
 
 -- behind one record more the counts stay, the place moves on, and what is left decides as it did
 pass-one :
-    (end : Walk → ℕ → Verdict) (header : Header) (company : List ℕ) (w : Walk) (i : ℕ) (before rec : List ℕ) (recs : List (List ℕ)) (p : Place) (k : Kind) → length rec ≡ 120
+    (end : Walk → ℕ → Verdict Totals) (header : Header) (company : List ℕ) (w : Walk) (i : ℕ) (before rec : List ℕ) (recs : List (List ℕ)) (p : Place) (k : Kind) → length rec ≡ 120
     → Numbered (atPlace w p) before → Inside (p .due) rec (Of k) → seenRight k (field 4 10 before) rec ≡ true
     → go end header (atPlace w p) company i (rec ∷ recs) ≡ go end header (atPlace w (placeAfter (p .further) k)) company (suc i) recs
 unfolding go
@@ -199,7 +200,7 @@ pass-next f {from} {w} i here k so-far more inside seen =
 
 -- a reading that has come to an index goes on behind the records that are passed over from there
 pub pass-on :
-    (f : List ℕ) {end : Walk → ℕ → Verdict} {header : Header} {all : List (List ℕ)} {company : List ℕ} (w : Walk) {from to : ℕ} {behind : Walk}
+    (f : List ℕ) {end : Walk → ℕ → Verdict Totals} {header : Header} {all : List (List ℕ)} {company : List ℕ} (w : Walk) {from to : ℕ} {behind : Walk}
     → Reading end header all w company from (recordsFrom from f) → Numbered w (recordAt (from - 1) f) → PassedOver f from w to behind
     → Reading end header all behind company to (recordsFrom to f)
 pass-on f {end} {header} {all} {company} w {from} {to} {behind} r numbered passed =

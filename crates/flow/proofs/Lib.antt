@@ -7,6 +7,7 @@ pub mod Exact
 pub mod Examples
 pub mod FastPath
 pub mod Lengths
+pub mod Output
 pub mod Places
 pub mod Reading
 pub mod Sought

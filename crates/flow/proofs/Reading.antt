@@ -12,20 +12,21 @@ use Rattle.records.specs.declared.kind.Kind.{Kind}
 use Rattle.flow.specs.Judge.{ended, go}
 use Rattle.flow.specs.Order.{permitted, isDue}
 use Rattle.flow.specs.Steps.{start, step, latest, judgeRecord, stopped}
-use Rattle.flow.specs.Verdict.{Verdict, refused}
+use Rattle.flow.specs.Verdict.{Verdict, refused, refusal}
+use Rattle.flow.specs.declared.answer.Totals.{Totals}
 use Rattle.flow.specs.declared.walk.Walk.{Walk}
 use Rattle.flow.proofs.Exact.{record-alike, stopped-step, exact-at-end}
 
 -- behind i right records of all, with the rest to come: the state w is the exact one, stopped, and is exact where nothing is due; it has
 -- counted no more dispositions than records
-pub record Reading (end : Walk → ℕ → Verdict) (header : Header) (all : List (List ℕ)) (w : Walk) (company : List ℕ) (i : ℕ) (rest : List (List ℕ)) : Type 0 where
+pub record Reading (end : Walk → ℕ → Verdict Totals) (header : Header) (all : List (List ℕ)) (w : Walk) (company : List ℕ) (i : ℕ) (rest : List (List ℕ)) : Type 0 where
   pub exact : Walk
   pub stops : w ≡ stopped exact
   pub final : isDue (permitted (exact .place .due)) ≡ false → stopped exact ≡ exact
   pub few : exact .dispositions ≤ i
   pub left : go end header start [] 0 all ≡ go end header exact company i rest
 
-pub begin : (end : Walk → ℕ → Verdict) (header : Header) (all : List (List ℕ)) → Reading end header all start [] 0 all
+pub begin : (end : Walk → ℕ → Verdict Totals) (header : Header) (all : List (List ℕ)) → Reading end header all start [] 0 all
 begin end header all = record { exact = start; stops = refl; final = λ e. refl; few = omega arith; left = refl }
 
 -- a record opens one disposition at the most
@@ -37,7 +38,7 @@ one-at-most k = by (opens k) refl
     by false e = rw e (omega arith)
 
 module _
-    {end : Walk → ℕ → Verdict} {header : Header} {all : List (List ℕ)} {w : Walk} {company : List ℕ} {i : ℕ} {rest : List (List ℕ)} (r : Reading end header all w company i rest)
+    {end : Walk → ℕ → Verdict Totals} {header : Header} {all : List (List ℕ)} {w : Walk} {company : List ℕ} {i : ℕ} {rest : List (List ℕ)} (r : Reading end header all w company i rest)
     (rec : List ℕ) (recs : List (List ℕ)) (next : rest ≡ rec ∷ recs)
   where
     -- the exact state finds of the next record what the stopped one does
@@ -62,13 +63,13 @@ module _
         }
 
     -- a fault
-    pub refuse : (m p : ℕ) → judgeRecord header w company (suc i) rec ≡ Finding·refused m p → refused m (suc i) p ≡ go end header start [] 0 all
+    pub refuse : (m p : ℕ) → judgeRecord header w company (suc i) rec ≡ Finding·refused m p → refused (refusal m (suc i) p) ≡ go end header start [] 0 all
     unfolding go
     refuse m p e = sym (r .left ∙ rw (next, found-alike ∙ e))
 
 -- the end: what the stopped state is answered there, the exact one is
 pub finish :
-    {end : Walk → ℕ → Verdict} {header : Header} {all : List (List ℕ)} {w : Walk} {company : List ℕ} {i : ℕ} {rest : List (List ℕ)} (r : Reading end header all w company i rest)
+    {end : Walk → ℕ → Verdict Totals} {header : Header} {all : List (List ℕ)} {w : Walk} {company : List ℕ} {i : ℕ} {rest : List (List ℕ)} (r : Reading end header all w company i rest)
     → rest ≡ [] → end (stopped (r .exact)) i ≡ end (r .exact) i → end w i ≡ go end header start [] 0 all
 unfolding go
 finish {end = end} {i = i} r none alike = ap (λ (v : Walk). end v i) (r .stops) ∙ alike ∙ sym (r .left ∙ rw none)

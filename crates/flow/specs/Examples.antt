@@ -4,10 +4,10 @@ use Prim.Native.String.{String}
 use mathlib.Core.List.{List, [], _∷_, _++_}
 use mathlib.Core.Path.{_≡_}
 use Rattle.sequences.specs.Text.{text}
-use Rattle.flow.specs.Find.{standing, find, partOf, offsetOf}
-use Rattle.flow.specs.Find.{refused as Located·refused}
+use Rattle.flow.specs.Find.{find, partOf, offsetOf}
 use Rattle.flow.specs.Judge.{judge}
-use Rattle.flow.specs.Verdict.{accepted, refused}
+use Rattle.flow.specs.Verdict.{accepted, refused, refusal, ofCall}
+use Rattle.flow.specs.declared.answer.Totals.{Totals}
 
 -- records, one after the other
 abbrev pub flowOf : List String → List ℕ
@@ -56,25 +56,28 @@ second =
 abbrev pub twoRents : List ℕ
 twoRents = flowOf ((headerIm ∷ firstOpened) ++ (firstClosed ++ (second ++ (trailerEf ∷ []))))
 
+abbrev pub twoRentTotals : Totals
+twoRentTotals = record { dispositions = 2; cents = 83050; records = 16 }
+
 -- the header and the first records of a disposition, then the records given
 abbrev pub withFurther : List String → List ℕ
 withFurther furthers = flowOf ((headerIm ∷ firstOpened) ++ furthers)
 
 pub record Examples : Type 0 where
-  pub two-rents : judge twoRents ≡ accepted 2 83050 16
+  pub two-rents : judge twoRents ≡ accepted twoRentTotals
   -- document 01, examples 4, 5, 6 and 8
-  pub empty : judge [] ≡ refused 1 0 0
-  pub header-alone : judge (flowOf (headerIm ∷ [])) ≡ refused 4 2 0
-  pub no-disposition : judge (flowOf (headerIm ∷ trailerEf ∷ [])) ≡ refused 3 2 2
-  pub six-further : judge (withFurther (further59 ∷ further59 ∷ further59 ∷ further59 ∷ further59 ∷ further59 ∷ [])) ≡ refused 3 11 2
+  pub empty : judge [] ≡ refused (ofCall 1)
+  pub header-alone : judge (flowOf (headerIm ∷ [])) ≡ refused (refusal 4 2 0)
+  pub no-disposition : judge (flowOf (headerIm ∷ trailerEf ∷ [])) ≡ refused (refusal 3 2 2)
+  pub six-further : judge (withFurther (further59 ∷ further59 ∷ further59 ∷ further59 ∷ further59 ∷ further59 ∷ [])) ≡ refused (refusal 3 11 2)
   -- five are not too many: behind them a record is due
-  pub five-further : judge (withFurther (further59 ∷ further59 ∷ further59 ∷ further59 ∷ further59 ∷ [])) ≡ refused 4 11 0
+  pub five-further : judge (withFurther (further59 ∷ further59 ∷ further59 ∷ further59 ∷ further59 ∷ [])) ≡ refused (refusal 4 11 0)
   -- where the two rents stand: their records are 2 to 8 and 9 to 15
-  pub first-rent : find twoRents 1 ≡ standing 2 7 45000
-  pub second-rent : find twoRents 2 ≡ standing 9 7 38050
-  pub no-rent-0 : find twoRents 0 ≡ Located·refused 15 0 0
-  pub no-rent-3 : find twoRents 3 ≡ Located·refused 15 0 0
-  pub none-in-empty : find [] 1 ≡ Located·refused 1 0 0
+  pub first-rent : find twoRents 1 ≡ accepted (record { first = 2; records = 7; cents = 45000 })
+  pub second-rent : find twoRents 2 ≡ accepted (record { first = 9; records = 7; cents = 38050 })
+  pub no-rent-0 : find twoRents 0 ≡ refused (ofCall 15)
+  pub no-rent-3 : find twoRents 3 ≡ refused (ofCall 15)
+  pub none-in-empty : find [] 1 ≡ refused (ofCall 1)
   -- the part is the second rent's seven records
   pub second-part : partOf twoRents 2 ≡ flowOf second
   -- it starts behind eight records; that of a refusal at the flow's start

@@ -12,6 +12,7 @@ use Rattle.flow.specs.Judge.{go}
 use Rattle.flow.specs.Order.{permitted, isDue, among}
 use Rattle.flow.specs.Records.{recordAt, recordsFrom}
 use Rattle.flow.specs.Verdict.{Verdict}
+use Rattle.flow.specs.declared.answer.Totals.{Totals}
 use Rattle.flow.specs.declared.order.Due.{Due}
 use Rattle.flow.specs.declared.order.Due.the-variants.{OnlyIm, OnlyR14, R16OrR20, OnlyR20, OnlyR30, OnlyR40, R50OrR59, R59OrR51, OnlyR51, OnlyR70, R14OrEf, Nothing}
 use Rattle.flow.specs.declared.order.Found.{Found}
@@ -54,5 +55,5 @@ pub record PassedOver (f : List ℕ) (from : ℕ) (w : Walk) (to : ℕ) (behind 
   pub counts : behind ≡ atPlace w (behind .place)
   pub due : isDue (permitted (behind .place .due)) ≡ isDue (permitted (w .place .due))
   pub left :
-      (end : Walk → ℕ → Verdict) (header : Header) (company : List ℕ) (v : Walk) → Numbered (atPlace v (w .place)) (recordAt (from - 1) f)
+      (end : Walk → ℕ → Verdict Totals) (header : Header) (company : List ℕ) (v : Walk) → Numbered (atPlace v (w .place)) (recordAt (from - 1) f)
       → go end header (atPlace v (w .place)) company from (recordsFrom from f) ≡ go end header (atPlace v (behind .place)) company to (recordsFrom to f)

@@ -14,20 +14,16 @@ use Rattle.records.specs.Kinds.{hasType}
 use Rattle.records.specs.declared.kind.Kind.the-variants.{R14}
 use Rattle.flow.specs.Judge.{judge}
 use Rattle.flow.specs.Records.{recordsOf}
-use Rattle.flow.specs.Verdict.{Verdict, accepted}
-use Rattle.flow.specs.Verdict.{refused as Verdict·refused}
+use Rattle.flow.specs.Verdict.{Verdict, accepted, refused, ofCall, andThen}
+use Rattle.flow.specs.declared.answer.Totals.{Totals}
 use Rattle.flow.specs.declared.location.Location.{Location}
 use Rattle.flow.specs.declared.location.Location.the-variants.{At, Refused}
-
--- standing with first record, number of records and cents; or refused with number, record and position
-pub data Located : Type 0 where
-  standing : ℕ → ℕ → ℕ → Located
-  refused : ℕ → ℕ → ℕ → Located
+use Rattle.flow.specs.declared.location.Stand.{Stand}
 
 -- the paper's values for each case of `flow::Location`
-abbrev pub located : Location → Located
-located (At first records cents) = standing first records cents
-located (Refused n r p) = refused n r p
+abbrev pub located : Location → Verdict Stand
+located (At s) = accepted s
+located (Refused x) = refused x
 
 -- the dispositions of an accepted flow: each 14 with the records behind it, up to the next 14 or the trailer
 abbrev pub dispositionsIn : List ℕ → List (List (List ℕ))
@@ -43,43 +39,39 @@ abbrev pub IsNumber : ℕ → ℕ → Type 0
 IsNumber k d = (1 ≤ k) × (k ≤ d)
 
 -- the k-th of them
-abbrev pub standsAt : List (List (List ℕ)) → ℕ → Located
+abbrev pub standsAt : List (List (List ℕ)) → ℕ → Stand
 standsAt ds k =
     let d = getD ds (k - 1) [] in
-    standing (suc (startsAt ds k)) (length d) (number (field 34 46 (getD d 0 [])))
+    record { first = suc (startsAt ds k); records = length d; cents = number (field 34 46 (getD d 0 [])) }
 
--- what the reader refuses is refused, and behind its acceptance the rest decides
-abbrev pub behindReading : Verdict → (ℕ → Located) → Located
-behindReading (accepted d c n) rest = rest d
-behindReading (Verdict·refused e r p) rest = refused e r p
-
-unfoldable pub find : List ℕ → ℕ → Located
-find f k = behindReading (judge f) (λ d. cond (leb 1 k && leb k d) (standsAt (dispositionsIn f) k) (refused 15 0 0))
+-- what the reader refuses is refused, and a number that no disposition has by 15
+unfoldable pub find : List ℕ → ℕ → Verdict Stand
+find f k =
+    andThen (judge f)
+    (λ (t : Totals). cond (leb 1 k && leb k (t .dispositions)) (accepted (standsAt (dispositionsIn f) k)) (refused (ofCall 15)))
 
 -- the bytes of a disposition that stands in f; of a refusal none
-abbrev pub bytesAt : Located → List ℕ → List ℕ
-bytesAt (standing first records cents) f = part (120 * (first - 1)) (120 * records) f
-bytesAt (refused n r p) f = []
+abbrev pub bytesAt : Verdict Stand → List ℕ → List ℕ
+bytesAt (accepted s) f = part (120 * (s .first - 1)) (120 * s .records) f
+bytesAt (refused x) f = []
 
 abbrev pub partOf : List ℕ → ℕ → List ℕ
 partOf f k = bytesAt (find f k) f
 
 -- the index in f of the first of them; of a refusal 0
-abbrev pub offsetAt : Located → ℕ
-offsetAt (standing first records cents) = 120 * (first - 1)
-offsetAt (refused n r p) = 0
+abbrev pub offsetAt : Verdict Stand → ℕ
+offsetAt (accepted s) = 120 * (s .first - 1)
+offsetAt (refused x) = 0
 
 abbrev pub offsetOf : List ℕ → ℕ → ℕ
 offsetOf f k = offsetAt (find f k)
 
 -- For the contracts of private functions: disposition k stands in the flow f, which is accepted
 pub record Stands (f : List ℕ) (k : ℕ) : Type 0 where
-  pub dispositions : ℕ
-  pub cents : ℕ
-  pub records : ℕ
-  pub read : judge f ≡ accepted dispositions cents records
+  pub totals : Totals
+  pub read : judge f ≡ accepted totals
   pub some : 1 ≤ k
-  pub within : k ≤ dispositions
+  pub within : k ≤ totals .dispositions
 
 -- and the index of the first 14 at index i of f's records or behind it, or of the trailer where there is none; and i itself where it is
 -- behind the trailer

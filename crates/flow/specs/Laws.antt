@@ -6,34 +6,52 @@ use mathlib.Core.Logic.{_↔_, _⊎_}
 use mathlib.Core.Path.{_≡_}
 use lib.ListN.{length}
 use Rattle.sequences.specs.Part.{part}
-use Rattle.flow.specs.Find.{standing, located, IsNumber, find, partOf, offsetOf}
-use Rattle.flow.specs.Find.{refused as Located·refused}
+use Rattle.flow.specs.Find.{located, IsNumber, find, partOf, offsetOf}
 use Rattle.flow.specs.Judge.{judge}
+use Rattle.flow.specs.Output.{output, withRoom, Leaves, LeavesAlone}
 use Rattle.flow.specs.Records.{RightLength, recordsOf}
-use Rattle.flow.specs.Seek.{sought, target, seek}
-use Rattle.flow.specs.Seek.{refused as Target·refused}
+use Rattle.flow.specs.Seek.{sought, seek}
 use Rattle.flow.specs.Sums.{dispositionsOf, centsOf}
-use Rattle.flow.specs.Verdict.{accepted, refused, verdict}
+use Rattle.flow.specs.Verdict.{Verdict, accepted, refused, verdict, refusal, ofCall}
 use Rattle.flow.specs.declared.answer.Answer.{Answer}
+use Rattle.flow.specs.declared.answer.Refusal.{Refusal}
+use Rattle.flow.specs.declared.answer.Totals.{Totals}
 use Rattle.flow.specs.declared.location.Location.{Location}
 use Rattle.flow.specs.declared.location.Sought.{Sought}
+use Rattle.flow.specs.declared.location.Stand.{Stand}
+use Rattle.flow.specs.declared.location.Target.{Target}
 
 -- number 1 is given exactly where the flow is not one or more whole records, or has more than 9,999,999 of them, and with record 0 and
 -- position 0
 abbrev pub LengthRefused : Type 0
 LengthRefused =
     (f : List ℕ) (r p : ℕ)
-    → (judge f ≡ refused 1 r p) ↔ ((r ≡ 0) × (p ≡ 0) × ¬ RightLength (length f))
+    → (judge f ≡ refused (refusal 1 r p)) ↔ ((r ≡ 0) × (p ≡ 0) × ¬ RightLength (length f))
 
 -- so above the ceiling the answer is 1
 abbrev pub Ceiling : Type 0
-Ceiling = (f : List ℕ) → 1199999880 < length f → judge f ≡ refused 1 0 0
+Ceiling = (f : List ℕ) → 1199999880 < length f → judge f ≡ refused (ofCall 1)
 
 -- an accepted flow is answered its exact counts, summed over its records
 abbrev pub AcceptedExact : Type 0
 AcceptedExact =
-    (f : List ℕ) (d c n : ℕ) → judge f ≡ accepted d c n
-    → (d ≡ dispositionsOf (recordsOf f)) × (c ≡ centsOf (recordsOf f)) × (n * 120 ≡ length f)
+    (f : List ℕ) (t : Totals) → judge f ≡ accepted t
+    → (t .dispositions ≡ dispositionsOf (recordsOf f)) × (t .cents ≡ centsOf (recordsOf f)) × (t .records * 120 ≡ length f)
+
+-- a call that fills an output answers what was judged; accepted, it leaves exactly the bytes where they fit, and refused nothing
+abbrev pub OutputLeaves : Type 1
+OutputLeaves =
+    (A : Type 0) (v : Verdict A) (bytes out : List ℕ)
+    → (output v bytes out .answer ≡ v)
+    × ((a : A) → v ≡ accepted a → length bytes ≤ length out → Leaves (output v bytes out) bytes out)
+    × ((x : Refusal) → v ≡ refused x → LeavesAlone (output v bytes out) out)
+
+-- and for want of room it is refused by 21, where it would be accepted
+abbrev pub RoomExact : Type 1
+RoomExact =
+    (A : Type 0) (v : Verdict A) (size room : ℕ)
+    → ((a : A) → (withRoom v size room ≡ accepted a) ↔ ((v ≡ accepted a) × (size ≤ room)))
+    × ((x : Refusal) → (withRoom v size room ≡ refused x) ↔ ((v ≡ refused x) ⊎ ((a : A) × (v ≡ accepted a) × (room < size) × (x ≡ ofCall 21))))
 
 -- what an answer stands for on paper determines it
 abbrev pub AnswerDetermined : Type 0
@@ -48,20 +66,21 @@ SoughtDetermined = (r s : Sought) → sought r ≡ sought s → r ≡ s
 -- a question about disposition k is refused exactly where the flow is, by the same, or by 15 where no disposition has that number
 abbrev pub FindRefused : Type 0
 FindRefused =
-    (f : List ℕ) (k n r p : ℕ)
-    → (find f k ≡ Located·refused n r p) ↔ ((judge f ≡ refused n r p) ⊎ ((d c m : ℕ) × (judge f ≡ accepted d c m) × ¬ IsNumber k d × (n ≡ 15) × (r ≡ 0) × (p ≡ 0)))
+    (f : List ℕ) (k : ℕ) (x : Refusal)
+    → (find f k ≡ refused x) ↔ ((judge f ≡ refused x) ⊎ ((t : Totals) × (judge f ≡ accepted t) × ¬ IsNumber k (t .dispositions) × (x ≡ ofCall 15)))
 
 -- what is sought is found in an accepted flow, and refused exactly where the question is
 abbrev pub SeekExact : Type 0
 SeekExact =
     (f : List ℕ) (k : ℕ)
-    → ((d c n first m a : ℕ) → (seek f k ≡ target d c n first m a) ↔ ((judge f ≡ accepted d c n) × (find f k ≡ standing first m a)))
-    × ((n r p : ℕ) → (seek f k ≡ Target·refused n r p) ↔ (find f k ≡ Located·refused n r p))
+    → ((g : Target) → (seek f k ≡ accepted g) ↔ ((judge f ≡ accepted (g .totals)) × (find f k ≡ accepted (g .stand))))
+    × ((x : Refusal) → (seek f k ≡ refused x) ↔ (find f k ≡ refused x))
 
 -- the part of a disposition that is found is the flow's bytes from its first record on, as many as its records have, and ends before the
 -- trailer; that of a refusal is at the flow's start
 abbrev pub PartPlaced : Type 0
 PartPlaced =
     (f : List ℕ) (k : ℕ)
-    → ((first m a : ℕ) → find f k ≡ standing first m a → (offsetOf f k ≡ 120 * (first - 1)) × (partOf f k ≡ part (offsetOf f k) (120 * m) f) × (offsetOf f k + 120 * m + 120 ≤ length f))
-    × ((n r p : ℕ) → find f k ≡ Located·refused n r p → offsetOf f k ≡ 0)
+    → ((s : Stand) → find f k ≡ accepted s
+    → (offsetOf f k ≡ 120 * (s .first - 1)) × (partOf f k ≡ part (offsetOf f k) (120 * s .records) f) × (offsetOf f k + 120 * s .records + 120 ≤ length f))
+    × ((x : Refusal) → find f k ≡ refused x → offsetOf f k ≡ 0)

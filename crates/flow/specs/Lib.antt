@@ -4,6 +4,7 @@ pub mod Find
 pub mod Judge
 pub mod Laws
 pub mod Order
+pub mod Output
 pub mod Records
 pub mod Seek
 pub mod Steps

@@ -2,30 +2,23 @@
 -- Assumes nothing.
 use Prim.Native.Nat.{ℕ}
 use mathlib.Core.List.{List}
-use Rattle.flow.specs.Find.{Located, standing, find}
-use Rattle.flow.specs.Find.{refused as Located·refused}
+use Rattle.flow.specs.Find.{find}
 use Rattle.flow.specs.Judge.{judge}
-use Rattle.flow.specs.Verdict.{Verdict, accepted}
-use Rattle.flow.specs.Verdict.{refused as Verdict·refused}
+use Rattle.flow.specs.Verdict.{Verdict, accepted, refused, andThen}
+use Rattle.flow.specs.declared.answer.Totals.{Totals}
 use Rattle.flow.specs.declared.location.Sought.{Sought}
 use Rattle.flow.specs.declared.location.Sought.the-variants.{At, Refused}
-
--- dispositions, cents and records of an accepted flow, then first record, number of records and cents of disposition k; or refused with
--- number, record and position
-pub data Target : Type 0 where
-  target : ℕ → ℕ → ℕ → ℕ → ℕ → ℕ → Target
-  refused : ℕ → ℕ → ℕ → Target
+use Rattle.flow.specs.declared.location.Stand.{Stand}
+use Rattle.flow.specs.declared.location.Target.{Target}
 
 -- the paper's values for each case of `flow::Sought`
-abbrev pub sought : Sought → Target
-sought (At d c n first m a) = target d c n first m a
-sought (Refused e r p) = refused e r p
+abbrev pub sought : Sought → Verdict Target
+sought (At g) = accepted g
+sought (Refused x) = refused x
 
--- what was read of a flow, and what was found in it
-abbrev pub together : Verdict → Located → Target
-together (accepted d c n) (standing first m a) = target d c n first m a
-together (accepted d c n) (Located·refused e r p) = refused e r p
-together (Verdict·refused e r p) l = refused e r p
+-- the totals of an accepted flow, and where disposition k stands in it
+abbrev pub target : Totals → Stand → Target
+target t s = record { totals = t; stand = s }
 
-unfoldable pub seek : List ℕ → ℕ → Target
-seek f k = together (judge f) (find f k)
+unfoldable pub seek : List ℕ → ℕ → Verdict Target
+seek f k = andThen (judge f) (λ (t : Totals). andThen (find f k) (λ (s : Stand). accepted (target t s)))

@@ -1,16 +1,35 @@
 // What reading a flow answers.
+ghost use mathlib.Core.Path.{_≡_};
+ghost use Rattle.flow.specs.Verdict.{ofCall};
 
-// Accepted, with the count of dispositions, the sum of their amounts in cents and the count of
-// records; or refused, with the number, the record and the position of the first fault.
+// Accepted, with the flow's totals; or refused, by its first fault.
 pub enum Answer {
-    Accepted {
-        dispositions: u64,
-        cents: u64,
-        records: u64,
-    },
-    Refused {
-        number: u64,
-        record: u64,
-        position: u64,
-    },
+    Accepted(Totals),
+    Refused(Refusal),
+}
+
+// The count of dispositions, the sum of their amounts in cents, and the count of records.
+pub struct Totals {
+    pub dispositions: u64,
+    pub cents: u64,
+    pub records: u64,
+}
+
+// The number of a refusal, and the record and the position of the fault: both 0 where it is a fault of
+// the call and of no record, and the position where it is of the record's place.
+pub struct Refusal {
+    pub number: u64,
+    pub record: u64,
+    pub position: u64,
+}
+
+// The refusal of a call by a number that stands for no record.
+pub fn refusal_of_call(number: u64) -> Refusal
+    ensures { λ r. ⌜ r ≡ ofCall number ⌝ }
+{
+    Refusal {
+        number,
+        record: 0,
+        position: 0,
+    }
 }

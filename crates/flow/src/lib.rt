@@ -13,8 +13,13 @@ mod reader;
 mod walk;
 
 pub use answer::Answer;
+pub use answer::Refusal;
+pub use answer::Totals;
+pub use answer::refusal_of_call;
 pub use location::Location;
 pub use location::Sought;
+pub use location::Stand;
+pub use location::Target;
 pub use location::disposition;
 pub use location::find;
 pub use location::seek;

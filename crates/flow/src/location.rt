@@ -8,59 +8,46 @@ ghost use Rattle.sequences.specs.Slice.{StartsAt};
 ghost use Rattle.fields.specs.Digits.{isDigits};
 ghost use Rattle.fields.specs.Digits.{number as Digits·number};
 ghost use Rattle.records.specs.Field.{field as Field·field};
-ghost use Rattle.flow.specs.Find.{standing, located, dispositionsIn, startsAt, standsAt, partOf, offsetOf, Stands, openingFrom};
+ghost use Rattle.flow.specs.Find.{located, dispositionsIn, startsAt, standsAt, partOf, offsetOf, Stands, openingFrom};
 ghost use Rattle.flow.specs.Find.{find as Find·find};
 ghost use Rattle.flow.specs.Seek.{sought};
 ghost use Rattle.flow.specs.Seek.{seek as Seek·seek};
 use crate::answer::Answer;
+use crate::answer::Refusal;
+use crate::answer::Totals;
+use crate::answer::refusal_of_call;
 use crate::reader::count;
 use crate::reader::read;
 use fields::Number;
 use records::Kind;
 use records::field;
 
-// Where disposition k stands: its first record, counted from 1, the number of its records and its
-// amount in cents; or refused, with the number, the record and the position.
+// Where disposition k stands; or refused.
 pub enum Location {
-    At {
-        first: u64,
-        records: u64,
-        cents: u64,
-    },
-    Refused {
-        number: u64,
-        record: u64,
-        position: u64,
-    },
+    At(Stand),
+    Refused(Refusal),
+}
+
+// The first record of a disposition, counted from 1, the number of its records and its amount in cents.
+pub struct Stand {
+    pub first: u64,
+    pub records: u64,
+    pub cents: u64,
+}
+
+// The totals of an accepted flow, and where disposition k stands in it; or refused.
+pub enum Sought {
+    At(Target),
+    Refused(Refusal),
+}
+
+pub struct Target {
+    pub totals: Totals,
+    pub stand: Stand,
 }
 
 // Document 01, "Numbers a clerk may see".
 const NO_DISPOSITION: u64 = 15;
-
-// The three numbers of a flow that is accepted, and where disposition k stands in it: its first
-// record, counted from 1, its number of records and its amount in cents; or refused.
-pub enum Sought {
-    At {
-        dispositions: u64,
-        cents: u64,
-        records: u64,
-        first: u64,
-        size: u64,
-        amount: u64,
-    },
-    Refused {
-        number: u64,
-        record: u64,
-        position: u64,
-    },
-}
-
-// Where a disposition stands: its first record, its number of records, and its amount in cents.
-struct Stand {
-    first: u64,
-    records: u64,
-    cents: u64,
-}
 
 // Where disposition k of the flow stands, counted from 1. What the reader refuses is refused with its
 // three numbers, and then a k of 0 or above the count by 15.
@@ -68,27 +55,11 @@ pub fn find(flow: &[u8], k: u64) -> Location
     ensures { λ r. ⌜ located r ≡ Find·find (now (flow .entry)) k ⌝ }
 {
     match seek(flow, k) {
-        Sought::Refused {
-            number,
-            record,
-            position,
-        } => Location::Refused {
-            number,
-            record,
-            position,
-        },
-        Sought::At {
-            dispositions: _,
-            cents: _,
-            records: _,
-            first,
-            size,
-            amount,
-        } => Location::At {
-            first,
-            records: size,
-            cents: amount,
-        },
+        Sought::Refused(refusal) => Location::Refused(refusal),
+        Sought::At(target) => {
+            let stand = target.stand;
+            Location::At(stand)
+        }
     }
 }
 
@@ -97,36 +68,13 @@ pub fn seek(flow: &[u8], k: u64) -> Sought
     ensures { λ r. ⌜ sought r ≡ Seek·seek (now (flow .entry)) k ⌝ }
 {
     match read(flow) {
-        Answer::Refused {
-            number,
-            record,
-            position,
-        } => Sought::Refused {
-            number,
-            record,
-            position,
-        },
-        Answer::Accepted {
-            dispositions,
-            cents,
-            records,
-        } => {
-            if !is_number(k, dispositions) {
-                return Sought::Refused {
-                    number: NO_DISPOSITION,
-                    record: 0,
-                    position: 0,
-                };
+        Answer::Refused(refusal) => Sought::Refused(refusal),
+        Answer::Accepted(totals) => {
+            if !is_number(k, totals.dispositions) {
+                return Sought::Refused(refusal_of_call(NO_DISPOSITION));
             }
             let stand = locate(flow, k);
-            Sought::At {
-                dispositions,
-                cents,
-                records,
-                first: stand.first,
-                size: stand.records,
-                amount: stand.cents,
-            }
+            Sought::At(Target { totals, stand })
         }
     }
 }
@@ -138,19 +86,11 @@ pub fn disposition(flow: &[u8], k: u64) -> &[u8]
     ensures place { λ r. ⌜ StartsAt r (flow .entry) (offsetOf (now (flow .entry)) k) ⌝ }
 {
     match find(flow, k) {
-        Location::At {
-            first,
-            records,
-            cents: _,
-        } => {
-            let from = index(first - 1);
-            return &flow[120 * from..120 * (from + index(records))];
+        Location::At(stand) => {
+            let from = index(stand.first - 1);
+            return &flow[120 * from..120 * (from + index(stand.records))];
         }
-        Location::Refused {
-            number: _,
-            record: _,
-            position: _,
-        } => {
+        Location::Refused(_) => {
             return &flow[0..0];
         }
     }
@@ -169,7 +109,7 @@ fn is_number(k: u64, dispositions: u64) -> bool
 // Where disposition k of an accepted flow stands: up to the next record 14 or the trailer.
 fn locate(flow: &[u8], k: u64) -> Stand
     requires { ⌜ Stands (now flow) k ⌝ }
-    ensures { λ r. ⌜ standing (r .first) (r .records) (r .cents) ≡ standsAt (dispositionsIn (now (flow .entry))) k ⌝ }
+    ensures { λ r. ⌜ r ≡ standsAt (dispositionsIn (now (flow .entry))) k ⌝ }
 {
     let at = start_of(flow, k);
     let end = next_opening(flow, at + 1);

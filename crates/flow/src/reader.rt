@@ -12,6 +12,9 @@ ghost use Rattle.flow.specs.Judge.{judge as Judge·judge};
 ghost use Rattle.flow.specs.Steps.{start, latestBy, latestOf};
 ghost use Rattle.flow.specs.Verdict.{verdict};
 use crate::answer::Answer;
+use crate::answer::Refusal;
+use crate::answer::Totals;
+use crate::answer::refusal_of_call;
 use crate::fast_path::pass_over;
 use crate::walk::Walk;
 use records::Judged;
@@ -31,11 +34,7 @@ pub fn read(flow: &[u8]) -> Answer
     ensures { λ r. ⌜ verdict r ≡ Judge·judge (now (flow .entry)) ⌝ }
 {
     if !is_length(flow.len()) {
-        return Answer::Refused {
-            number: WRONG_LENGTH,
-            record: 0,
-            position: 0,
-        };
+        return Answer::Refused(refusal_of_call(WRONG_LENGTH));
     }
     let header = &flow[0..120];
     read_records(
@@ -82,11 +81,11 @@ fn read_records(
         let n = count(i + 1);
         match walk.judge(rec, n, mittente, abi, date, name, currency, company) {
             Judged::Refused(number, position) => {
-                return Answer::Refused {
+                return Answer::Refused(Refusal {
                     number,
                     record: n,
                     position,
-                };
+                });
             }
             Judged::Right(right) => {
                 let kind = right.kind;
@@ -123,17 +122,17 @@ fn end(walk: Walk, n: u64) -> Answer
     ensures { λ r. ⌜ verdict r ≡ ended walk n ⌝ }
 {
     if walk.complete() {
-        return Answer::Accepted {
+        return Answer::Accepted(Totals {
             dispositions: walk.dispositions,
             cents: walk.cents,
             records: n,
-        };
+        });
     }
-    Answer::Refused {
+    Answer::Refused(Refusal {
         number: ENDED,
         record: n + 1,
         position: 0,
-    }
+    })
 }
 
 pub(crate) fn count(n: usize) -> u64

@@ -10,24 +10,16 @@ pub(crate) fn print(bytes: &[u8], k: u64) {
     let part = flow::disposition(bytes, k);
     let location = flow::find(bytes, k);
     match location {
-        Location::At {
-            first,
-            records,
-            cents,
-        } => {
-            labelled(b"found first ", first);
-            labelled(b" records ", records);
-            labelled(b" cents ", cents);
+        Location::At(stand) => {
+            labelled(b"found first ", stand.first);
+            labelled(b" records ", stand.records);
+            labelled(b" cents ", stand.cents);
             labelled(b" part ", part.len() as u64);
             quoted(part);
             quoted(last_record(part));
         }
-        Location::Refused {
-            number,
-            record,
-            position,
-        } => {
-            report::print_refusal(number, record, position);
+        Location::Refused(refusal) => {
+            report::print_refusal(refusal);
             labelled(b" part ", part.len() as u64);
         }
     }

@@ -17,11 +17,13 @@ use Rattle.records.specs.Field.{field}
 use Rattle.records.specs.Finding.{Hold}
 use Rattle.records.specs.declared.kind.Kind.{Kind}
 use Rattle.records.specs.declared.kind.Kind.the-variants.{Im, Ef}
-use Rattle.flow.specs.Judge.{ended, judge}
+use Rattle.flow.specs.Judge.{totals, ended, judge}
 use Rattle.flow.specs.Records.{RightLength, recordsOf}
 use Rattle.flow.specs.Order.{place}
 use Rattle.flow.specs.Steps.{start, step}
 use Rattle.flow.specs.Verdict.{Verdict, accepted, refused}
+use Rattle.flow.specs.declared.answer.Refusal.{Refusal}
+use Rattle.flow.specs.declared.answer.Totals.{Totals}
 use Rattle.flow.specs.declared.order.Due.the-variants.{OnlyR14}
 use Rattle.flow.specs.declared.order.Place.{Place}
 use Rattle.flow.specs.declared.walk.Walk.{Walk}
@@ -30,7 +32,7 @@ use Rattle.flow.proofs.Cut.{Whole, flatten-length, records-joined, joined-recor
 use Rattle.flow.proofs.Dispositions.{accepted-records}
 use Rattle.flow.proofs.Lengths.{length-said}
 use Rattle.grammar.specs.Fault.{FirstFault}
-use Rattle.grammar.specs.Grammar.{Typed, Parts, kindsOf, recordsIn, codeOf, bytesOf, dispositionCount, totalCents, recordCount, Numbered, Right, Grammar}
+use Rattle.grammar.specs.Grammar.{Typed, Parts, kindsOf, recordsIn, codeOf, bytesOf, dispositionCount, totalCents, recordCount, totalsOf, Numbered, Right, Grammar}
 use Rattle.grammar.specs.Laws.{GrammarExact, RightOrFaulty}
 use Rattle.grammar.specs.Rules.{TrailerRules}
 use Rattle.grammar.specs.Shape.{Disposition, Dispositions, last, more, InOrder, in-order}
@@ -114,14 +116,14 @@ module _ (p : Parts) (some : 1 ≤ dispositionCount p) (shape : InShape (p .disp
       (omega arith, omega arith, omega (arith, flatten-count (p .dispositions)))
 
   trailer-said : (h : Header) (code : List ℕ) → let w = stateBehind behindHeader (flatten (p .dispositions)) in
-      Hold (checks Ef (asks h w code (suc (1 + length (flatten (p .dispositions)))) Ef) (p .trailer)) ↔ TrailerRules h (dispositionCount p) (totalCents p) (recordCount p) (p .trailer)
+      Hold (checks Ef (asks h w code (suc (1 + length (flatten (p .dispositions)))) Ef) (p .trailer)) ↔ TrailerRules h (totalsOf p) (p .trailer)
   trailer-said h code =
       let w = stateBehind behindHeader (flatten (p .dispositions)) in
       let n = suc (1 + length (flatten (p .dispositions))) in
       let rules = trailer-rules (asks h w code n Ef) (p .trailer) in
       let counts = trailer-counts in
-      let same : TrailerRules h (w .dispositions + 0) (w .cents) n (p .trailer) ≡ TrailerRules h (dispositionCount p) (totalCents p) (recordCount p) (p .trailer) =
-      λ i. TrailerRules h (counts .0 i) (counts .1 i) (counts .2 i) (p .trailer) in
+      let same : TrailerRules h (record { dispositions = w .dispositions + 0; cents = w .cents; records = n }) (p .trailer) ≡ TrailerRules h (totalsOf p) (p .trailer) =
+      λ i. TrailerRules h (record { dispositions = counts .0 i; cents = counts .1 i; records = counts .2 i }) (p .trailer) in
       (λ hold. subst (λ (A : Type 0). A) same (rules .0 hold), λ said. rules .1 (subst (λ (A : Type 0). A) (sym same) said))
 
   -- the walk over all the records, and the grammar
@@ -167,24 +169,26 @@ module _ (p : Parts) (some : 1 ≤ dispositionCount p) (shape : InShape (p .disp
           let within = middle .1 (allowed-before (place OnlyR14) (kindsOf ms) (Ef ∷ []) allowed, r .each, all-equal-exact (map codeOf (p .dispositions)) .1 (r .codes)) in
           (opening, parts .1 (within, (closing, tt)))
 
-  -- the three numbers behind all of them
-  all-counted :
-      (stateBehind start (typedOf p) .dispositions ≡ dispositionCount p) × (stateBehind start (typedOf p) .cents ≡ totalCents p) × (length (typedOf p) ≡ recordCount p)
+  -- the totals behind all of them
+  all-counted : totals (stateBehind start (typedOf p)) (length (typedOf p)) ≡ totalsOf p
   all-counted =
       let end : List Typed = record { kind = Ef; bytes = p .trailer } ∷ [] in
       let same = state-append behindHeader (flatten (p .dispositions)) end in
       let count = ap (λ (w : Walk). w .dispositions) same in
       let cents = ap (λ (w : Walk). w .cents) same in
       let counts = trailer-counts in
-      (omega arith, omega arith, omega (arith, length-append (flatten (p .dispositions)) end))
+      let dispositions : stateBehind start (typedOf p) .dispositions ≡ dispositionCount p = omega arith in
+      let sum : stateBehind start (typedOf p) .cents ≡ totalCents p = omega arith in
+      let records : length (typedOf p) ≡ recordCount p = omega (arith, length-append (flatten (p .dispositions)) end) in
+      λ i. record { dispositions = dispositions i; cents = sum i; records = records i }
 
 -- the header of a flow is its first 120 bytes
 pub header-first : (p : Parts) (f : List ℕ) → bytesOf p ≡ f → length (p .header) ≡ 120 → take 120 f ≡ p .header
 header-first p f e whole = ap (take 120) (sym e) ∙ take-at (p .header) _ 120 whole
 
 -- from the answer to the grammar
-module _ (f : List ℕ) (d c n : ℕ) (sized : RightLength (length f)) where
-  at-end : (rs : List Typed) → recordsOf f ≡ recordsIn rs → FromStart f rs → ended (stateBehind start rs) (length rs) ≡ accepted d c n → Grammar f d c n
+module _ (f : List ℕ) (t : Totals) (sized : RightLength (length f)) where
+  at-end : (rs : List Typed) → recordsOf f ≡ recordsIn rs → FromStart f rs → ended (stateBehind start rs) (length rs) ≡ accepted t → Grammar f t
   at-end rs same walked e =
       let told = ended-so (stateBehind start rs) (length rs) e in
       let apart = take-apart rs (complete-order f rs walked (told .0)) in
@@ -193,26 +197,23 @@ module _ (f : List ℕ) (d c n : ℕ) (sized : RightLength (length f)) where
       let typed = subst (FromStart f) (apart .same) walked in
       let head = header-first p f bytes (typed .0 .formed .whole) in
       let counts = all-counted p (apart .some) (apart .shape) in
-      let state = ap (stateBehind start) (apart .same) in
       record {
         parts = p;
         bytes = bytes;
         right = parts-exact p (apart .some) (apart .shape) .0 (subst (λ (l : List ℕ). Walked (headerOf l) start [] 0 (typedOf p)) head typed);
-        dispositions = sym (counts .0) ∙ ap (λ (w : Walk). w .dispositions) (sym state) ∙ told .1;
-        cents = sym (counts .1) ∙ ap (λ (w : Walk). w .cents) (sym state) ∙ told .2;
-        records = sym (counts .2) ∙ ap (λ (l : List Typed). length l) (sym (apart .same)) ∙ told .3;
+        totals = sym counts ∙ ap (λ (rs : List Typed). totals (stateBehind start rs) (length rs)) (sym (apart .same)) ∙ told .1;
       }
 
-  at-outcome : {recs : List (List ℕ)} → recordsOf f ≡ recs → Whole recs → Outcome (headerOf (take 120 f)) start [] 0 recs → judgeFrom f recs ≡ accepted d c n → Grammar f d c n
+  at-outcome : {recs : List (List ℕ)} → recordsOf f ≡ recs → Whole recs → Outcome (headerOf (take 120 f)) start [] 0 recs → judgeFrom f recs ≡ accepted t → Grammar f t
   at-outcome same whole (all-right rs walked) e = at-end rs same walked (sym (ends-so ended f rs walked) ∙ e)
   at-outcome same whole (stops rs rec rest m q walked fault) e =
       let size = all-at (λ (l : List ℕ). length l ≡ 120) (recordsIn rs) rec rest whole in
       absurd (accepted-not-refused (sym (stops-so ended f rs walked rec rest m q size fault) ∙ e))
 
-grammar-of : (f : List ℕ) (d c n : ℕ) → judge f ≡ accepted d c n → Grammar f d c n
-grammar-of f d c n e =
+grammar-of : (f : List ℕ) (t : Totals) → judge f ≡ accepted t → Grammar f t
+grammar-of f t e =
     let read = accepted-records f e in
-    at-outcome f d c n (length-said (length f) (read .0)) refl (whole-records f) (outcome (headerOf (take 120 f)) start [] 0 (recordsOf f) (whole-records f)) (read .1)
+    at-outcome f t (length-said (length f) (read .0)) refl (whole-records f) (outcome (headerOf (take 120 f)) start [] 0 (recordsOf f) (whole-records f)) (read .1)
 
 -- from the grammar to the answer
 -- the trailer's digits bound what it counts
@@ -226,7 +227,7 @@ counts-below p r =
       said-below 7 (recordCount p) (field 83 89 t) (size 82 7 (omega arith)) (rules .records-said),
     )
 
-module _ (f : List ℕ) (d c n : ℕ) (g : Grammar f d c n) where
+module _ (f : List ℕ) (t : Totals) (g : Grammar f t) where
   pub grammar-shape : InShape (g .parts .dispositions)
   grammar-shape = numbered-shape (headerOf (g .parts .header) .abi) 1 (g .parts .dispositions) (g .right .each)
 
@@ -247,24 +248,24 @@ module _ (f : List ℕ) (d c n : ℕ) (g : Grammar f d c n) where
   pub grammar-start : FromStart f (typedOf (g .parts))
   grammar-start = subst (λ (l : List ℕ). Walked (headerOf l) start [] 0 (typedOf (g .parts))) (sym (header-first (g .parts) f (g .bytes) (g .right .header-formed .whole))) grammar-walked
 
-  answer-of : judge f ≡ accepted d c n
+  answer-of : judge f ≡ accepted t
   answer-of =
       let p = g .parts in
       let rs = typedOf p in
       let walked : FromStart f rs = grammar-start in
       let counts = all-counted p (g .right .some) grammar-shape in
-      let size : length f ≡ 120 * recordCount p = ap (λ (l : List ℕ). length l) (sym grammar-bytes) ∙ flatten-length (recordsIn rs) grammar-whole ∙ ap (λ (m : ℕ). 120 * m) (length-map rs (λ (x : Typed). x .bytes) ∙ counts .2) in
+      let size : length f ≡ 120 * recordCount p = ap (λ (l : List ℕ). length l) (sym grammar-bytes) ∙ flatten-length (recordsIn rs) grammar-whole ∙ ap (λ (m : ℕ). 120 * m) (length-map rs (λ (x : Typed). x .bytes) ∙ ap (λ (u : Totals). u .records) counts) in
       let few = counts-below p (g .right) .2 in
       let sized : RightLength (length f) = (omega arith, omega arith, omega arith) in
       let last-due = order-complete f rs walked (parts-order p (g .right .some) grammar-shape) in
-      judged f sized ∙ ap (judgeFrom f) grammar-records ∙ ends-so ended f rs walked ∙ rw last-due (λ i. accepted ((counts .0 ∙ g .dispositions) i) ((counts .1 ∙ g .cents) i) ((counts .2 ∙ g .records) i))
+      judged f sized ∙ ap (judgeFrom f) grammar-records ∙ ends-so ended f rs walked ∙ rw last-due (ap accepted (counts ∙ g .totals))
 
 pub grammar-exact : GrammarExact
-grammar-exact f d c n = (grammar-of f d c n, answer-of f d c n)
+grammar-exact f t = (grammar-of f t, answer-of f t)
 
 pub right-or-faulty : RightOrFaulty
-right-or-faulty f = (go (judge f) refl, λ both. accepted-not-refused (sym (first-fault-exact f (both .1 .0) (both .1 .1) (both .1 .2) .1 (both .1 .3)) ∙ grammar-exact f (both .0 .0) (both .0 .1) (both .0 .2) .1 (both .0 .3)))
+right-or-faulty f = (go (judge f) refl, λ both. accepted-not-refused (sym (first-fault-exact f (both .1 .0) .1 (both .1 .1)) ∙ grammar-exact f (both .0 .0) .1 (both .0 .1)))
   where
-    go : (v : Verdict) → judge f ≡ v → ((d c n : ℕ) × Grammar f d c n) ⊎ ((n r p : ℕ) × FirstFault f n r p)
-    go (accepted d c n) e = inl (d, c, n, grammar-exact f d c n .0 e)
-    go (refused n r p) e = inr (n, r, p, first-fault-exact f n r p .0 e)
+    go : (v : Verdict Totals) → judge f ≡ v → ((t : Totals) × Grammar f t) ⊎ ((x : Refusal) × FirstFault f x)
+    go (accepted t) e = inl (t, grammar-exact f t .0 e)
+    go (refused x) e = inr (x, first-fault-exact f x .0 e)

@@ -23,13 +23,16 @@ use Rattle.records.specs.Kinds.{typeOf, hasType, opens}
 use Rattle.records.specs.declared.kind.Kind.{Kind}
 use Rattle.records.specs.declared.kind.Kind.the-variants.{Im, R14, Ef}
 use Rattle.records.proofs.ByKind.{type-tested, opens-type}
-use Rattle.flow.specs.Find.{Located, standing, refused, dispositionsIn, startsAt, find, bytesAt, partOf}
+use Rattle.flow.specs.Find.{dispositionsIn, startsAt, find, bytesAt, partOf}
 use Rattle.flow.specs.Judge.{judge}
 use Rattle.flow.specs.Records.{recordAt, recordsOf}
-use Rattle.flow.specs.Verdict.{accepted}
+use Rattle.flow.specs.Verdict.{Verdict, accepted, refused}
+use Rattle.flow.specs.declared.answer.Refusal.{Refusal}
+use Rattle.flow.specs.declared.answer.Totals.{Totals}
+use Rattle.flow.specs.declared.location.Stand.{Stand}
 use Rattle.flow.proofs.Accepted.{accepted-exact}
 use Rattle.flow.proofs.Cut.{Whole, flatten-length, part-joined}
-use Rattle.flow.proofs.Dispositions.{dispositions-counted, disposition-stands, find-so, standing-same, found-stands}
+use Rattle.flow.proofs.Dispositions.{dispositions-counted, disposition-stands, find-so, found-stands}
 use Rattle.grammar.specs.Grammar.{Typed, kindsOf, recordsIn, opening, RightDisposition, Numbered, Grammar}
 use Rattle.grammar.specs.Laws.{DispositionsExact, centsAt, firstAt, endAt, PartsExact, PlacesExact, OpeningExact, PartEmpty}
 use Rattle.grammar.specs.Rules.{Digits, Says, Formed, MemberRules}
@@ -65,49 +68,49 @@ module _ (abi : List ℕ) where
   all-open n (d ∷ ds) each = (opens-so n d (each .0), all-open (suc n) ds (each .1))
 
 -- the records between header and trailer
-module _ (f : List ℕ) (d c n : ℕ) (g : Grammar f d c n) where
+module _ (f : List ℕ) (t : Totals) (g : Grammar f t) where
   pub between : recordsOf f ≡ (g .parts .header ∷ flatten (map recordsIn (g .parts .dispositions))) ++ (g .parts .trailer ∷ [])
   between =
       let ms = flatten (g .parts .dispositions) in
       let bytes : Typed → List ℕ = λ r. r .bytes in
-      grammar-records f d c n g
+      grammar-records f t g
       ∙ ap (λ (l : List (List ℕ)). g .parts .header ∷ l) (map-append bytes ms (record { kind = Ef; bytes = g .parts .trailer } ∷ []) ∙ ap (λ (l : List (List ℕ)). l ++ (g .parts .trailer ∷ [])) (map-flatten bytes (g .parts .dispositions)))
 
 pub dispositions-exact : DispositionsExact
 unfolding groups
-dispositions-exact f d c n g =
+dispositions-exact f t g =
     let p = g .parts in
     let ds = map recordsIn (p .dispositions) in
     let header-shut = not-opening Im (p .header) (g .right .header-formed) refl in
-    ap (λ (l : List (List ℕ)). groups (hasType R14) (dropLast l)) (between f d c n g)
+    ap (λ (l : List (List ℕ)). groups (hasType R14) (dropLast l)) (between f t g)
     ∙ ap (groups (hasType R14)) (dropLast-append (p .header ∷ flatten ds) (p .trailer))
     ∙ rw header-shut (groups-joined (hasType R14) ds (all-open (headerOf (p .header) .abi) 1 (p .dispositions) (g .right .each)))
 
 -- where disposition k + 1 of an accepted flow stands
-module _ (f : List ℕ) (d c n : ℕ) (e : judge f ≡ accepted d c n) where
-  g : Grammar f d c n
-  g = grammar-exact f d c n .0 e
+module _ (f : List ℕ) (t : Totals) (e : judge f ≡ accepted t) where
+  g : Grammar f t
+  g = grammar-exact f t .0 e
 
-  pub stands-so : (k : ℕ) → k < d
-      → find f (suc k) ≡ standing (suc (suc (length (flatten (take k (dispositionsIn f)))))) (length (getD (dispositionsIn f) k [])) (number (field 34 46 (getD (getD (dispositionsIn f) k []) 0 [])))
+  pub stands-so : (k : ℕ) → k < t .dispositions
+      → find f (suc k) ≡ accepted (record { first = suc (suc (length (flatten (take k (dispositionsIn f))))); records = length (getD (dispositionsIn f) k []); cents = number (field 34 46 (getD (getD (dispositionsIn f) k []) 0 [])) })
   stands-so k h =
       let one : suc k - 1 ≡ k = omega arith in
       find-so f k e h ∙ rw one
 
-  count-so : length (dispositionsIn f) ≡ d
+  count-so : length (dispositionsIn f) ≡ t .dispositions
   count-so = dispositions-counted f e
 
   -- the records of the flow: the header, those of the dispositions, the trailer
   records-so : recordsOf f ≡ (g .parts .header ∷ flatten (dispositionsIn f)) ++ (g .parts .trailer ∷ [])
-  records-so = between f d c n g ∙ ap (λ (l : List (List (List ℕ))). (g .parts .header ∷ flatten l) ++ (g .parts .trailer ∷ [])) (sym (dispositions-exact f d c n g))
+  records-so = between f t g ∙ ap (λ (l : List (List (List ℕ))). (g .parts .header ∷ flatten l) ++ (g .parts .trailer ∷ [])) (sym (dispositions-exact f t g))
 
   whole-so : Whole ((g .parts .header ∷ flatten (dispositionsIn f)) ++ (g .parts .trailer ∷ []))
-  whole-so = subst Whole (sym (grammar-records f d c n g) ∙ records-so) (grammar-whole f d c n g)
+  whole-so = subst Whole (sym (grammar-records f t g) ∙ records-so) (grammar-whole f t g)
 
   bytes-so : flatten ((g .parts .header ∷ flatten (dispositionsIn f)) ++ (g .parts .trailer ∷ [])) ≡ f
-  bytes-so = ap flatten (sym records-so ∙ grammar-records f d c n g) ∙ grammar-bytes f d c n g
+  bytes-so = ap flatten (sym records-so ∙ grammar-records f t g) ∙ grammar-bytes f t g
 
-  part-so : (k : ℕ) → k < d → Whole (getD (dispositionsIn f) k []) × (partOf f (suc k) ≡ flatten (getD (dispositionsIn f) k []))
+  part-so : (k : ℕ) → k < t .dispositions → Whole (getD (dispositionsIn f) k []) × (partOf f (suc k) ≡ flatten (getD (dispositionsIn f) k []))
   unfolding flatten
   part-so k h =
       let found = dispositionsIn f in
@@ -123,7 +126,7 @@ module _ (f : List ℕ) (d c n : ℕ) (e : judge f ≡ accepted d c n) where
       let joined : f ≡ flatten (xs ++ (here ++ zs)) = sym bytes-so ∙ ap flatten all in
       let first : suc (suc (length (flatten (take k found)))) - 1 ≡ length xs = omega arith in
       let bytes = ap (λ (m : ℕ). part (120 * m) (120 * length here) f) first ∙ ap (part (120 * length xs) (120 * length here)) joined ∙ part-joined xs here zs front within in
-      (within, ap (λ (l : Located). bytesAt l f) (stands-so k h) ∙ bytes)
+      (within, ap (λ (l : Verdict Stand). bytesAt l f) (stands-so k h) ∙ bytes)
 
   -- the flow has the header, their records and the trailer
   size-so : length f ≡ 120 * (2 + length (flatten (dispositionsIn f)))
@@ -133,7 +136,7 @@ module _ (f : List ℕ) (d c n : ℕ) (e : judge f ≡ accepted d c n) where
       ap (λ (l : List ℕ). length l) (sym bytes-so) ∙ flatten-length all whole-so ∙ omega arith
 
   -- all of them, in order
-  parts-so : flatten (map (partOf f) (upTo d)) ≡ part 120 (length f - 240) f
+  parts-so : flatten (map (partOf f) (upTo (t .dispositions))) ≡ part 120 (length f - 240) f
   unfolding flatten
   parts-so =
       let found = dispositionsIn f in
@@ -145,29 +148,30 @@ module _ (f : List ℕ) (d c n : ℕ) (e : judge f ≡ accepted d c n) where
       ∙ sym (ap (part 120 (120 * length (flatten found))) (sym bytes-so) ∙ part-joined (g .parts .header ∷ []) (flatten found) zs (whole-so .0, tt) within)
       ∙ ap (λ (m : ℕ). part 120 m f) less
 
-  sum-so : sum (map (λ (k : ℕ). centsAt (find f k)) (upTo d)) ≡ c
+  sum-so : sum (map (λ (k : ℕ). centsAt (find f k)) (upTo (t .dispositions))) ≡ t .cents
   sum-so =
       let found = dispositionsIn f in
       let numbered = by-number (λ (k : ℕ). centsAt (find f k)) (λ (x : List (List ℕ)). number (field 34 46 (getD x 0 []))) found [] (λ k h. ap centsAt (stands-so k (omega (arith, count-so)))) in
       ap (λ (m : ℕ). sum (map (λ (k : ℕ). centsAt (find f k)) (upTo m))) (sym count-so) ∙ ap sum numbered
-      ∙ ap (λ (l : List (List (List ℕ))). sum (map (λ (x : List (List ℕ)). number (field 34 46 (getD x 0 []))) l)) (dispositions-exact f d c n g)
-      ∙ ap sum (map-map (λ (x : List (List ℕ)). number (field 34 46 (getD x 0 []))) recordsIn (g .parts .dispositions)) ∙ g .cents
+      ∙ ap (λ (l : List (List (List ℕ))). sum (map (λ (x : List (List ℕ)). number (field 34 46 (getD x 0 []))) l)) (dispositions-exact f t g)
+      ∙ ap sum (map-map (λ (x : List (List ℕ)). number (field 34 46 (getD x 0 []))) recordsIn (g .parts .dispositions)) ∙ ap (λ (u : Totals). u .cents) (g .totals)
 
   -- where each starts and ends, in records
-  first-so : (k : ℕ) → k < d → firstAt (find f (suc k)) ≡ 2 + length (flatten (take k (dispositionsIn f)))
+  first-so : (k : ℕ) → k < t .dispositions → firstAt (find f (suc k)) ≡ 2 + length (flatten (take k (dispositionsIn f)))
   first-so k h = ap firstAt (stands-so k h) ∙ omega arith
 
-  end-so : (k : ℕ) → k < d → endAt (find f (suc k)) ≡ 2 + length (flatten (take (suc k) (dispositionsIn f)))
+  end-so : (k : ℕ) → k < t .dispositions → endAt (find f (suc k)) ≡ 2 + length (flatten (take (suc k) (dispositionsIn f)))
   end-so k h =
       let found = dispositionsIn f in
       let next = ap (λ (l : List (List ℕ)). length l) (flatten-next found k (omega (arith, count-so))) in
       let join = length-append (flatten (take k found)) (getD found k []) in
       ap endAt (stands-so k h) ∙ omega arith
 
-  places-so : (firstAt (find f 1) ≡ 2) × ((k : ℕ) → 1 ≤ k → k < d → firstAt (find f (suc k)) ≡ endAt (find f k)) × (endAt (find f d) ≡ n)
+  places-so : (firstAt (find f 1) ≡ 2) × ((k : ℕ) → 1 ≤ k → k < t .dispositions → firstAt (find f (suc k)) ≡ endAt (find f k)) × (endAt (find f (t .dispositions)) ≡ t .records)
   unfolding flatten
   places-so =
-      let some : 1 ≤ d = omega (arith, g .right .some, g .dispositions) in
+      let d = t .dispositions in
+      let some : 1 ≤ d = omega (arith, g .right .some, ap (λ (u : Totals). u .dispositions) (g .totals)) in
       let all : take d (dispositionsIn f) ≡ dispositionsIn f = take-all d (dispositionsIn f) (omega (arith, count-so)) in
       let last-one : suc (d - 1) ≡ d = omega arith in
       let ends = end-so (d - 1) (omega arith) in (
@@ -175,40 +179,40 @@ module _ (f : List ℕ) (d c n : ℕ) (e : judge f ≡ accepted d c n) where
         λ k h l.
             let one : suc (k - 1) ≡ k = omega arith in
             first-so k l ∙ sym (rw one at (end-so (k - 1) (omega arith))),
-        (rw last-one at ends) ∙ ap (λ (l : List (List (List ℕ))). 2 + length (flatten l)) all ∙ omega (arith, size-so, accepted-exact f d c n e .2),
+        (rw last-one at ends) ∙ ap (λ (l : List (List (List ℕ))). 2 + length (flatten l)) all ∙ omega (arith, size-so, accepted-exact f t e .2),
       )
 
 pub parts-exact : PartsExact
-parts-exact f d c n e = (parts-so f d c n e, sum-so f d c n e)
+parts-exact f t e = (parts-so f t e, sum-so f t e)
 
 pub places-exact : PlacesExact
-places-exact f d c n e = places-so f d c n e
+places-exact f t e = places-so f t e
 
 -- a disposition of an accepted flow has bytes
-some-bytes : (f : List ℕ) (d c n : ℕ) → judge f ≡ accepted d c n → (k : ℕ) → k < d → ¬ (partOf f (suc k) ≡ [])
-some-bytes f d c n e k h none =
-    let g = grammar-exact f d c n .0 e in
+some-bytes : (f : List ℕ) (t : Totals) → judge f ≡ accepted t → (k : ℕ) → k < t .dispositions → ¬ (partOf f (suc k) ≡ [])
+some-bytes f t e k h none =
+    let g = grammar-exact f t .0 e in
     let found = map recordsIn (g .parts .dispositions) in
-    let same = dispositions-exact f d c n g in
-    let less : k < length found = omega (arith, length-map (g .parts .dispositions) recordsIn, g .dispositions) in
+    let same = dispositions-exact f t g in
+    let less : k < length found = omega (arith, length-map (g .parts .dispositions) recordsIn, ap (λ (u : Totals). u .dispositions) (g .totals)) in
     let opens-one = all-getD (Opens (hasType R14)) found k [] less (all-open (headerOf (g .parts .header) .abi) 1 (g .parts .dispositions) (g .right .each)) in
-    let here = part-so f d c n e k h in
+    let here = part-so f t e k h in
     let size = flatten-length (getD (dispositionsIn f) k []) (here .0) in
     let empty : length (flatten (getD (dispositionsIn f) k [])) ≡ 0 = ap (λ (l : List ℕ). length l) (sym (here .1) ∙ none) in
     let one : length (getD (dispositionsIn f) k []) ≡ suc (length (opens-one .others)) = ap (λ (l : List (List (List ℕ))). length (getD l k [])) same ∙ ap (λ (l : List (List ℕ)). length l) (opens-one .whole) in
     omega arith
 
 pub part-empty : PartEmpty
-part-empty f k = (λ none. go none (find f k) refl, λ o. ap (λ (l : Located). bytesAt l f) (o .3))
+part-empty f k = (λ none. go none (find f k) refl, λ o. ap (λ (l : Verdict Stand). bytesAt l f) (o .1))
   where
-    go : partOf f k ≡ [] → (l : Located) → find f k ≡ l → (n r p : ℕ) × (find f k ≡ refused n r p)
-    go none (refused n r p) e = (n, r, p, e)
-    go none (standing first records cents) e =
+    go : partOf f k ≡ [] → (l : Verdict Stand) → find f k ≡ l → (x : Refusal) × (find f k ≡ refused x)
+    go none (refused x) e = (x, e)
+    go none (accepted place) e =
         let s = found-stands f k e .0 in
         let some = s .some in
         let within = s .within in
         let same : suc (k - 1) ≡ k = omega arith in
-        absurd (some-bytes f (s .dispositions) (s .cents) (s .records) (s .read) (k - 1) (omega arith) (ap (partOf f) same ∙ none))
+        absurd (some-bytes f (s .totals) (s .read) (k - 1) (omega arith) (ap (partOf f) same ∙ none))
 
 -- the number and the amount of a disposition stand in the record that opens it
 pub numbered-at : (abi : List ℕ) (n : ℕ) (ds : List (List Typed)) (k : ℕ) → k < length ds → Numbered abi n ds → RightDisposition abi (n + k) (getD ds k [])
@@ -227,23 +231,23 @@ opening-says abi n d r = go d (opened-so d (r .order)) (r .records)
         (members .0 .0 .type ∙ ap typeOf e, rules .number-said, rules .others .amount)
 
 pub opening-exact : OpeningExact
-opening-exact f k first records cents e =
+opening-exact f k place e =
     let found = found-stands f k e in
     let s = found .0 in
     let some = s .some in
     let within = s .within in
-    let g = grammar-exact f (s .dispositions) (s .cents) (s .records) .0 (s .read) in
+    let g = grammar-exact f (s .totals) .0 (s .read) in
     let ds = g .parts .dispositions in
     let abi = headerOf (g .parts .header) .abi in
-    let less : k - 1 < length ds = omega (arith, g .dispositions) in
-    let told = standing-same (found .1) in
-    let start : startsAt (dispositionsIn f) k ≡ first - 1 = omega (arith, told .0) in
-    let same = dispositions-exact f (s .dispositions) (s .cents) (s .records) g in
+    let less : k - 1 < length ds = omega (arith, ap (λ (u : Totals). u .dispositions) (g .totals)) in
+    let first : place .first ≡ suc (startsAt (dispositionsIn f) k) = ap (λ (x : Stand). x .first) (found .1) in
+    let start : startsAt (dispositionsIn f) k ≡ place .first - 1 = omega arith in
+    let same = dispositions-exact f (s .totals) g in
     let own : getD (getD (dispositionsIn f) (k - 1) []) 0 [] ≡ opening (getD ds (k - 1) []) = ap (λ (l : List (List (List ℕ))). getD (getD l (k - 1) []) 0 []) same ∙ ap (λ (l : List (List ℕ)). getD l 0 []) (List·getD-map recordsIn ds (k - 1) []) in
-    let here : opening (getD ds (k - 1) []) ≡ recordAt (first - 1) f = sym own ∙ disposition-stands f k s .opening ∙ ap (λ (m : ℕ). recordAt m f) start in
+    let here : opening (getD ds (k - 1) []) ≡ recordAt (place .first - 1) f = sym own ∙ disposition-stands f k s .opening ∙ ap (λ (m : ℕ). recordAt m f) start in
     let one : 1 + (k - 1) ≡ k = omega arith in
     let says = opening-says abi (1 + (k - 1)) (getD ds (k - 1) []) (numbered-at abi 1 ds (k - 1) less (g .right .each)) in
-    let amount = ap (λ (r : List ℕ). number (field 34 46 r)) (sym here ∙ sym own) ∙ sym (told .2) in
+    let amount = ap (λ (r : List ℕ). number (field 34 46 r)) (sym here ∙ sym own) ∙ sym (ap (λ (x : Stand). x .cents) (found .1)) in
     let number-said = subst (λ (r : List ℕ). Says (1 + (k - 1)) (field 4 10 r)) here (says .1) in
     let digits = subst (λ (r : List ℕ). Digits (field 34 46 r)) here (says .2) in
-    (ap (field 2 3) (sym here) ∙ says .0, subst (λ (m : ℕ). Says m (field 4 10 (recordAt (first - 1) f))) one number-said, (digits, amount), ap (λ (l : Located). bytesAt l f) e)
+    (ap (field 2 3) (sym here) ∙ says .0, subst (λ (m : ℕ). Says m (field 4 10 (recordAt (place .first - 1) f))) one number-said, (digits, amount), ap (λ (l : Verdict Stand). bytesAt l f) e)

@@ -26,9 +26,11 @@ use Rattle.records.specs.Constants.{causale, sign, currency}
 use Rattle.records.specs.Context.{Context}
 use Rattle.records.specs.Field.{field, byteAt}
 use Rattle.records.specs.Finding.{Check, check, Hold}
+use Rattle.records.specs.declared.judged.Counts.{Counts}
 use Rattle.records.specs.declared.kind.Kind.{Kind}
 use Rattle.records.specs.declared.kind.Kind.the-variants.{Im, R14, R16, R20, R30, R40, R50, R59, R51, R70, Ef}
 use Rattle.records.proofs.Printable.{no-bad-byte}
+use Rattle.flow.specs.declared.answer.Totals.{Totals}
 use Rattle.grammar.specs.Rules.{Digits, Blank, Present, Says, Printable, HeaderRules, DispositionRules, CoordinatesRules, BesideNumber, MemberRules, TrailerRules}
 
 -- tests joined, and what they say
@@ -249,8 +251,12 @@ member-rules R70 ctx rec f g =
     numbered R70 ctx rec (check (isListed (byteAt 94 rec) (text " PB")) 6 94 ∷ []) (listed-exact (byteAt 94 rec) (text " PB") then none)
 member-rules Ef ctx rec f g = absurd (g refl)
 
+-- the totals that a trailer is asked to tell
+abbrev pub countsTold : Counts → Totals
+countsTold c = record { dispositions = c .dispositions; cents = c .cents; records = c .records }
+
 pub trailer-rules :
-    (ctx : Context) (rec : List ℕ) → Hold (checks Ef ctx rec) ↔ TrailerRules (ctx .header) (ctx .counts .dispositions) (ctx .counts .cents) (ctx .counts .records) rec
+    (ctx : Context) (rec : List ℕ) → Hold (checks Ef ctx rec) ↔ TrailerRules (ctx .header) (countsTold (ctx .counts)) rec
 unfolding checks
 trailer-rules ctx rec =
     Iff·trans

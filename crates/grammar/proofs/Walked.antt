@@ -18,8 +18,8 @@ use Rattle.records.proofs.ByKind.{type-tested, opens-type}
 use Rattle.flow.specs.Judge.{go}
 use Rattle.flow.specs.Steps.{step, latest}
 use Rattle.flow.specs.Sums.{dispositionsOf, centsOf}
-use Rattle.flow.specs.Verdict.{Verdict}
-use Rattle.flow.specs.Verdict.{refused as Verdict·refused}
+use Rattle.flow.specs.Verdict.{Verdict, refused, refusal}
+use Rattle.flow.specs.declared.answer.Totals.{Totals}
 use Rattle.flow.specs.declared.walk.Walk.{Walk}
 use Rattle.flow.proofs.Cut.{Whole}
 use Rattle.grammar.specs.Fault.{latestCode}
@@ -88,7 +88,7 @@ state-place w (r ∷ rs) = state-place (step w (r .kind) (asked (r .kind) (r .by
 
 -- the walk goes on behind them
 pub go-behind :
-    (end : Walk → ℕ → Verdict) (h : Header) (w : Walk) (code : List ℕ) (i : ℕ) (rs : List Typed) (rest : List (List ℕ)) → Walked h w code i rs
+    (end : Walk → ℕ → Verdict Totals) (h : Header) (w : Walk) (code : List ℕ) (i : ℕ) (rs : List Typed) (rest : List (List ℕ)) → Walked h w code i rs
     → go end h w code i (recordsIn rs ++ rest) ≡ go end h (stateBehind w rs) (codeBehind code rs) (i + length rs) rest
 unfolding go
 go-behind end h w code i [] rest r = let same : i ≡ i + 0 = omega arith in ap (λ (n : ℕ). go end h w code n rest) same
@@ -102,8 +102,8 @@ go-behind end h w code i (x ∷ rs) rest r =
 
 -- and stops at a fault
 pub go-stops :
-    (end : Walk → ℕ → Verdict) (h : Header) (w : Walk) (code : List ℕ) (i : ℕ) (rec : List ℕ) (rest : List (List ℕ)) (m p : ℕ) → length rec ≡ 120
-    → FaultAt h w code (suc i) rec m p → go end h w code i (rec ∷ rest) ≡ Verdict·refused m (suc i) p
+    (end : Walk → ℕ → Verdict Totals) (h : Header) (w : Walk) (code : List ℕ) (i : ℕ) (rec : List ℕ) (rest : List (List ℕ)) (m p : ℕ) → length rec ≡ 120
+    → FaultAt h w code (suc i) rec m p → go end h w code i (rec ∷ rest) ≡ refused (refusal m (suc i) p)
 unfolding go
 go-stops end h w code i rec rest m p whole fault = rw (fault-judged h w code (suc i) rec whole m p fault)
 

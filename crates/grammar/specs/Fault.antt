@@ -15,6 +15,8 @@ use Rattle.records.specs.declared.kind.Kind.{Kind}
 use Rattle.records.specs.declared.kind.Kind.the-variants.{R14}
 use Rattle.flow.specs.Records.{RightLength, recordsOf}
 use Rattle.flow.specs.Sums.{dispositionsOf, centsOf}
+use Rattle.flow.specs.Verdict.{refusal, ofCall}
+use Rattle.flow.specs.declared.answer.Refusal.{Refusal}
 use Rattle.grammar.specs.Rules.{Printable}
 use Rattle.grammar.specs.Shape.{InOrder}
 
@@ -67,9 +69,9 @@ abbrev pub FaultBehind : List ℕ → List (List ℕ) → List ℕ → ℕ → �
 FaultBehind f before rec n p = Fault (MayFollow before) (contextBehind f before) rec n p
 
 -- the first fault of a flow, by number, record and position
-pub data FirstFault (f : List ℕ) : ℕ → ℕ → ℕ → Type 0 where
-  wrong-length : ¬ RightLength (length f) → FirstFault f 1 0 0
+pub data FirstFault (f : List ℕ) : Refusal → Type 0 where
+  wrong-length : ¬ RightLength (length f) → FirstFault f (ofCall 1)
   in-record :
       (before : List (List ℕ)) (rec : List ℕ) (behind : List (List ℕ)) (n p : ℕ) → RightLength (length f) → recordsOf f ≡ before ++ (rec ∷ behind)
-      → EachRight f before → FaultBehind f before rec n p → FirstFault f n (suc (length before)) p
-  still-due : RightLength (length f) → EachRight f (recordsOf f) → ((ks : List Kind) → HaveKinds ks (recordsOf f) → ¬ InOrder ks) → FirstFault f 4 (suc (length (recordsOf f))) 0
+      → EachRight f before → FaultBehind f before rec n p → FirstFault f (refusal n (suc (length before)) p)
+  still-due : RightLength (length f) → EachRight f (recordsOf f) → ((ks : List Kind) → HaveKinds ks (recordsOf f) → ¬ InOrder ks) → FirstFault f (refusal 4 (suc (length (recordsOf f))) 0)

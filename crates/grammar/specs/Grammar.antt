@@ -12,6 +12,7 @@ use Rattle.records.specs.Context.{headerOf}
 use Rattle.records.specs.Field.{field}
 use Rattle.records.specs.declared.kind.Kind.{Kind}
 use Rattle.records.specs.declared.kind.Kind.the-variants.{Im, Ef}
+use Rattle.flow.specs.declared.answer.Totals.{Totals}
 use Rattle.grammar.specs.Rules.{Present, Formed, HeaderRules, MemberRules, TrailerRules}
 use Rattle.grammar.specs.Shape.{Disposition}
 
@@ -56,6 +57,9 @@ totalCents p = sum (map amountOf (p .dispositions))
 abbrev pub recordCount : Parts → ℕ
 recordCount p = 2 + sum (map (λ (d : List Typed). length d) (p .dispositions))
 
+abbrev pub totalsOf : Parts → Totals
+totalsOf p = record { dispositions = dispositionCount p; cents = totalCents p; records = recordCount p }
+
 -- the n-th disposition of a flow whose header has the ABI
 pub record RightDisposition (abi : List ℕ) (n : ℕ) (d : List Typed) : Type 0 where
   pub order : Disposition (kindsOf d)
@@ -76,14 +80,12 @@ pub record Right (p : Parts) : Type 0 where
   pub each : Numbered (headerOf (p .header) .abi) 1 (p .dispositions)
   pub codes : AllEqual (map codeOf (p .dispositions))
   pub trailer-formed : Formed Ef (p .trailer)
-  pub trailer-rules : TrailerRules (headerOf (p .header)) (dispositionCount p) (totalCents p) (recordCount p) (p .trailer)
+  pub trailer-rules : TrailerRules (headerOf (p .header)) (totalsOf p) (p .trailer)
 
--- the bytes f are a right flow with d dispositions, c cents and n records. The ceiling of 9,999,999 records is no rule of its own: the
+-- the bytes f are a right flow, and these are its totals. The ceiling of 9,999,999 records is no rule of its own: the
 -- trailer's seven digits say the count
-pub record Grammar (f : List ℕ) (d c n : ℕ) : Type 0 where
+pub record Grammar (f : List ℕ) (t : Totals) : Type 0 where
   pub parts : Parts
   pub bytes : bytesOf parts ≡ f
   pub right : Right parts
-  pub dispositions : dispositionCount parts ≡ d
-  pub cents : totalCents parts ≡ c
-  pub records : recordCount parts ≡ n
+  pub totals : totalsOf parts ≡ t

@@ -16,6 +16,7 @@ use Rattle.records.specs.Kinds.{typeOf}
 use Rattle.records.specs.declared.kind.Kind.{Kind}
 use Rattle.records.specs.declared.kind.Kind.the-variants.{Im, R14, R16, R20, R30, R40, R50, R59, R51, R70, Ef}
 use lib.ListN.{length}
+use Rattle.flow.specs.declared.answer.Totals.{Totals}
 
 -- "digits": every byte is 0 to 9
 abbrev pub Digits : List ℕ → Type 0
@@ -93,14 +94,14 @@ pub record MemberRules (k : Kind) (abi : List ℕ) (n : ℕ) (rec : List ℕ) : 
   pub number-said : Says n (field 4 10 rec)
   pub others : BesideNumber k abi rec
 
--- row EF: copies of the header, and the exact counts
-pub record TrailerRules (header : Header) (dispositions cents records : ℕ) (rec : List ℕ) : Type 0 where
+-- row EF: copies of the header, and the exact totals
+pub record TrailerRules (header : Header) (t : Totals) (rec : List ℕ) : Type 0 where
   pub mittente : field 4 8 rec ≡ header .mittente
   pub ricevente : field 9 13 rec ≡ header .abi
   pub created : field 14 19 rec ≡ header .date
   pub name : field 20 39 rec ≡ header .name
-  pub dispositions-said : Says dispositions (field 46 52 rec)
-  pub cents-said : Says cents (field 53 67 rec)
+  pub dispositions-said : Says (t .dispositions) (field 46 52 rec)
+  pub cents-said : Says (t .cents) (field 53 67 rec)
   pub zeros : Says 0 (field 68 82 rec)
-  pub records-said : Says records (field 83 89 rec)
+  pub records-said : Says (t .records) (field 83 89 rec)
   pub currency-code : field 114 114 rec ≡ header .currency

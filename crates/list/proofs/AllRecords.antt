@@ -21,7 +21,8 @@ use Rattle.records.specs.declared.kind.Kind.the-variants.{Im, Ef}
 use Rattle.records.proofs.EachKind.{each-kind}
 use Rattle.flow.specs.Records.{recordsOf}
 use Rattle.flow.proofs.Cut.{Whole, flatten-length, joined-records}
-use Rattle.list.specs.Encode.{blanks, carriedAt, headerBehind, lastHeader, dispositionsOf, centsOf, encodeItem, trailerPlaced, encodeTrailer, encodeFrom, recordsFor, trailerFor, encode}
+use Rattle.flow.specs.declared.answer.Totals.{Totals}
+use Rattle.list.specs.Encode.{blanks, carriedAt, headerBehind, lastHeader, totalsOf, encodeItem, trailerPlaced, encodeTrailer, encodeFrom, recordsFor, trailerFor, encode}
 use Rattle.list.specs.Items.{Item, Proper}
 use Rattle.list.specs.ReadBack.{itemOf, itemsOf}
 use Rattle.list.specs.Table.{rows, firstKind, kindIn}
@@ -37,25 +38,25 @@ pub kind-in : (k : Kind) (rec : List ℕ) → field 2 3 rec ≡ typeOf k → kin
 kind-in k rec e = ap (λ (t : List ℕ). firstKind (λ (l : Kind). isEqual t (typeOf l)) rows) e ∙ kind-typed k
 
 -- EF
-module _ (header : List ℕ) (d c n : ℕ) where
+module _ (header : List ℕ) (t : Totals) where
   abbrev copied : List ℕ
   copied = carriedAt Im 4 45 header
 
   copied-short : length copied ≤ 42
   copied-short = part-at-most 0 42 header
 
-  trailer-fits : All Fits (trailerPlaced copied d c n)
+  trailer-fits : All Fits (trailerPlaced copied t)
   trailer-fits =
       let short = copied-short in
-      (omega arith, (omega arith, (omega (arith, written-length 7 d), (omega (arith, written-length 15 c), (omega (arith, written-length 15 0), (omega (arith, written-length 7 n), (omega arith, tt)))))))
+      (omega arith, (omega arith, (omega (arith, written-length 7 (t .dispositions)), (omega (arith, written-length 15 (t .cents)), (omega (arith, written-length 15 0), (omega (arith, written-length 7 (t .records)), (omega arith, tt)))))))
 
-  trailer-row : InRow (trailerPlaced copied d c n)
+  trailer-row : InRow (trailerPlaced copied t)
   trailer-row =
       let short = copied-short in
-      let count = written-length 7 d in
-      let sum = written-length 15 c in
+      let count = written-length 7 (t .dispositions) in
+      let sum = written-length 15 (t .cents) in
       let zeros = written-length 15 0 in
-      let records = written-length 7 n in (
+      let records = written-length 7 (t .records) in (
         (omega arith, (omega arith, (omega arith, (omega arith, (omega arith, (omega arith, tt)))))),
         (
           (omega arith, (omega arith, (omega arith, (omega arith, (omega arith, tt))))),
@@ -72,36 +73,36 @@ module _ (header : List ℕ) (d c n : ℕ) where
         ),
       )
 
-  pub trailer-length : length (encodeTrailer header d c n) ≡ 120
+  pub trailer-length : length (encodeTrailer header t) ≡ 120
   unfolding encodeTrailer
-  trailer-length = fill-length (trailerPlaced copied d c n) blanks trailer-fits refl
+  trailer-length = fill-length (trailerPlaced copied t) blanks trailer-fits refl
 
   -- each of its fields stands
-  stands : All (Matches (encodeTrailer header d c n)) (trailerPlaced copied d c n)
+  stands : All (Matches (encodeTrailer header t)) (trailerPlaced copied t)
   unfolding encodeTrailer
-  stands = row-stands (trailerPlaced copied d c n) blanks trailer-fits refl trailer-row
+  stands = row-stands (trailerPlaced copied t) blanks trailer-fits refl trailer-row
 
-  pub trailer-type : field 2 3 (encodeTrailer header d c n) ≡ typeOf Ef
+  pub trailer-type : field 2 3 (encodeTrailer header t) ≡ typeOf Ef
   trailer-type = stands .0
 
-  pub trailer-copied : 45 ≤ length header → field 4 45 (encodeTrailer header d c n) ≡ copied
+  pub trailer-copied : 45 ≤ length header → field 4 45 (encodeTrailer header t) ≡ copied
   trailer-copied long =
       let size : length copied ≡ 42 = length-take-le 42 (drop 0 header) (omega arith) in
-      ap (λ (m : ℕ). part 3 m (encodeTrailer header d c n)) (sym size) ∙ stands .1 .0
+      ap (λ (m : ℕ). part 3 m (encodeTrailer header t)) (sym size) ∙ stands .1 .0
 
-  pub trailer-dispositions : field 46 52 (encodeTrailer header d c n) ≡ digits 7 d
-  trailer-dispositions = ap (λ (m : ℕ). part 45 m (encodeTrailer header d c n)) (sym (written-length 7 d)) ∙ stands .1 .1 .0
+  pub trailer-dispositions : field 46 52 (encodeTrailer header t) ≡ digits 7 (t .dispositions)
+  trailer-dispositions = ap (λ (m : ℕ). part 45 m (encodeTrailer header t)) (sym (written-length 7 (t .dispositions))) ∙ stands .1 .1 .0
 
-  pub trailer-cents : field 53 67 (encodeTrailer header d c n) ≡ digits 15 c
-  trailer-cents = ap (λ (m : ℕ). part 52 m (encodeTrailer header d c n)) (sym (written-length 15 c)) ∙ stands .1 .1 .1 .0
+  pub trailer-cents : field 53 67 (encodeTrailer header t) ≡ digits 15 (t .cents)
+  trailer-cents = ap (λ (m : ℕ). part 52 m (encodeTrailer header t)) (sym (written-length 15 (t .cents))) ∙ stands .1 .1 .1 .0
 
-  pub trailer-zeros : field 68 82 (encodeTrailer header d c n) ≡ digits 15 0
-  trailer-zeros = ap (λ (m : ℕ). part 67 m (encodeTrailer header d c n)) (sym (written-length 15 0)) ∙ stands .1 .1 .1 .1 .0
+  pub trailer-zeros : field 68 82 (encodeTrailer header t) ≡ digits 15 0
+  trailer-zeros = ap (λ (m : ℕ). part 67 m (encodeTrailer header t)) (sym (written-length 15 0)) ∙ stands .1 .1 .1 .1 .0
 
-  pub trailer-records : field 83 89 (encodeTrailer header d c n) ≡ digits 7 n
-  trailer-records = ap (λ (m : ℕ). part 82 m (encodeTrailer header d c n)) (sym (written-length 7 n)) ∙ stands .1 .1 .1 .1 .1 .0
+  pub trailer-records : field 83 89 (encodeTrailer header t) ≡ digits 7 (t .records)
+  trailer-records = ap (λ (m : ℕ). part 82 m (encodeTrailer header t)) (sym (written-length 7 (t .records))) ∙ stands .1 .1 .1 .1 .1 .0
 
-  pub trailer-currency : field 114 114 (encodeTrailer header d c n) ≡ currency
+  pub trailer-currency : field 114 114 (encodeTrailer header t) ≡ currency
   trailer-currency = stands .1 .1 .1 .1 .1 .1 .0
 
 -- records of 120 bytes
@@ -133,7 +134,7 @@ module _ (is : List Item) (proper : All Proper is) where
   all = recordsFor is ++ (trailerFor is ∷ [])
 
   all-whole : Whole all
-  all-whole = all-append (λ (rec : List ℕ). length rec ≡ 120) (recordsFor is) (trailerFor is ∷ []) (encoded-whole 0 [] is proper) (trailer-length (lastHeader [] is) (dispositionsOf is) (centsOf is) (suc (length is)), tt)
+  all-whole = all-append (λ (rec : List ℕ). length rec ≡ 120) (recordsFor is) (trailerFor is ∷ []) (encoded-whole 0 [] is proper) (trailer-length (lastHeader [] is) (totalsOf is), tt)
 
   pub encode-records : recordsOf (encode is) ≡ all
   encode-records = joined-records all all-whole
@@ -144,7 +145,7 @@ module _ (is : List Item) (proper : All Proper is) where
   pub encode-items : itemsOf (encode is) ≡ is
   unfolding flatten
   encode-items =
-      let none : itemOf (trailerFor is) ≡ [] = rw (kind-in Ef (trailerFor is) (trailer-type (lastHeader [] is) (dispositionsOf is) (centsOf is) (suc (length is)))) in
+      let none : itemOf (trailerFor is) ≡ [] = rw (kind-in Ef (trailerFor is) (trailer-type (lastHeader [] is) (totalsOf is))) in
       ap (λ (recs : List (List ℕ)). flatten (map itemOf recs)) encode-records
       ∙ ap flatten (map-append itemOf (recordsFor is) (trailerFor is ∷ []))
       ∙ flatten-append (map itemOf (recordsFor is)) (itemOf (trailerFor is) ∷ [])

@@ -20,7 +20,7 @@ use Rattle.flow.specs.Judge.{go}
 use Rattle.flow.specs.Order.{In, mayClose}
 use Rattle.flow.specs.Steps.{start}
 use Rattle.flow.specs.Sums.{dispositionsOf as Sums·dispositionsOf, centsOf as Sums·centsOf}
-use Rattle.flow.specs.Verdict.{refused}
+use Rattle.flow.specs.Verdict.{refused, refusal}
 use Rattle.flow.proofs.Cut.{Whole}
 use Rattle.grammar.specs.Fault.{HaveKinds}
 use Rattle.grammar.specs.Grammar.{Typed, kindsOf, recordsIn}
@@ -74,7 +74,7 @@ module _ (is : List Item) (proper : All Proper is) where
   unfolding judgeItems
   right-judged r = ap (λ (recs : List (List ℕ)). go closed (headerOf (take 120 (front is))) start [] 0 recs) (sym (r .same)) ∙ ends-so closed (front is) (r .typed) (r .walked) ∙ ap (closed (stateBehind start (r .typed))) (typed-count is (r .typed) (r .same))
 
-  pub faulty-judged : (r : FaultyItems is) → judgeItems is ≡ refused (r .number) (suc (length (recordsIn (r .typed)))) (r .position)
+  pub faulty-judged : (r : FaultyItems is) → judgeItems is ≡ refused (refusal (r .number) (suc (length (recordsIn (r .typed)))) (r .position))
   unfolding judgeItems
   faulty-judged r = ap (λ (recs : List (List ℕ)). go closed (headerOf (take 120 (front is))) start [] 0 recs) (r .same) ∙ stops-so closed (front is) (r .typed) (r .walked) (r .rec) (r .rest) (r .number) (r .position) (r .whole) (r .fault)
 

@@ -26,12 +26,12 @@ use Rattle.records.proofs.ByKind.{types-differ, type-said}
 use Rattle.records.proofs.EachKind.{opens-14}
 use Rattle.flow.specs.Judge.{go}
 use Rattle.flow.specs.Steps.{start, step, latestOf, latest, judgeRecord, stopped}
-use Rattle.flow.specs.Verdict.{refused}
+use Rattle.flow.specs.Verdict.{refused, refusal}
 use Rattle.flow.specs.declared.walk.Walk.{Walk}
 use Rattle.flow.proofs.Cut.{Whole, flatten-length}
 use Rattle.flow.proofs.Exact.{right-typed}
 use Rattle.flow.proofs.Reading.{Reading, one-at-most, begin, go-on, refuse, finish}
-use Rattle.list.specs.Encode.{carriedAt, headerBehind, lastHeader, dispositionsOf, centsOf, encodeItem, encodeFrom, recordsFor, trailerFor, encode}
+use Rattle.list.specs.Encode.{carriedAt, headerBehind, lastHeader, encodeItem, encodeFrom, recordsFor, trailerFor, encode, totalsOf}
 use Rattle.list.specs.Items.{Item, item, Proper, items, itemsFrom, itemsIn, Listed}
 use Rattle.list.specs.Table.{carried, bodyLength, kindOf}
 use Rattle.list.specs.Write.{closed, judgeItems}
@@ -165,7 +165,7 @@ module _ {h : Header} {list : List ℕ} {i n number : ℕ} {header : List ℕ} {
 
   pub judging-refused :
       (m p : ℕ) → judgeRecord h w company (suc n) (recordAt list n i number header (j .left) next-judged) ≡ Finding·refused m p
-      → refused m (suc n) p ≡ go closed h start [] 0 (recordsFor (itemsIn list))
+      → refused (refusal m (suc n) p) ≡ go closed h start [] 0 (recordsFor (itemsIn list))
   judging-refused m p e = refuse (j .reading) (recordAt list n i number header (j .left) next-judged) (recordsBehind list n i number header (j .left) next-judged) (records-next list n i number header (j .left) next-judged) m p e
 
 -- the answer behind the last item does not tell the stopped state from the exact one
@@ -223,7 +223,7 @@ module _ {list all : List ℕ} {i n number : ℕ} {header out : List ℕ} (s : S
       let count = s .count in
       let room = s .room in
       let size : length rec ≡ 120 = encoded-length (number + opened (kindAt list i)) header (itemAt list i) (is .0) in
-      let whole : Whole behind = all-append (λ (r : List ℕ). length r ≡ 120) (recordsBehind list n i number header (s .left) next) (trailerFor (itemsIn list) ∷ []) (encoded-whole (number + opened (kindAt list i)) (headerBehind header (itemAt list i)) (next .others) (is .1)) (trailer-length (lastHeader [] (itemsIn list)) (dispositionsOf (itemsIn list)) (centsOf (itemsIn list)) (suc (length (itemsIn list))), tt) in
+      let whole : Whole behind = all-append (λ (r : List ℕ). length r ≡ 120) (recordsBehind list n i number header (s .left) next) (trailerFor (itemsIn list) ∷ []) (encoded-whole (number + opened (kindAt list i)) (headerBehind header (itemAt list i)) (next .others) (is .1)) (trailer-length (lastHeader [] (itemsIn list)) (totalsOf (itemsIn list)), tt) in
       let records : length behind ≡ suc (length (next .others)) = length-append (recordsBehind list n i number header (s .left) next) (trailerFor (itemsIn list) ∷ []) ∙ omega (arith, encoded-count (number + opened (kindAt list i)) (headerBehind header (itemAt list i)) (next .others)) in
       let bytes : length (flatten behind) ≡ 120 * length behind = flatten-length behind whole in
       let fits : 120 * n + length rec + length (flatten behind) ≤ length out = omega arith in

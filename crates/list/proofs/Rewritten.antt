@@ -24,9 +24,11 @@ use Rattle.records.specs.declared.kind.Kind.{Kind}
 use Rattle.records.specs.declared.kind.Kind.the-variants.{Im, Ef}
 use Rattle.flow.specs.Judge.{judge}
 use Rattle.flow.specs.Order.{permitted, mayClose, place}
+use Rattle.flow.specs.Output.{Output, output}
 use Rattle.flow.specs.Records.{recordAt, recordsOf}
-use Rattle.flow.specs.Steps.{start, counted, step}
+use Rattle.flow.specs.Steps.{start, counted, step, countsAt}
 use Rattle.flow.specs.Verdict.{Verdict, accepted}
+use Rattle.flow.specs.declared.answer.Totals.{Totals}
 use Rattle.flow.specs.declared.order.Due.the-variants.{OnlyIm}
 use Rattle.flow.specs.declared.walk.Walk.{Walk}
 use Rattle.flow.proofs.Accepted.{accepted-exact}
@@ -37,12 +39,11 @@ use Rattle.grammar.proofs.AtPlace.{asks, RightAt}
 use Rattle.grammar.proofs.Behind.{FromStart}
 use Rattle.grammar.proofs.Grammar.{grammar-exact, header-first, grammar-records, grammar-start}
 use Rattle.grammar.proofs.Order.{Allowed, header-only-first, all-open}
-use Rattle.grammar.proofs.Rules.{header-rules, trailer-rules, says-digits, said-below}
+use Rattle.grammar.proofs.Rules.{header-rules, trailer-rules, says-digits, said-below, countsTold}
 use Rattle.grammar.proofs.Walked.{stateBehind, codeBehind, Walked, walked-append, walked-allowed, walked-formed, AllFormed}
-use Rattle.list.specs.Encode.{carriedAt, encodeItem, encodeFrom, encodeTrailer, lastHeader, dispositionsOf, centsOf, recordsFor, trailerFor, encode}
+use Rattle.list.specs.Encode.{carriedAt, encodeItem, encodeFrom, encodeTrailer, lastHeader, totalsOf, recordsFor, trailerFor, encode}
 use Rattle.list.specs.Items.{Item, item, Proper, listBytes, items, parse, itemsOr, itemsIn}
 use Rattle.list.specs.Laws.{OwnList, OwnItems, RewrittenExact, RewrittenSame, UncheckedOnly}
-use Rattle.list.specs.Output.{Output, output}
 use Rattle.list.specs.ReadBack.{gather, itemOf, itemsOf, listOf}
 use Rattle.list.specs.Table.{carried, hasItem, kindIn}
 use Rattle.list.specs.Write.{closed, judgeItems, judgeList, write}
@@ -57,8 +58,8 @@ use Rattle.list.proofs.Trailer.{Meant, Counted, trailer-formed, trailer
 use Rattle.list.proofs.WriteRefused.{fitting-judged}
 
 -- two trailers of one header that say the same are alike
-trailers-alike : (h : Header) (d c n : ℕ) (rec other : List ℕ) → Formed Ef rec → Formed Ef other → TrailerRules h d c n rec → TrailerRules h d c n other → Alike (checked Ef) rec other
-trailers-alike h d c n rec other f g a b =
+trailers-alike : (h : Header) (t : Totals) (rec other : List ℕ) → Formed Ef rec → Formed Ef other → TrailerRules h t rec → TrailerRules h t other → Alike (checked Ef) rec other
+trailers-alike h t rec other f g a b =
     let said : (i w v : ℕ) → i + w ≤ 120 → Says v (part i w rec) → Says v (part i w other) → part i w rec ≡ part i w other = λ i w v fits x y.
     says-digits w v (part i w rec) (part-length i w rec (omega (arith, f .whole))) x ∙ sym (says-digits w v (part i w other) (part-length i w other (omega (arith, g .whole))) y) in (
       f .type ∙ sym (g .type),
@@ -71,13 +72,13 @@ trailers-alike h d c n rec other f g a b =
             (
               a .name ∙ sym (b .name),
               (
-                said 45 7 d (omega arith) (a .dispositions-said) (b .dispositions-said),
+                said 45 7 (t .dispositions) (omega arith) (a .dispositions-said) (b .dispositions-said),
                 (
-                  said 52 15 c (omega arith) (a .cents-said) (b .cents-said),
+                  said 52 15 (t .cents) (omega arith) (a .cents-said) (b .cents-said),
                   (
                     said 67 15 0 (omega arith) (a .zeros) (b .zeros),
                     (
-                      said 82 7 n (omega arith) (a .records-said) (b .records-said),
+                      said 82 7 (t .records) (omega arith) (a .records-said) (b .records-said),
                       (a .currency-code ∙ sym (b .currency-code), tt),
                     ),
                   ),
@@ -102,7 +103,7 @@ single-items (r ∷ rs) formed listed =
     let kind : kindIn (r .bytes) ≡ r .kind = kind-in (r .kind) (r .bytes) (formed .0 .type) in
     rw (kind, listed .0) (ap (λ (l : List Item). ownItem r ∷ l) (single-items rs (formed .1) (listed .1)))
 
-module _ (f : List ℕ) (d c n : ℕ) (g : Grammar f d c n) where
+module _ (f : List ℕ) (t : Totals) (g : Grammar f t) where
   abbrev im : List ℕ
   im = g .parts .header
 
@@ -126,7 +127,7 @@ module _ (f : List ℕ) (d c n : ℕ) (g : Grammar f d c n) where
   im-first = header-first (g .parts) f (g .bytes) (g .right .header-formed .whole)
 
   all-walked : FromStart f (before ++ last)
-  all-walked = grammar-start f d c n g
+  all-walked = grammar-start f t g
 
   walked : Walked h start [] 0 before
   walked = walked-append h start [] 0 before last .0 all-walked .0
@@ -154,7 +155,7 @@ module _ (f : List ℕ) (d c n : ℕ) (g : Grammar f d c n) where
   own = map ownItem before
 
   records : recordsOf f ≡ recordsIn before ++ (ef ∷ [])
-  records = grammar-records f d c n g ∙ map-append (λ (r : Typed). r .bytes) before last
+  records = grammar-records f t g ∙ map-append (λ (r : Typed). r .bytes) before last
 
   pub own-list-items : itemsOf f ≡ own
   unfolding flatten
@@ -222,32 +223,32 @@ module _ (f : List ℕ) (d c n : ℕ) (g : Grammar f d c n) where
   right-items = record { typed = again; same = again-records; walked = subst (λ (x : Header). Walked x start [] 0 again) (sym header-again) again-walked-all }
 
   -- the counts that the trailer says
-  rules : TrailerRules (headerOf im) d c n ef
-  rules = subst (λ (A : Type 0). A) (λ i. TrailerRules (headerOf im) (g .dispositions i) (g .cents i) (g .records i) ef) (g .right .trailer-rules)
+  rules : TrailerRules (headerOf im) t ef
+  rules = subst (λ (u : Totals). TrailerRules (headerOf im) u ef) (g .totals) (g .right .trailer-rules)
 
-  walk-rules : TrailerRules h (behind .dispositions + opened Ef) (behind .cents) (suc (0 + length before)) ef
+  walk-rules : TrailerRules h (countsTold (countsAt behind (suc (0 + length before)) Ef)) ef
   walk-rules = trailer-rules (asks h behind (codeBehind [] before) (suc (0 + length before)) Ef) ef .0 (closing .keeps)
 
-  counted-so : Counted d c n
+  counted-so : Counted t
   counted-so =
       let size : (i w : ℕ) → i + w ≤ 120 → length (part i w ef) ≡ w = λ i w fits. part-length i w ef (omega (arith, closing .formed .whole)) in
       record {
-        dispositions = said-below 7 d (field 46 52 ef) (size 45 7 (omega arith)) (rules .dispositions-said);
-        cents = said-below 15 c (field 53 67 ef) (size 52 15 (omega arith)) (rules .cents-said);
-        records = said-below 7 n (field 83 89 ef) (size 82 7 (omega arith)) (rules .records-said);
+        dispositions = said-below 7 (t .dispositions) (field 46 52 ef) (size 45 7 (omega arith)) (rules .dispositions-said);
+        cents = said-below 15 (t .cents) (field 53 67 ef) (size 52 15 (omega arith)) (rules .cents-said);
+        records = said-below 7 (t .records) (field 83 89 ef) (size 82 7 (omega arith)) (rules .records-said);
       }
 
-  dispositions-so : behind .dispositions ≡ d
+  dispositions-so : behind .dispositions ≡ t .dispositions
   dispositions-so = omega (arith, rules .dispositions-said .1, walk-rules .dispositions-said .1)
 
-  cents-so : behind .cents ≡ c
+  cents-so : behind .cents ≡ t .cents
   cents-so = omega (arith, rules .cents-said .1, walk-rules .cents-said .1)
 
-  pub items-so : suc (length own) ≡ n
+  pub items-so : suc (length own) ≡ t .records
   items-so = omega (arith, rules .records-said .1, walk-rules .records-said .1, length-map before ownItem)
 
   -- the list is accepted with the same numbers
-  own-judged : judgeItems own ≡ accepted d c n
+  own-judged : judgeItems own ≡ accepted t
   own-judged =
       let state : stateBehind start again ≡ behind = members-again .state in
       let may : mayClose (permitted (behind .place .due)) ≡ true = close-tested (permitted (behind .place .due)) (closing .may) in
@@ -255,51 +256,53 @@ module _ (f : List ℕ) (d c n : ℕ) (g : Grammar f d c n) where
       let small : leb (behind .cents) 999999999999999 ≡ true = le-leb (behind .cents) 999999999999999 (omega (arith, cents-so)) in
       right-judged own own-proper-all right-items
       ∙ ap (λ (w : Walk). closed w (length own)) state
-      ∙ rw (may, small) (λ i. accepted (dispositions-so i) (cents-so i) (items-so i))
+      ∙ rw (may, small) (λ i. accepted (record { dispositions = dispositions-so i; cents = cents-so i; records = items-so i }))
 
   pub own-read : parse (listOf f) ≡ items (itemsOf f)
   own-read = read-items (listOf f) (itemsOf f) refl (subst (All Proper) (sym own-list-items) own-proper-all)
 
-  pub own-accepted : (room : ℕ) → length f ≡ 120 * n → length f ≤ room → judgeList (listOf f) room ≡ accepted d c n
+  pub own-accepted : (room : ℕ) → length f ≡ 120 * t .records → length f ≤ room → judgeList (listOf f) room ≡ accepted t
   own-accepted room size roomy =
       let few = counted-so .records in
       let count = items-so in
       fitting-judged (listOf f) room own (record { said = own-read ∙ ap items own-list-items; few = omega arith; roomy = omega arith }) ∙ own-judged
 
   -- and encodes records like the flow's
-  pub own-sums : (dispositionsOf own ≡ d) × (centsOf own ≡ c)
+  pub own-sums : totalsOf own ≡ t
   own-sums =
       let sums = right-sums own own-proper-all right-items in
       let state : stateBehind start again ≡ behind = members-again .state in
-      (sym (sums .0) ∙ ap (λ (w : Walk). w .dispositions) state ∙ dispositions-so, sym (sums .1) ∙ ap (λ (w : Walk). w .cents) state ∙ cents-so)
+      let count = sym (sums .0) ∙ ap (λ (w : Walk). w .dispositions) state ∙ dispositions-so in
+      let cents = sym (sums .1) ∙ ap (λ (w : Walk). w .cents) state ∙ cents-so in
+      λ i. record { dispositions = count i; cents = cents i; records = items-so i }
 
-  pub trailer-so : trailerFor own ≡ encodeTrailer header d c n
+  pub trailer-so : trailerFor own ≡ encodeTrailer header t
   unfolding lastHeader
   trailer-so =
       let kinds : kindsIn (map ownItem members) ≡ kindsOf members = map-map (λ (it : Item). it .kind) ownItem members in
       let stays : lastHeader header (map ownItem members) ≡ header = header-stays header (map ownItem members) (subst (All (λ (k : Kind). heads k ≡ false)) (sym kinds) later) in
-      λ i. encodeTrailer (stays i) (own-sums .0 i) (own-sums .1 i) (items-so i)
+      λ i. encodeTrailer (stays i) (own-sums i)
 
   trailer-alike : Alike (checked Ef) ef (trailerFor own)
   trailer-alike =
       subst (Alike (checked Ef) ef) (sym trailer-so)
-      (trailers-alike (headerOf im) d c n ef (encodeTrailer header d c n) (closing .formed) (trailer-formed im header meant d c n) rules (trailer-keeps im header meant d c n counted-so))
+      (trailers-alike (headerOf im) t ef (encodeTrailer header t) (closing .formed) (trailer-formed im header meant t) rules (trailer-keeps im header meant t counted-so))
 
   all-like : Like (before ++ last) (recordsFor own ++ (trailerFor own ∷ []))
   all-like = like-append before last (recordsFor own) (trailerFor own ∷ []) (subst (Like before) again-records (im-alike, members-again .like)) (trailer-alike, tt)
 
-  pub encoding-like : (i : ℕ) (k : Kind) → i < n → length f ≡ 120 * n → field 2 3 (recordAt i f) ≡ typeOf k → Alike (checked k) (recordAt i f) (recordAt i (encode own))
+  pub encoding-like : (i : ℕ) (k : Kind) → i < t .records → length f ≡ 120 * t .records → field 2 3 (recordAt i f) ≡ typeOf k → Alike (checked k) (recordAt i f) (recordAt i (encode own))
   encoding-like i k small size type =
-      let count : length f / 120 ≡ n = omega arith in
+      let count : length f / 120 ≡ t .records = omega arith in
       let size-again = encode-length own own-proper-all in
       let number = items-so in
-      let here : getD (recordsIn (before ++ last)) i [] ≡ recordAt i f = ap (λ (recs : List (List ℕ)). getD recs i []) (sym (grammar-records f d c n g)) ∙ cut-at (length f / 120) i f (omega arith) in
+      let here : getD (recordsIn (before ++ last)) i [] ≡ recordAt i f = ap (λ (recs : List (List ℕ)). getD recs i []) (sym (grammar-records f t g)) ∙ cut-at (length f / 120) i f (omega arith) in
       let there : getD (recordsFor own ++ (trailerFor own ∷ [])) i [] ≡ recordAt i (encode own) = ap (λ (recs : List (List ℕ)). getD recs i []) (sym (encode-records own own-proper-all)) ∙ cut-at (length (encode own) / 120) i (encode own) (omega arith) in
       let within : i < length (before ++ last) = omega (arith, length-append before last, length-map before ownItem) in
       subst (λ (A : Type 0). A) (λ j. Alike (checked k) (here j) (there j)) (like-at (before ++ last) (recordsFor own ++ (trailerFor own ∷ [])) all-like formed i k within (ap (field 2 3) here ∙ type))
 
-records-length : (f : List ℕ) (d c n : ℕ) → judge f ≡ accepted d c n → length f ≡ 120 * n
-records-length f d c n e = omega (arith, accepted-exact f d c n e .2)
+records-length : (f : List ℕ) (t : Totals) → judge f ≡ accepted t → length f ≡ 120 * t .records
+records-length f t e = omega (arith, accepted-exact f t e .2)
 
 own-by-type : (rs : List Typed) → AllFormed rs → map ownItem rs ≡ map (λ (rec : List ℕ). item (kindIn rec) (gather (carried (kindIn rec)) rec)) (recordsIn rs)
 own-by-type [] formed = refl
@@ -308,37 +311,37 @@ own-by-type (r ∷ rs) formed =
     λ i. item (sym kind i) (gather (carried (sym kind i)) (r .bytes)) ∷ own-by-type rs (formed .1) i
 
 pub own-list : OwnList
-own-list f d c n e =
-    let g = grammar-exact f d c n .0 e in
-    own-list-items f d c n g
-    ∙ own-by-type (before f d c n g) (all-before (λ (r : Typed). Formed (r .kind) (r .bytes)) (before f d c n g) (last f d c n g) (formed f d c n g))
-    ∙ ap (map (λ (rec : List ℕ). item (kindIn rec) (gather (carried (kindIn rec)) rec))) (sym (ap dropLast (records f d c n g) ∙ dropLast-append (recordsIn (before f d c n g)) (ef f d c n g)))
+own-list f t e =
+    let g = grammar-exact f t .0 e in
+    own-list-items f t g
+    ∙ own-by-type (before f t g) (all-before (λ (r : Typed). Formed (r .kind) (r .bytes)) (before f t g) (last f t g) (formed f t g))
+    ∙ ap (map (λ (rec : List ℕ). item (kindIn rec) (gather (carried (kindIn rec)) rec))) (sym (ap dropLast (records f t g) ∙ dropLast-append (recordsIn (before f t g)) (ef f t g)))
 
 pub own-items : OwnItems
-own-items f d c n e = own-read f d c n (grammar-exact f d c n .0 e)
+own-items f t e = own-read f t (grammar-exact f t .0 e)
 
 pub rewritten-exact : RewrittenExact
-rewritten-exact f d c n room e roomy = own-accepted f d c n (grammar-exact f d c n .0 e) room (records-length f d c n e) roomy
+rewritten-exact f t room e roomy = own-accepted f t (grammar-exact f t .0 e) room (records-length f t e) roomy
 
 pub rewritten-same : RewrittenSame
 unfolding write
-rewritten-same f out d c n e roomy =
-    let g = grammar-exact f d c n .0 e in
-    let size = records-length f d c n e in
-    let judged-so = own-accepted f d c n g (length out) size roomy in
-    let same : itemsIn (listOf f) ≡ itemsOf f = ap itemsOr (own-read f d c n g) in
+rewritten-same f out t e roomy =
+    let g = grammar-exact f t .0 e in
+    let size = records-length f t e in
+    let judged-so = own-accepted f t g (length out) size roomy in
+    let same : itemsIn (listOf f) ≡ itemsOf f = ap itemsOr (own-read f t g) in
     let again = encode (itemsIn (listOf f)) in
-    let number = items-so f d c n g in
-    let long : length again ≡ 120 * suc (length (own f d c n g)) = ap (λ (is : List Item). length (encode is)) (same ∙ own-list-items f d c n g) ∙ encode-length (own f d c n g) (own-proper-all f d c n g) in
-    let written : write (listOf f) out ≡ output (accepted d c n) again out = ap (λ (v : Verdict). output v again out) judged-so in
-    let bytes : take (write (listOf f) out .written) (write (listOf f) out .bytes) ≡ encode (itemsOf f) = ap (λ (w : Output). take (w .written) (w .bytes)) written ∙ part-put 0 again out (omega arith) ∙ ap encode same in
+    let number = items-so f t g in
+    let long : length again ≡ 120 * suc (length (own f t g)) = ap (λ (is : List Item). length (encode is)) (same ∙ own-list-items f t g) ∙ encode-length (own f t g) (own-proper-all f t g) in
+    let written : write (listOf f) out ≡ output (accepted t) again out = ap (λ (v : Verdict Totals). output v again out) judged-so in
+    let bytes : take (write (listOf f) out .written) (write (listOf f) out .bytes) ≡ encode (itemsOf f) = ap (λ (w : Output Totals). take (w .written) (w .bytes)) written ∙ part-put 0 again out (omega arith) ∙ ap encode same in
     (λ x. sym bytes ∙ x, λ y. bytes ∙ y)
 
 pub unchecked-only : UncheckedOnly
-unchecked-only f d c n e =
-    let g = grammar-exact f d c n .0 e in
-    let size = records-length f d c n e in
-    let same = own-list-items f d c n g in
-    let number = items-so f d c n g in
-    subst (λ (is : List Item). (length (encode is) ≡ length f) × (listOf (encode is) ≡ listBytes is) × ((i : ℕ) (k : Kind) → i < n → field 2 3 (recordAt i f) ≡ typeOf k → Alike (checked k) (recordAt i f) (recordAt i (encode is)))) (sym same)
-    (omega (arith, encode-length (own f d c n g) (own-proper-all f d c n g)), ap listBytes (encode-items (own f d c n g) (own-proper-all f d c n g)), λ i k small type. encoding-like f d c n g i k small size type)
+unchecked-only f t e =
+    let g = grammar-exact f t .0 e in
+    let size = records-length f t e in
+    let same = own-list-items f t g in
+    let number = items-so f t g in
+    subst (λ (is : List Item). (length (encode is) ≡ length f) × (listOf (encode is) ≡ listBytes is) × ((i : ℕ) (k : Kind) → i < t .records → field 2 3 (recordAt i f) ≡ typeOf k → Alike (checked k) (recordAt i f) (recordAt i (encode is)))) (sym same)
+    (omega (arith, encode-length (own f t g) (own-proper-all f t g)), ap listBytes (encode-items (own f t g) (own-proper-all f t g)), λ i k small type. encoding-like f t g i k small size type)

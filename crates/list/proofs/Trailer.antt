@@ -17,10 +17,13 @@ use Rattle.records.specs.Field.{_to_, width, field}
 use Rattle.records.specs.Kinds.{typeOf, opened}
 use Rattle.records.specs.declared.kind.Kind.the-variants.{Im, Ef}
 use Rattle.records.proofs.Checked.{field-within}
+use Rattle.flow.specs.Judge.{totals}
+use Rattle.flow.specs.Steps.{countsAt}
+use Rattle.flow.specs.declared.answer.Totals.{Totals}
 use Rattle.flow.specs.declared.walk.Walk.{Walk}
 use Rattle.grammar.specs.Rules.{Says, Printable, Formed, TrailerRules}
 use Rattle.grammar.proofs.AtPlace.{asks, May, RightAt}
-use Rattle.grammar.proofs.Rules.{digits-exact, digits-printable, printable-exact, says-written, trailer-rules}
+use Rattle.grammar.proofs.Rules.{digits-exact, digits-printable, printable-exact, says-written, countsTold, trailer-rules}
 use Rattle.list.specs.Table.{carried}
 use Rattle.list.specs.Encode.{blanks, carriedAt, trailerPlaced, encodeTrailer}
 use Rattle.list.proofs.Carried.{inOne}
@@ -28,10 +31,10 @@ use Rattle.list.proofs.AllRecords.{trailer-length, trailer-type, traile
 use Rattle.list.proofs.Placing.{all-part, AllPlaced, fill-all}
 
 -- the counts that it says
-pub record Counted (d c n : ℕ) : Type 0 where
-  pub dispositions : d < 10 ^ 7
-  pub cents : c < 10 ^ 15
-  pub records : n < 10 ^ 7
+pub record Counted (t : Totals) : Type 0 where
+  pub dispositions : t .dispositions < 10 ^ 7
+  pub cents : t .cents < 10 ^ 15
+  pub records : t .records < 10 ^ 7
 
 -- `header` is a body of H that carries what the record `im` has
 pub record Meant (im header : List ℕ) : Type 0 where
@@ -40,9 +43,9 @@ pub record Meant (im header : List ℕ) : Type 0 where
   pub printable : All Printable im
   pub code : field 114 114 im ≡ currency
 
-module _ (im header : List ℕ) (meant : Meant im header) (d c n : ℕ) where
+module _ (im header : List ℕ) (meant : Meant im header) (t : Totals) where
   abbrev trailer : List ℕ
-  trailer = encodeTrailer header d c n
+  trailer = encodeTrailer header t
 
   -- positions of 4-45 are the header's
   pub copied-at : (a e : ℕ) → 4 ≤ a → a ≤ e → e ≤ 45 → field a e trailer ≡ part (a - 4) (width (a to e)) header
@@ -51,7 +54,7 @@ module _ (im header : List ℕ) (meant : Meant im header) (d c n : ℕ) where
       let inside : a - 4 + width (a to e) ≤ 42 = omega arith in
       let start : 0 + (a - 4) ≡ a - 4 = omega arith in
       sym (field-within 4 45 a e trailer (omega arith) h k l)
-      ∙ ap (part (a - 4) (width (a to e))) (trailer-copied header d c n (omega arith))
+      ∙ ap (part (a - 4) (width (a to e))) (trailer-copied header t (omega arith))
       ∙ part-part 0 42 (a - 4) (width (a to e)) header inside
       ∙ ap (λ (m : ℕ). part m (width (a to e)) header) start
 
@@ -61,31 +64,32 @@ module _ (im header : List ℕ) (meant : Meant im header) (d c n : ℕ) where
       let fixed : (bs : List ℕ) → badByte bs ≡ 0 → All Printable bs = λ bs. printable-exact bs .0 in
       let number : (w v : ℕ) → All Printable (digits w v) = λ w v. digits-printable (digits w v) (digits-exact (digits w v) .0 (written-digits w v)) in
       let copied : All Printable (carriedAt Im 4 45 header) = subst (All Printable) (meant .carries 4 45 refl) (all-part Printable 3 42 im (meant .printable)) in
-      let placed : All (AllPlaced Printable) (trailerPlaced (carriedAt Im 4 45 header) d c n) = (fixed (typeOf Ef) refl, (copied, (number 7 d, (number 15 c, (number 15 0, (number 7 n, (fixed currency refl, tt))))))) in
+      let placed : All (AllPlaced Printable) (trailerPlaced (carriedAt Im 4 45 header) t) = (fixed (typeOf Ef) refl, (copied, (number 7 (t .dispositions), (number 15 (t .cents), (number 15 0, (number 7 (t .records), (fixed currency refl, tt))))))) in
       record {
-        whole = trailer-length header d c n;
-        printable = fill-all Printable (trailerPlaced (carriedAt Im 4 45 header) d c n) blanks placed (fixed blanks refl);
-        type = trailer-type header d c n;
+        whole = trailer-length header t;
+        printable = fill-all Printable (trailerPlaced (carriedAt Im 4 45 header) t) blanks placed (fixed blanks refl);
+        type = trailer-type header t;
       }
 
-  pub trailer-keeps : Counted d c n → TrailerRules (headerOf im) d c n trailer
+  pub trailer-keeps : Counted t → TrailerRules (headerOf im) t trailer
   trailer-keeps counted =
       record {
         mittente = copied-at 4 8 (omega arith) (omega arith) (omega arith) ∙ sym (meant .carries 4 8 refl);
         ricevente = copied-at 9 13 (omega arith) (omega arith) (omega arith) ∙ sym (meant .carries 9 13 refl);
         created = copied-at 14 19 (omega arith) (omega arith) (omega arith) ∙ sym (meant .carries 14 19 refl);
         name = copied-at 20 39 (omega arith) (omega arith) (omega arith) ∙ sym (meant .carries 20 39 refl);
-        dispositions-said = subst (Says d) (sym (trailer-dispositions header d c n)) (says-written 7 d (counted .dispositions));
-        cents-said = subst (Says c) (sym (trailer-cents header d c n)) (says-written 15 c (counted .cents));
-        zeros = subst (Says 0) (sym (trailer-zeros header d c n)) (says-written 15 0 (omega arith));
-        records-said = subst (Says n) (sym (trailer-records header d c n)) (says-written 7 n (counted .records));
-        currency-code = trailer-currency header d c n ∙ sym (meant .code);
+        dispositions-said = subst (Says (t .dispositions)) (sym (trailer-dispositions header t)) (says-written 7 (t .dispositions) (counted .dispositions));
+        cents-said = subst (Says (t .cents)) (sym (trailer-cents header t)) (says-written 15 (t .cents) (counted .cents));
+        zeros = subst (Says 0) (sym (trailer-zeros header t)) (says-written 15 0 (omega arith));
+        records-said = subst (Says (t .records)) (sym (trailer-records header t)) (says-written 7 (t .records) (counted .records));
+        currency-code = trailer-currency header t ∙ sym (meant .code);
       }
 
   -- so it is right where EF may come and the walk has counted as it says
   pub trailer-right :
-      Counted d c n → (w : Walk) (company : List ℕ) (i : ℕ) → May w Ef → w .dispositions ≡ d → w .cents ≡ c → i ≡ n → RightAt (headerOf im) w company i Ef trailer
-  trailer-right counted w company i may dispositions cents records =
-      let count : d ≡ w .dispositions + opened Ef = omega (arith, dispositions) in
-      let rules : TrailerRules (headerOf im) (w .dispositions + opened Ef) (w .cents) i trailer = subst (λ (A : Type 0). A) (λ j. TrailerRules (headerOf im) (count j) (sym cents j) (sym records j) trailer) (trailer-keeps counted) in
+      Counted t → (w : Walk) (company : List ℕ) (i : ℕ) → May w Ef → totals w i ≡ t → RightAt (headerOf im) w company i Ef trailer
+  trailer-right counted w company i may same =
+      let none : w .dispositions ≡ w .dispositions + opened Ef = omega arith in
+      let told : t ≡ countsTold (countsAt w i Ef) = sym same ∙ (λ j. record { dispositions = none j; cents = w .cents; records = i }) in
+      let rules : TrailerRules (headerOf im) (countsTold (countsAt w i Ef)) trailer = subst (λ (u : Totals). TrailerRules (headerOf im) u trailer) told (trailer-keeps counted) in
       record { may = may; formed = trailer-formed; keeps = trailer-rules (asks (headerOf im) w company i Ef) trailer .1 rules }

@@ -22,6 +22,8 @@ use Rattle.records.proofs.ByKind.{types-differ}
 use Rattle.records.proofs.EachKind.{each-kind}
 use Rattle.flow.specs.Records.{recordsOf}
 use Rattle.flow.specs.Sums.{dispositionsOf}
+use Rattle.flow.specs.Verdict.{refusal}
+use Rattle.flow.specs.declared.answer.Refusal.{Refusal}
 use Rattle.flow.proofs.Cut.{joined-records}
 use Rattle.flow.proofs.Reading.{one-at-most}
 use Rattle.grammar.specs.Fault.{contextBehind, bad-byte, wrong-type, broken, FaultBehind, FirstFault, wrong-length, in-record, still-due}
@@ -73,7 +75,7 @@ encoded-supplied n header (it ∷ is) proper few (b ∷ before) rec behind same 
 module _
     (P : ℕ → Type 0) (bad : P 2) (type : P 3) (rows : (k : Kind) (ctx : Context) (rec : List ℕ) → Supplied rec k (ctx .counts .dispositions) → (n p : ℕ) → FirstBroken (checks k ctx rec) n p → P n)
   where
-    in-records : (is : List Item) → All Proper is → length is < 10 ^ 7 → {n r p : ℕ} → FirstFault (front is) n r p → 1 ≤ r → r ≤ length is → P n
+    in-records : (is : List Item) → All Proper is → length is < 10 ^ 7 → {x : Refusal} → FirstFault (front is) x → 1 ≤ x .«record» → x .«record» ≤ length is → P (x .number)
     in-records is proper few (wrong-length wrong) some within = absurd (omega arith)
     in-records is proper few (in-record before rec behind n p sized same each fault) some within = by fault
       where
@@ -91,12 +93,12 @@ module _
         let count : length (recordsOf (front is)) ≡ length is = ap (λ (l : List (List ℕ)). length l) (joined-records (recordsFor is) (encoded-whole 0 [] is proper)) ∙ encoded-count 0 [] is in
         absurd (omega arith)
 
-    pub write-refused-by : P 1 → P 17 → P 20 → P 21 → {list : List ℕ} {room n r p : ℕ} → WriteFault list room n r p → P n
+    pub write-refused-by : P 1 → P 17 → P 20 → P 21 → {list : List ℕ} {room : ℕ} {x : Refusal} → WriteFault list room x → P (x .number)
     write-refused-by one much item room (no-item m at) = item
     write-refused-by one much item room (too-many is said many) = one
     write-refused-by one much item room (no-room is said few short) = room
-    write-refused-by one much item room {list} (Write·in-record is n r p fits e some within) =
-        in-records is (items-exact list is .0 (fits .said) .1) (omega (arith, fits .few)) (first-fault-exact (front is) n r p .0 e) some within
+    write-refused-by one much item room {list} (Write·in-record is x fits e some within) =
+        in-records is (items-exact list is .0 (fits .said) .1) (omega (arith, fits .few)) (first-fault-exact (front is) x .0 e) some within
     write-refused-by one much item room (no-trailer is fits each none) = type
     write-refused-by one much item room (too-much is fits each follows large) = much
 
@@ -126,4 +128,4 @@ row-not-nine k ctx rec so n p (held, others, row, h) nine =
 
 pub numbers-supplied : NumbersSupplied
 numbers-supplied list room r p e =
-    write-refused-by (λ (n : ℕ). ¬ (n ≡ 9)) (λ e. omega arith) (λ e. omega arith) row-not-nine (λ e. omega arith) (λ e. omega arith) (λ e. omega arith) (λ e. omega arith) (write-refused list room 9 r p .0 e) refl
+    write-refused-by (λ (n : ℕ). ¬ (n ≡ 9)) (λ e. omega arith) (λ e. omega arith) row-not-nine (λ e. omega arith) (λ e. omega arith) (λ e. omega arith) (λ e. omega arith) (write-refused list room (refusal 9 r p) .0 e) refl

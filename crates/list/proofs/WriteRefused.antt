@@ -10,12 +10,14 @@ use lib.ListN.{length, length-append}
 use borrow.Author.Tests.{leb-true, leb-false, le-leb, lt-leb}
 use Rattle.sequences.specs.All.{All}
 use Rattle.records.specs.declared.kind.Kind.the-variants.{Ef}
-use Rattle.flow.specs.Judge.{ended, judge}
+use Rattle.flow.specs.Judge.{totals, ended, judge}
 use Rattle.flow.specs.Order.{permitted, isDue, mayClose}
 use Rattle.flow.specs.Records.{RightLength}
 use Rattle.flow.specs.Steps.{start}
-use Rattle.flow.specs.Verdict.{accepted, refused}
-use Rattle.flow.proofs.Accepted.{accepted-not-refused}
+use Rattle.flow.specs.Verdict.{Verdict, accepted, refused, refusal, ofCall}
+use Rattle.flow.specs.declared.answer.Refusal.{Refusal}
+use Rattle.flow.specs.declared.answer.Totals.{Totals}
+use Rattle.flow.proofs.Accepted.{accepted-not-refused, refused-same}
 use Rattle.flow.proofs.Cut.{flatten-length, joined-records}
 use Rattle.grammar.specs.Fault.{MayFollow, EachRight}
 use Rattle.grammar.specs.Grammar.{recordsIn}
@@ -31,14 +33,9 @@ use Rattle.list.proofs.Judging.{front, RightItems, FaultyItems, view-it
 use Rattle.list.proofs.Written.{accepted-list, accepted-items}
 use Rattle.list.proofs.ListItems.{items-exact, faulty-exact}
 
--- the parts of a refusal
-refusal-same : {n r p m s q : ℕ} → refused n r p ≡ refused m s q → (n ≡ m) × (r ≡ s) × (p ≡ q)
-refusal-same e = (cc, cc, cc)
-
-renamed : {list : List ℕ} {room n r p : ℕ} (m s q : ℕ) → refused m s q ≡ refused n r p → WriteFault list room m s q → WriteFault list room n r p
-renamed {list} {room} m s q e fault =
-    let same = refusal-same e in
-    subst (λ (A : Type 0). A) (λ i. WriteFault list room (same .0 i) (same .1 i) (same .2 i)) fault
+-- a refusal that says the same is for the same fault
+renamed : {list : List ℕ} {room : ℕ} {x y : Refusal} → _≡_ {A = Verdict Totals} (refused y) (refused x) → WriteFault list room y → WriteFault list room x
+renamed {list} {room} e fault = subst (WriteFault list room) (refused-same e) fault
 
 -- the records other than EF, judged by the reader itself
 module _ (is : List Item) (proper : All Proper is) (few : suc (length is) ≤ 9999999) where
@@ -56,19 +53,19 @@ module _ (is : List Item) (proper : All Proper is) (few : suc (length is) ≤ 99
       let all : length (recordsIn (f .typed)) + suc (length (f .rest)) ≡ length is = sym (length-append (recordsIn (f .typed)) (f .rec ∷ f .rest)) ∙ ap (λ (l : List (List ℕ)). length l) (sym (f .same)) ∙ encoded-count 0 [] is in
       omega arith
 
-  fault-read : (f : FaultyItems is) → judge (front is) ≡ refused (f .number) (suc (length (recordsIn (f .typed)))) (f .position)
+  fault-read : (f : FaultyItems is) → judge (front is) ≡ refused (refusal (f .number) (suc (length (recordsIn (f .typed)))) (f .position))
   fault-read f =
       let within = fault-within f in
       front-judged (omega arith) ∙ ap (judgeFrom (front is)) (f .same) ∙ stops-so ended (front is) (f .typed) (f .walked) (f .rec) (f .rest) (f .number) (f .position) (f .whole) (f .fault)
 
   -- where all are right the reader finds no fault in them
-  right-read : (r : RightItems is) {n s p : ℕ} → judge (front is) ≡ refused n s p → 1 ≤ s → s ≤ length is → ⊥
-  right-read r {n} {s} {p} e some within =
+  right-read : (r : RightItems is) {x : Refusal} → judge (front is) ≡ refused x → 1 ≤ x .«record» → x .«record» ≤ length is → ⊥
+  right-read r {x} e some within =
       let all = typed-count is (r .typed) (r .same) in
       by (isDue (permitted (stateBehind start (r .typed) .place .due))) all (sym (front-judged (omega arith) ∙ ap (judgeFrom (front is)) (sym (r .same)) ∙ ends-so ended (front is) (r .typed) (r .walked)) ∙ e)
     where
-      by : (b : Bool) → length (r .typed) ≡ length is → cond b (refused 4 (suc (length (r .typed))) 0) (accepted (stateBehind start (r .typed) .dispositions) (stateBehind start (r .typed) .cents) (length (r .typed))) ≡ refused n s p → ⊥
-      by true all e = omega (arith, refusal-same e .1)
+      by : (b : Bool) → length (r .typed) ≡ length is → cond b (refused (refusal 4 (suc (length (r .typed))) 0)) (accepted (totals (stateBehind start (r .typed)) (length (r .typed)))) ≡ refused x → ⊥
+      by true all e = omega (arith, ap (λ (y : Refusal). y .«record») (refused-same e))
       by false all e = accepted-not-refused (sym e)
 
 -- whether EF may follow right records, as the walk tests it and as it is said
@@ -83,8 +80,8 @@ trailer-follows is q =
     )
 
 -- from the answer to document 01's sentence
-module _ (list : List ℕ) (room n r p : ℕ) where
-  at-end : (is : List Item) → Fitting list room is → (proper : All Proper is) (q : RightItems is) → closed (stateBehind start (q .typed)) (length is) ≡ refused n r p → WriteFault list room n r p
+module _ (list : List ℕ) (room : ℕ) (x : Refusal) where
+  at-end : (is : List Item) → Fitting list room is → (proper : All Proper is) (q : RightItems is) → closed (stateBehind start (q .typed)) (length is) ≡ refused x → WriteFault list room x
   at-end is fits proper q = by (may q) (leb (stateBehind start (q .typed) .cents) 999999999999999) refl refl
     where
       each : EachRight (front is) (recordsFor is)
@@ -92,38 +89,37 @@ module _ (list : List ℕ) (room n r p : ℕ) where
 
       by :
           (a b : Bool) → may q ≡ a → leb (stateBehind start (q .typed) .cents) 999999999999999 ≡ b
-          → cond a (cond b (accepted (stateBehind start (q .typed) .dispositions) (stateBehind start (q .typed) .cents) (suc (length is))) (refused 17 0 0)) (refused 3 (suc (length is)) 2) ≡ refused n r p
-          → WriteFault list room n r p
-      by true true e f x = absurd (accepted-not-refused (sym x))
-      by true false e f x =
-          renamed 17 0 0 x (too-much is fits each (trailer-follows is q .0 e) (omega (arith, leb-false (stateBehind start (q .typed) .cents) 999999999999999 f, right-sums is proper q .1)))
-      by false b e f x = renamed 3 (suc (length is)) 2 x (no-trailer is fits each (λ follows. true≢false (sym (trailer-follows is q .1 follows) ∙ e)))
+          → cond a (cond b (accepted (totals (stateBehind start (q .typed)) (suc (length is)))) (refused (ofCall 17))) (refused (refusal 3 (suc (length is)) 2)) ≡ refused x
+          → WriteFault list room x
+      by true true e f y = absurd (accepted-not-refused (sym y))
+      by true false e f y =
+          renamed y (too-much is fits each (trailer-follows is q .0 e) (omega (arith, leb-false (stateBehind start (q .typed) .cents) 999999999999999 f, right-sums is proper q .1)))
+      by false b e f y = renamed y (no-trailer is fits each (λ follows. true≢false (sym (trailer-follows is q .1 follows) ∙ e)))
 
-  at-records : (is : List Item) → Fitting list room is → judgeItems is ≡ refused n r p → WriteFault list room n r p
+  at-records : (is : List Item) → Fitting list room is → judgeItems is ≡ refused x → WriteFault list room x
   at-records is fits e = let proper = items-exact list is .0 (fits .said) .1 in by proper (view-items is proper)
     where
-      by : All Proper is → RightItems is ⊎ FaultyItems is → WriteFault list room n r p
+      by : All Proper is → RightItems is ⊎ FaultyItems is → WriteFault list room x
       by proper (inl q) = at-end is fits proper q (sym (right-judged is proper q) ∙ e)
       by proper (inr f) =
-          let record-number = suc (length (recordsIn (f .typed))) in
-          renamed (f .number) record-number (f .position) (sym (faulty-judged is proper f) ∙ e)
-          (in-record is (f .number) record-number (f .position) fits (fault-read is proper (fits .few) f) (omega arith) (fault-within is proper (fits .few) f))
+          renamed (sym (faulty-judged is proper f) ∙ e)
+          (in-record is (refusal (f .number) (suc (length (recordsIn (f .typed)))) (f .position)) fits (fault-read is proper (fits .few) f) (omega arith) (fault-within is proper (fits .few) f))
 
-  at-sizes : (is : List Item) → parse list ≡ items is → judgeParsed (items is) room ≡ refused n r p → WriteFault list room n r p
+  at-sizes : (is : List Item) → parse list ≡ items is → judgeParsed (items is) room ≡ refused x → WriteFault list room x
   at-sizes is said = by (leb (suc (length is)) 9999999) (leb (120 * suc (length is)) room) refl refl
     where
-      by : (a b : Bool) → leb (suc (length is)) 9999999 ≡ a → leb (120 * suc (length is)) room ≡ b → cond a (cond b (judgeItems is) (refused 21 0 0)) (refused 1 0 0) ≡ refused n r p → WriteFault list room n r p
-      by true true e f x = at-records is (record { said = said; few = leb-true (suc (length is)) 9999999 e; roomy = leb-true (120 * suc (length is)) room f }) x
-      by true false e f x = renamed 21 0 0 x (no-room is said (leb-true (suc (length is)) 9999999 e) (leb-false (120 * suc (length is)) room f))
-      by false b e f x = renamed 1 0 0 x (too-many is said (leb-false (suc (length is)) 9999999 e))
+      by : (a b : Bool) → leb (suc (length is)) 9999999 ≡ a → leb (120 * suc (length is)) room ≡ b → cond a (cond b (judgeItems is) (refused (ofCall 21))) (refused (ofCall 1)) ≡ refused x → WriteFault list room x
+      by true true e f y = at-records is (record { said = said; few = leb-true (suc (length is)) 9999999 e; roomy = leb-true (120 * suc (length is)) room f }) y
+      by true false e f y = renamed y (no-room is said (leb-true (suc (length is)) 9999999 e) (leb-false (120 * suc (length is)) room f))
+      by false b e f y = renamed y (too-many is said (leb-false (suc (length is)) 9999999 e))
 
-  refused-so : judgeList list room ≡ refused n r p → WriteFault list room n r p
+  refused-so : judgeList list room ≡ refused x → WriteFault list room x
   unfolding judgeList
   refused-so = by (parse list) refl
     where
-      by : (q : Parsed) → parse list ≡ q → judgeParsed q room ≡ refused n r p → WriteFault list room n r p
-      by (items is) said x = at-sizes is said x
-      by (faulty m) said x = renamed 20 m 0 x (no-item m (faulty-exact list m .0 said))
+      by : (q : Parsed) → parse list ≡ q → judgeParsed q room ≡ refused x → WriteFault list room x
+      by (items is) said y = at-sizes is said y
+      by (faulty m) said y = renamed y (no-item m (faulty-exact list m .0 said))
 
 -- and the other way round
 pub fitting-judged : (list : List ℕ) (room : ℕ) (is : List Item) → Fitting list room is → judgeList list room ≡ judgeItems is
@@ -136,23 +132,23 @@ right-of is proper each =
     let walked = walked-of (front is) (recordsFor is) (encoded-whole 0 [] is proper) each in
     record { typed = walked .0; same = walked .1; walked = walked .2 }
 
-fault-refuses : (list : List ℕ) (room n r p : ℕ) → WriteFault list room n r p → judgeList list room ≡ refused n r p
+fault-refuses : (list : List ℕ) (room : ℕ) (x : Refusal) → WriteFault list room x → judgeList list room ≡ refused x
 unfolding judgeList
-fault-refuses list room n r p (no-item m f) = rw (faulty-exact list m .1 f)
-fault-refuses list room n r p (too-many is said many) =
+fault-refuses list room x (no-item m f) = rw (faulty-exact list m .1 f)
+fault-refuses list room x (too-many is said many) =
     let over : leb (suc (length is)) 9999999 ≡ false = lt-leb (suc (length is)) 9999999 many in
     rw (said, over)
-fault-refuses list room n r p (no-room is said few short) =
+fault-refuses list room x (no-room is said few short) =
     let over : leb (120 * suc (length is)) room ≡ false = lt-leb (120 * suc (length is)) room short in
     rw (said, le-leb (suc (length is)) 9999999 few, over)
-fault-refuses list room n r p (in-record is m s q fits e some within) =
+fault-refuses list room x (in-record is y fits e some within) =
     let proper = items-exact list is .0 (fits .said) .1 in
     fitting-judged list room is fits ∙ by proper (view-items is proper)
   where
-    by : All Proper is → RightItems is ⊎ FaultyItems is → judgeItems is ≡ refused m s q
+    by : All Proper is → RightItems is ⊎ FaultyItems is → judgeItems is ≡ refused y
     by proper (inl right) = absurd (right-read is proper (fits .few) right e some within)
     by proper (inr f) = faulty-judged is proper f ∙ sym (fault-read is proper (fits .few) f) ∙ e
-fault-refuses list room n r p (no-trailer is fits each none) =
+fault-refuses list room x (no-trailer is fits each none) =
     let proper = items-exact list is .0 (fits .said) .1 in
     let q = right-of is proper each in
     let shut : may q ≡ false = fails (may q) (λ t. none (trailer-follows is q .0 t)) in
@@ -161,7 +157,7 @@ fault-refuses list room n r p (no-trailer is fits each none) =
     fails : (b : Bool) → ¬ (b ≡ true) → b ≡ false
     fails true h = absurd (h refl)
     fails false h = refl
-fault-refuses list room n r p (too-much is fits each follows much) =
+fault-refuses list room x (too-much is fits each follows much) =
     let proper = items-exact list is .0 (fits .said) .1 in
     let q = right-of is proper each in
     let due : may q ≡ true = trailer-follows is q .1 follows in
@@ -169,16 +165,16 @@ fault-refuses list room n r p (too-much is fits each follows much) =
     fitting-judged list room is fits ∙ right-judged is proper q ∙ rw (due, over)
 
 pub write-refused : WriteRefused
-write-refused list room n r p = (refused-so list room n r p, fault-refuses list room n r p)
+write-refused list room x = (refused-so list room x, fault-refuses list room x)
 
 pub write-accepted : WriteAccepted
-write-accepted list room d c n = (accepted-so, so-accepted)
+write-accepted list room t = (accepted-so, so-accepted)
   where
-    accepted-so : judgeList list room ≡ accepted d c n → WriteAccepts list room d c n
+    accepted-so : judgeList list room ≡ accepted t → WriteAccepts list room t
     accepted-so e =
-        let a = accepted-list list room d c n e in
+        let a = accepted-list list room t e in
         let is = a .these in
-        let so = accepted-items is (items-exact list is .0 (a .fits .said) .1) d c n (a .judged-so) in
+        let so = accepted-items is (items-exact list is .0 (a .fits .said) .1) t (a .judged-so) in
         let r = so .right in
         record {
           these = is;
@@ -186,12 +182,10 @@ write-accepted list room d c n = (accepted-so, so-accepted)
           right = subst (EachRight (front is)) (r .same) (each-of (front is) (r .typed) (r .walked));
           follows = trailer-follows is r .0 (so .may);
           small = so .small;
-          dispositions = so .dispositions;
-          cents = so .cents;
-          records = so .records;
+          totals = so .told;
         }
 
-    so-accepted : WriteAccepts list room d c n → judgeList list room ≡ accepted d c n
+    so-accepted : WriteAccepts list room t → judgeList list room ≡ accepted t
     so-accepted a =
         let is = a .these in
         let proper = items-exact list is .0 (a .fits .said) .1 in
@@ -199,4 +193,4 @@ write-accepted list room d c n = (accepted-so, so-accepted)
         let sums = right-sums is proper q in
         let due : may q ≡ true = trailer-follows is q .1 (a .follows) in
         let small : leb (stateBehind start (q .typed) .cents) 999999999999999 ≡ true = le-leb (stateBehind start (q .typed) .cents) 999999999999999 (omega (arith, sums .1, a .small)) in
-        fitting-judged list room is (a .fits) ∙ right-judged is proper q ∙ rw (due, small) (λ i. accepted ((sums .0 ∙ a .dispositions) i) ((sums .1 ∙ a .cents) i) (a .records i))
+        fitting-judged list room is (a .fits) ∙ right-judged is proper q ∙ rw (due, small) (ap accepted ((λ i. record { dispositions = sums .0 i; cents = sums .1 i; records = suc (length is) }) ∙ a .totals))

@@ -19,14 +19,15 @@ use Rattle.records.specs.Finding.{Hold}
 use Rattle.records.specs.Kinds.{heads, opened}
 use Rattle.records.specs.declared.kind.Kind.{Kind}
 use Rattle.records.specs.declared.kind.Kind.the-variants.{Im, Ef}
-use Rattle.flow.specs.Judge.{ended, judge}
+use Rattle.flow.specs.Judge.{totals, ended, judge}
 use Rattle.flow.specs.Order.{permitted, mayClose, place}
 use Rattle.flow.specs.Records.{RightLength}
 use Rattle.flow.specs.Steps.{start}
-use Rattle.flow.specs.Verdict.{accepted, refused}
+use Rattle.flow.specs.Verdict.{accepted, refused, refusal, ofCall}
+use Rattle.flow.specs.declared.answer.Totals.{Totals}
 use Rattle.flow.specs.declared.order.Due.the-variants.{OnlyIm}
 use Rattle.flow.specs.declared.walk.Walk.{Walk}
-use Rattle.flow.proofs.Accepted.{accepted-not-refused}
+use Rattle.flow.proofs.Accepted.{accepted-not-refused, accepted-same}
 use Rattle.flow.proofs.Reading.{one-at-most}
 use Rattle.grammar.specs.Grammar.{Typed, recordsIn}
 use Rattle.grammar.specs.Rules.{Printable}
@@ -36,7 +37,7 @@ use Rattle.grammar.proofs.FirstFault.{judgeFrom, judged, ends-so}
 use Rattle.grammar.proofs.Order.{Allowed, header-only-first}
 use Rattle.grammar.proofs.Rules.{header-rules}
 use Rattle.grammar.proofs.Walked.{Walked, stateBehind, codeBehind, walked-append, walked-allowed, state-append}
-use Rattle.list.specs.Encode.{carriedAt, lastHeader, dispositionsOf, centsOf, encodeItem, encodeFrom, recordsFor, trailerFor, encode}
+use Rattle.list.specs.Encode.{carriedAt, lastHeader, dispositionsOf, centsOf, totalsOf, encodeItem, encodeFrom, recordsFor, trailerFor, encode}
 use Rattle.list.specs.Items.{Item, Proper, listBytes, Parsed, items, faulty, parse, itemsOr, itemsIn}
 use Rattle.list.specs.Laws.{Fitting, WrittenExact}
 use Rattle.list.specs.ReadBack.{listOf, Canonical}
@@ -50,14 +51,14 @@ use Rattle.list.proofs.ListItems.{items-exact}
 use Rattle.list.proofs.Trailer.{Meant, Counted, trailer-right}
 
 -- what was accepted behind the items
-pub closed-so : (w : Walk) (i : ℕ) {d c n : ℕ} → closed w i ≡ accepted d c n → (mayClose (permitted (w .place .due)) ≡ true) × (w .cents ≤ 999999999999999) × (w .dispositions ≡ d) × (w .cents ≡ c) × (suc i ≡ n)
-closed-so w i {d} {c} {n} = by (mayClose (permitted (w .place .due))) (leb (w .cents) 999999999999999) refl refl
+pub closed-so : (w : Walk) (i : ℕ) {t : Totals} → closed w i ≡ accepted t → (mayClose (permitted (w .place .due)) ≡ true) × (w .cents ≤ 999999999999999) × (totals w (suc i) ≡ t)
+closed-so w i {t} = by (mayClose (permitted (w .place .due))) (leb (w .cents) 999999999999999) refl refl
   where
     by :
         (a b : Bool) → mayClose (permitted (w .place .due)) ≡ a → leb (w .cents) 999999999999999 ≡ b
-        → cond a (cond b (accepted (w .dispositions) (w .cents) (suc i)) (refused 17 0 0)) (refused 3 (suc i) 2) ≡ accepted d c n
-        → (mayClose (permitted (w .place .due)) ≡ true) × (w .cents ≤ 999999999999999) × (w .dispositions ≡ d) × (w .cents ≡ c) × (suc i ≡ n)
-    by true true e f x = (e, leb-true (w .cents) 999999999999999 f, cc, cc, cc)
+        → cond a (cond b (accepted (totals w (suc i))) (refused (ofCall 17))) (refused (refusal 3 (suc i) 2)) ≡ accepted t
+        → (mayClose (permitted (w .place .due)) ≡ true) × (w .cents ≤ 999999999999999) × (totals w (suc i) ≡ t)
+    by true true e f x = (e, leb-true (w .cents) 999999999999999 f, accepted-same x)
     by true false e f x = absurd (accepted-not-refused x)
     by false b e f x = absurd (accepted-not-refused x)
 
@@ -116,7 +117,7 @@ module _ (it : Item) (others : List Item) (proper : All Proper (it ∷ others)) 
       subst (Meant im) (sym header-meant) (record { sized = proper .0 .sized ∙ ap bodyLength kind; carries = carries; printable = first .0; code = first .1 })
 
   -- with EF behind them they are a flow
-  pub encode-accepted : mayClose (permitted (behind .place .due)) ≡ true → suc (length all) ≤ 9999999 → centsOf all ≤ 999999999999999 → judge (encode all) ≡ accepted (dispositionsOf all) (centsOf all) (suc (length all))
+  pub encode-accepted : mayClose (permitted (behind .place .due)) ≡ true → suc (length all) ≤ 9999999 → centsOf all ≤ 999999999999999 → judge (encode all) ≡ accepted (totalsOf all)
   encode-accepted may few small =
       let tr = trailerFor all in
       let last : List Typed = record { kind = Ef; bytes = tr } ∷ [] in
@@ -124,8 +125,9 @@ module _ (it : Item) (others : List Item) (proper : All Proper (it ∷ others)) 
       let same : recordsIn rs ≡ recordsFor all ++ (tr ∷ []) = map-append (λ (x : Typed). x .bytes) (r .typed) last ∙ ap (λ (l : List (List ℕ)). l ++ (tr ∷ [])) (r .same) in
       let sums = right-sums all proper r in
       let count : length (r .typed) ≡ length all = typed-count all (r .typed) (r .same) in
-      let counted : Counted (dispositionsOf all) (centsOf all) (suc (length all)) = record { dispositions = omega (arith, few-dispositions all); cents = omega arith; records = omega arith } in
-      let closing : RightAt (headerOf im) behind (codeBehind [] (r .typed)) (suc (0 + length (r .typed))) Ef tr = trailer-right im (lastHeader [] all) meant (dispositionsOf all) (centsOf all) (suc (length all)) counted behind (codeBehind [] (r .typed)) (suc (0 + length (r .typed))) (close-said (permitted (behind .place .due)) may) (sums .0) (sums .1) (omega arith) in
+      let ended-at : suc (0 + length (r .typed)) ≡ suc (length all) = omega arith in
+      let counted : Counted (totalsOf all) = record { dispositions = omega (arith, few-dispositions all); cents = omega arith; records = omega arith } in
+      let closing : RightAt (headerOf im) behind (codeBehind [] (r .typed)) (suc (0 + length (r .typed))) Ef tr = trailer-right im (lastHeader [] all) meant (totalsOf all) counted behind (codeBehind [] (r .typed)) (suc (0 + length (r .typed))) (close-said (permitted (behind .place .due)) may) (λ i. record { dispositions = sums .0 i; cents = sums .1 i; records = ended-at i }) in
       let front-walked : Walked (headerOf im) start [] 0 (r .typed) = subst (λ (l : List ℕ). Walked (headerOf l) start [] 0 (r .typed)) first-of-front (r .walked) in
       let walked : FromStart (encode all) rs = subst (λ (l : List ℕ). Walked (headerOf l) start [] 0 rs) (sym first-of-all) (walked-append (headerOf im) start [] 0 (r .typed) last .1 (front-walked, (closing, tt))) in
       let size = encode-length all proper in
@@ -137,7 +139,7 @@ module _ (it : Item) (others : List Item) (proper : All Proper (it ∷ others)) 
       ∙ ap (judgeFrom (encode all)) (encode-records all proper ∙ sym same)
       ∙ ends-so ended (encode all) rs walked
       ∙ ap (λ (w : Walk). ended w (length rs)) (state-append start (r .typed) last)
-      ∙ (λ i. accepted (dispositions i) (cents i) (records i))
+      ∙ (λ i. accepted (record { dispositions = dispositions i; cents = cents i; records = records i }))
 
 -- a list of no items has none
 none-closes : (r : RightItems []) → mayClose (permitted (stateBehind start (r .typed) .place .due)) ≡ true → ⊥
@@ -150,62 +152,60 @@ none-closes r = by (r .typed) (r .same)
 
 accepted-encoding :
     (is : List Item) (proper : All Proper is) (r : RightItems is) → mayClose (permitted (stateBehind start (r .typed) .place .due)) ≡ true → suc (length is) ≤ 9999999 → centsOf is ≤ 999999999999999
-    → judge (encode is) ≡ accepted (dispositionsOf is) (centsOf is) (suc (length is))
+    → judge (encode is) ≡ accepted (totalsOf is)
 accepted-encoding [] proper r may few small = absurd (none-closes r may)
 accepted-encoding (it ∷ is) proper r may few small = encode-accepted it is proper r may few small
 
 -- what was accepted of a list
-pub record AcceptedList (list : List ℕ) (room d c n : ℕ) : Type 0 where
+pub record AcceptedList (list : List ℕ) (room : ℕ) (t : Totals) : Type 0 where
   pub these : List Item
   pub fits : Fitting list room these
-  pub judged-so : judgeItems these ≡ accepted d c n
+  pub judged-so : judgeItems these ≡ accepted t
 
-pub accepted-list : (list : List ℕ) (room d c n : ℕ) → judgeList list room ≡ accepted d c n → AcceptedList list room d c n
+pub accepted-list : (list : List ℕ) (room : ℕ) (t : Totals) → judgeList list room ≡ accepted t → AcceptedList list room t
 unfolding judgeList
-accepted-list list room d c n e = by (parse list) refl e
+accepted-list list room t e = by (parse list) refl e
   where
-    sizes : (is : List Item) (a b : Bool) → parse list ≡ items is → leb (suc (length is)) 9999999 ≡ a → leb (120 * suc (length is)) room ≡ b → cond a (cond b (judgeItems is) (refused 21 0 0)) (refused 1 0 0) ≡ accepted d c n → AcceptedList list room d c n
+    sizes : (is : List Item) (a b : Bool) → parse list ≡ items is → leb (suc (length is)) 9999999 ≡ a → leb (120 * suc (length is)) room ≡ b → cond a (cond b (judgeItems is) (refused (ofCall 21))) (refused (ofCall 1)) ≡ accepted t → AcceptedList list room t
     sizes is true true said few roomy e = record { these = is; fits = record { said = said; few = leb-true (suc (length is)) 9999999 few; roomy = leb-true (120 * suc (length is)) room roomy }; judged-so = e }
     sizes is true false said few roomy e = absurd (accepted-not-refused e)
     sizes is false b said few roomy e = absurd (accepted-not-refused e)
 
-    by : (p : Parsed) → parse list ≡ p → judgeParsed p room ≡ accepted d c n → AcceptedList list room d c n
+    by : (p : Parsed) → parse list ≡ p → judgeParsed p room ≡ accepted t → AcceptedList list room t
     by (items is) said e = sizes is (leb (suc (length is)) 9999999) (leb (120 * suc (length is)) room) said refl refl e
     by (faulty m) said e = absurd (accepted-not-refused e)
 
 -- what was accepted of items: each record is right, and the answer is their exact sums
-pub record AcceptedItems (is : List Item) (d c n : ℕ) : Type 0 where
+pub record AcceptedItems (is : List Item) (t : Totals) : Type 0 where
   pub right : RightItems is
   pub may : mayClose (permitted (stateBehind start (right .typed) .place .due)) ≡ true
   pub small : centsOf is ≤ 999999999999999
-  pub dispositions : dispositionsOf is ≡ d
-  pub cents : centsOf is ≡ c
-  pub records : suc (length is) ≡ n
+  pub told : totalsOf is ≡ t
 
-pub accepted-items : (is : List Item) → All Proper is → (d c n : ℕ) → judgeItems is ≡ accepted d c n → AcceptedItems is d c n
-accepted-items is proper d c n e = by (view-items is proper)
+pub accepted-items : (is : List Item) → All Proper is → (t : Totals) → judgeItems is ≡ accepted t → AcceptedItems is t
+accepted-items is proper t e = by (view-items is proper)
   where
-    by : RightItems is ⊎ FaultyItems is → AcceptedItems is d c n
+    by : RightItems is ⊎ FaultyItems is → AcceptedItems is t
     by (inl r) =
         let so = closed-so (stateBehind start (r .typed)) (length is) (sym (right-judged is proper r) ∙ e) in
         let sums = right-sums is proper r in
-        record { right = r; may = so .0; small = omega (arith, sums .1, so .1); dispositions = omega (arith, sums .0, so .2); cents = omega (arith, sums .1, so .3); records = so .4 }
+        record { right = r; may = so .0; small = omega (arith, sums .1, so .1); told = (λ i. record { dispositions = sym (sums .0) i; cents = sym (sums .1) i; records = suc (length is) }) ∙ so .2 }
     by (inr f) = absurd (accepted-not-refused (sym (faulty-judged is proper f) ∙ e))
 
 pub written-exact : WrittenExact
-written-exact list room d c n e =
-    let a = accepted-list list room d c n e in
+written-exact list room t e =
+    let a = accepted-list list room t e in
     let is = a .these in
     let exact = items-exact list is .0 (a .fits .said) in
     let proper = exact .1 in
-    let so = accepted-items is proper d c n (a .judged-so) in
+    let so = accepted-items is proper t (a .judged-so) in
     let few = a .fits .few in
     let roomy = a .fits .roomy in
-    let records = so .records in
+    let records = ap (λ (u : Totals). u .records) (so .told) in
     let size = encode-length is proper in
     let same : itemsIn list ≡ is = ap itemsOr (a .fits .said) in
-    subst (λ (l : List Item). (judge (encode l) ≡ accepted d c n) × (listOf (encode l) ≡ list) × Canonical (encode l) × (length (encode l) ≡ 120 * n) × (length (encode l) ≤ room)) (sym same) (
-      accepted-encoding is proper (so .right) (so .may) few (so .small) ∙ (λ i. accepted (so .dispositions i) (so .cents i) (so .records i)),
+    subst (λ (l : List Item). (judge (encode l) ≡ accepted t) × (listOf (encode l) ≡ list) × Canonical (encode l) × (length (encode l) ≡ 120 * t .records) × (length (encode l) ≤ room)) (sym same) (
+      accepted-encoding is proper (so .right) (so .may) few (so .small) ∙ ap accepted (so .told),
       ap listBytes (encode-items is proper) ∙ exact .0,
       ap encode (encode-items is proper),
       omega arith,

@@ -11,6 +11,7 @@ use Rattle.records.specs.Field.{Span, _to_, width}
 use Rattle.records.specs.Kinds.{typeOf, heads, opens, opened}
 use Rattle.records.specs.declared.kind.Kind.{Kind}
 use Rattle.records.specs.declared.kind.Kind.the-variants.{Im, R14, R16, R20, R30, R40, R50, R59, R51, R70, Ef}
+use Rattle.flow.specs.declared.answer.Totals.{Totals}
 use Rattle.list.specs.Items.{Item}
 use Rattle.list.specs.Table.{carried}
 
@@ -63,19 +64,19 @@ encodeItem n header it =
     fill (place 2 (typeOf k) ∷ (supplied k n (carriedAt Im 9 13 header) ++ bodyPlaced (carried k) (it .body))) blanks
 
 -- EF: 4-45 of the header, the counts, the sum, zeros, "E"
-abbrev pub trailerPlaced : List ℕ → ℕ → ℕ → ℕ → List Placed
-trailerPlaced copied dispositions cents records =
+abbrev pub trailerPlaced : List ℕ → Totals → List Placed
+trailerPlaced copied t =
     place 2 (typeOf Ef)
     ∷ place 4 copied
-    ∷ place 46 (digits 7 dispositions)
-    ∷ place 53 (digits 15 cents)
+    ∷ place 46 (digits 7 (t .dispositions))
+    ∷ place 53 (digits 15 (t .cents))
     ∷ place 68 (digits 15 0)
-    ∷ place 83 (digits 7 records)
+    ∷ place 83 (digits 7 (t .records))
     ∷ place 114 currency
     ∷ []
 
-unfoldable pub encodeTrailer : List ℕ → ℕ → ℕ → ℕ → List ℕ
-encodeTrailer header dispositions cents records = fill (trailerPlaced (carriedAt Im 4 45 header) dispositions cents records) blanks
+unfoldable pub encodeTrailer : List ℕ → Totals → List ℕ
+encodeTrailer header t = fill (trailerPlaced (carriedAt Im 4 45 header) t) blanks
 
 -- the body of the header meant behind an item
 abbrev pub headerBehind : List ℕ → Item → List ℕ
@@ -105,12 +106,16 @@ unfoldable pub centsOf : List Item → ℕ
 centsOf [] = 0
 centsOf (it ∷ is) = amountOf it + centsOf is
 
+-- the totals of the flow that a list encodes: its D items, the sum of their amounts, and its items with EF
+abbrev pub totalsOf : List Item → Totals
+totalsOf is = record { dispositions = dispositionsOf is; cents = centsOf is; records = suc (length is) }
+
 -- the records other than EF, and EF
 abbrev pub recordsFor : List Item → List (List ℕ)
 recordsFor is = encodeFrom 0 [] is
 
 abbrev pub trailerFor : List Item → List ℕ
-trailerFor is = encodeTrailer (lastHeader [] is) (dispositionsOf is) (centsOf is) (suc (length is))
+trailerFor is = encodeTrailer (lastHeader [] is) (totalsOf is)
 
 abbrev pub encode : List Item → List ℕ
 encode is = flatten (recordsFor is ++ (trailerFor is ∷ []))

@@ -5,8 +5,8 @@ use mathlib.Core.List.{List, [], _∷_, _++_, map}
 use mathlib.Core.Path.{_≡_}
 use lib.ListN.{length}
 use Rattle.sequences.specs.Text.{text}
-use Rattle.flow.specs.Examples.{flowOf, trailerEf, twoRents}
-use Rattle.flow.specs.Verdict.{accepted, refused}
+use Rattle.flow.specs.Examples.{flowOf, trailerEf, twoRents, twoRentTotals}
+use Rattle.flow.specs.Verdict.{accepted, refused, refusal, ofCall}
 use Rattle.list.specs.Encode.{trailerFor, encode}
 use Rattle.list.specs.Items.{itemsIn}
 use Rattle.list.specs.ReadBack.{listOf, judgeRoom, Canonical}
@@ -55,22 +55,22 @@ pub record Examples : Type 0 where
   pub one-rent : length oneRentList ≡ 643
   pub one-rent-encoded : length (encode (itemsIn oneRentList)) ≡ 1080
   -- written, with room and one byte short of it
-  pub written : judgeList twoRentList 1920 ≡ accepted 2 83050 16
-  pub one-short : judgeList twoRentList 1919 ≡ refused 21 0 0
+  pub written : judgeList twoRentList 1920 ≡ accepted twoRentTotals
+  pub one-short : judgeList twoRentList 1919 ≡ refused (ofCall 21)
   -- an empty list: 21 below one record of room, then 3 at EF's place
-  pub empty : judgeList [] 120 ≡ refused 3 1 2
-  pub empty-short : judgeList [] 119 ≡ refused 21 0 0
+  pub empty : judgeList [] 120 ≡ refused (refusal 3 1 2)
+  pub empty-short : judgeList [] 119 ≡ refused (ofCall 21)
   -- the header alone: EF may not follow it
-  pub header-alone : judgeList (flowOf headerItem) 240 ≡ refused 3 2 2
+  pub header-alone : judgeList (flowOf headerItem) 240 ≡ refused (refusal 3 2 2)
   -- a fault of a record
-  pub no-header : judgeList (flowOf firstItems) 960 ≡ refused 3 1 2
-  pub second-header : judgeList (flowOf (headerItem ++ headerItem)) 360 ≡ refused 3 2 2
+  pub no-header : judgeList (flowOf firstItems) 960 ≡ refused (refusal 3 1 2)
+  pub second-header : judgeList (flowOf (headerItem ++ headerItem)) 360 ≡ refused (refusal 3 2 2)
   -- an unknown kind, and a body cut short, are looked for first
-  pub unknown : judgeList (text "Q") 0 ≡ refused 20 1 0
-  pub cut-short : judgeList (flowOf (firstItems ++ ("Z" ∷ []))) 0 ≡ refused 20 8 0
+  pub unknown : judgeList (text "Q") 0 ≡ refused (refusal 20 1 0)
+  pub cut-short : judgeList (flowOf (firstItems ++ ("Z" ∷ []))) 0 ≡ refused (refusal 20 8 0)
   -- read back
   pub read-back : listOf twoRents ≡ twoRentList
   pub canonical : Canonical twoRents
-  pub room : judgeRoom twoRents 1236 ≡ accepted 2 83050 16
-  pub no-room : judgeRoom twoRents 1235 ≡ refused 21 0 0
-  pub refused-first : judgeRoom [] 0 ≡ refused 1 0 0
+  pub room : judgeRoom twoRents 1236 ≡ accepted twoRentTotals
+  pub no-room : judgeRoom twoRents 1235 ≡ refused (ofCall 21)
+  pub refused-first : judgeRoom [] 0 ≡ refused (ofCall 1)

@@ -61,5 +61,5 @@ pub record ItemExamples : Type 0 where
       " 701234567                                                                                   b cdefghijklmnopqrstuvwxyz{"
   -- EF copies 4-45 of the header, of which 40-45 are not compared
   pub trailer :
-      encodeTrailer headerBody 1234567 123456789012345 7654321
+      encodeTrailer headerBody (record { dispositions = 1234567; cents = 123456789012345; records = 7654321 })
       ≡ text " EFTUVWXYZ[]^_`abcdefghijklmnopqrstuvwxyz{|}~12345671234567890123450000000000000007654321                        E      "

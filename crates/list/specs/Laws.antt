@@ -13,12 +13,15 @@ use Rattle.records.specs.Kinds.{typeOf}
 use Rattle.records.specs.declared.kind.Kind.{Kind}
 use Rattle.records.specs.declared.kind.Kind.the-variants.{Ef}
 use Rattle.flow.specs.Judge.{judge}
+use Rattle.flow.specs.Output.{Leaves, LeavesAlone}
 use Rattle.flow.specs.Records.{recordAt, recordsOf}
-use Rattle.flow.specs.Verdict.{accepted, refused}
+use Rattle.flow.specs.Verdict.{accepted, refused, refusal, ofCall}
+use Rattle.flow.specs.declared.answer.Refusal.{Refusal}
+use Rattle.flow.specs.declared.answer.Totals.{Totals}
 use Rattle.grammar.specs.Fault.{MayFollow, EachRight}
-use Rattle.list.specs.Encode.{dispositionsOf, centsOf, recordsFor, encode}
+use Rattle.list.specs.Encode.{centsOf, totalsOf, recordsFor, encode}
 use Rattle.list.specs.Items.{Item, item, Proper, listBytes, items, faulty, parse, itemsIn}
-use Rattle.list.specs.Output.{Output, outputOf}
+use Rattle.list.specs.Output.{outputOf}
 use Rattle.list.specs.ReadBack.{gather, itemsOf, listOf, judgeRoom, readBack, Canonical}
 use Rattle.list.specs.Table.{letter, carried, bodyLength, hasItem, kindIn}
 use Rattle.list.specs.Write.{judgeList, write}
@@ -54,53 +57,42 @@ pub record Fitting (list : List ℕ) (room : ℕ) (is : List Item) : Type 0 wher
   pub roomy : 120 * suc (length is) ≤ room
 
 -- document 01's refusals of writing, each where those before it do not apply
-pub data WriteFault (list : List ℕ) (room : ℕ) : ℕ → ℕ → ℕ → Type 0 where
-  no-item : (n : ℕ) → FaultyAt list n → WriteFault list room 20 n 0
-  too-many : (is : List Item) → parse list ≡ items is → 9999999 < suc (length is) → WriteFault list room 1 0 0
-  no-room : (is : List Item) → parse list ≡ items is → suc (length is) ≤ 9999999 → room < 120 * suc (length is) → WriteFault list room 21 0 0
+pub data WriteFault (list : List ℕ) (room : ℕ) : Refusal → Type 0 where
+  no-item : (n : ℕ) → FaultyAt list n → WriteFault list room (refusal 20 n 0)
+  too-many : (is : List Item) → parse list ≡ items is → 9999999 < suc (length is) → WriteFault list room (ofCall 1)
+  no-room : (is : List Item) → parse list ≡ items is → suc (length is) ≤ 9999999 → room < 120 * suc (length is) → WriteFault list room (ofCall 21)
   -- the reader's refusal of the records other than EF, in one of them
   in-record :
-      (is : List Item) (n r p : ℕ) → Fitting list room is → judge (flatten (recordsFor is)) ≡ refused n r p → 1 ≤ r → r ≤ length is
-      → WriteFault list room n r p
+      (is : List Item) (x : Refusal) → Fitting list room is → judge (flatten (recordsFor is)) ≡ refused x → 1 ≤ x .«record» → x .«record» ≤ length is
+      → WriteFault list room x
   -- each of them is right, and EF may not follow
   no-trailer :
       (is : List Item) → Fitting list room is → EachRight (flatten (recordsFor is)) (recordsFor is) → ¬ MayFollow (recordsFor is) Ef
-      → WriteFault list room 3 (suc (length is)) 2
+      → WriteFault list room (refusal 3 (suc (length is)) 2)
   -- EF may follow, and its digits do not hold the total
   too-much :
       (is : List Item) → Fitting list room is → EachRight (flatten (recordsFor is)) (recordsFor is) → MayFollow (recordsFor is) Ef
-      → 999999999999999 < centsOf is → WriteFault list room 17 0 0
+      → 999999999999999 < centsOf is → WriteFault list room (ofCall 17)
 
 abbrev pub WriteRefused : Type 0
-WriteRefused = (list : List ℕ) (room n r p : ℕ) → (judgeList list room ≡ refused n r p) ↔ WriteFault list room n r p
+WriteRefused = (list : List ℕ) (room : ℕ) (x : Refusal) → (judgeList list room ≡ refused x) ↔ WriteFault list room x
 
--- a list that is accepted: there is room, each record is right, EF may follow, and its digits hold the total. The numbers answered are the
--- list's own: its D items, the sum of their amounts, and its items with EF
-pub record WriteAccepts (list : List ℕ) (room d c n : ℕ) : Type 0 where
+-- a list that is accepted: there is room, each record is right, EF may follow, and its digits hold the total. The totals answered are
+-- the list's own
+pub record WriteAccepts (list : List ℕ) (room : ℕ) (t : Totals) : Type 0 where
   pub these : List Item
   pub fits : Fitting list room these
   pub right : EachRight (flatten (recordsFor these)) (recordsFor these)
   pub follows : MayFollow (recordsFor these) Ef
   pub small : centsOf these ≤ 999999999999999
-  pub dispositions : dispositionsOf these ≡ d
-  pub cents : centsOf these ≡ c
-  pub records : suc (length these) ≡ n
+  pub totals : totalsOf these ≡ t
 
 abbrev pub WriteAccepted : Type 0
-WriteAccepted = (list : List ℕ) (room d c n : ℕ) → (judgeList list room ≡ accepted d c n) ↔ WriteAccepts list room d c n
+WriteAccepted = (list : List ℕ) (room : ℕ) (t : Totals) → (judgeList list room ≡ accepted t) ↔ WriteAccepts list room t
 
 -- no list is refused by 9: the writer itself gives each record its number, and counts as the reader does
 abbrev pub NumbersSupplied : Type 0
-NumbersSupplied = (list : List ℕ) (room r p : ℕ) → ¬ (judgeList list room ≡ refused 9 r p)
-
--- what a call leaves in the output: bytes at its front and the rest as it was, or all of it as it was
-pub record Leaves (o : Output) (bytes out : List ℕ) : Type 0 where
-  pub length-said : o .written ≡ length bytes
-  pub front : take (o .written) (o .bytes) ≡ bytes
-  pub behind : drop (o .written) (o .bytes) ≡ drop (o .written) out
-
-abbrev pub LeavesAlone : Output → List ℕ → Type 0
-LeavesAlone o out = (o .written ≡ 0) × (o .bytes ≡ out)
+NumbersSupplied = (list : List ℕ) (room r p : ℕ) → ¬ (judgeList list room ≡ refused (refusal 9 r p))
 
 -- what is judged is what is answered
 abbrev pub WriteAnswers : Type 0
@@ -113,59 +105,59 @@ ReadBackAnswers = (f out : List ℕ) → readBack f out .answer ≡ judgeRoom f 
 abbrev pub WriteLeaves : Type 0
 WriteLeaves =
     (list out : List ℕ)
-    → ((d c n : ℕ) → judgeList list (length out) ≡ accepted d c n → Leaves (write list out) (encode (itemsIn list)) out)
-    × ((n r p : ℕ) → judgeList list (length out) ≡ refused n r p → LeavesAlone (write list out) out)
+    → ((t : Totals) → judgeList list (length out) ≡ accepted t → Leaves (write list out) (encode (itemsIn list)) out)
+    × ((x : Refusal) → judgeList list (length out) ≡ refused x → LeavesAlone (write list out) out)
 
--- what a list that is accepted encodes is a canonical flow that the reader accepts with the same numbers, that has its length, and whose
+-- what a list that is accepted encodes is a canonical flow that the reader accepts with the same totals, that has its length, and whose
 -- list is the list written
 abbrev pub WrittenExact : Type 0
 WrittenExact =
-    (list : List ℕ) (room d c n : ℕ) → judgeList list room ≡ accepted d c n → let flow = encode (itemsIn list) in
-    (judge flow ≡ accepted d c n) × (listOf flow ≡ list) × Canonical flow × (length flow ≡ 120 * n) × (length flow ≤ room)
+    (list : List ℕ) (room : ℕ) (t : Totals) → judgeList list room ≡ accepted t → let flow = encode (itemsIn list) in
+    (judge flow ≡ accepted t) × (listOf flow ≡ list) × Canonical flow × (length flow ≡ 120 * t .records) × (length flow ≤ room)
 
 -- an accepted flow's own list has one item for each record but EF: its kind, then its carried bytes as they stand
 abbrev pub OwnList : Type 0
 OwnList =
-    (f : List ℕ) (d c n : ℕ) → judge f ≡ accepted d c n
+    (f : List ℕ) (t : Totals) → judge f ≡ accepted t
     → itemsOf f ≡ map (λ (rec : List ℕ). item (kindIn rec) (gather (carried (kindIn rec)) rec)) (dropLast (recordsOf f))
 
 -- and says these items
 abbrev pub OwnItems : Type 0
-OwnItems = (f : List ℕ) (d c n : ℕ) → judge f ≡ accepted d c n → parse (listOf f) ≡ items (itemsOf f)
+OwnItems = (f : List ℕ) (t : Totals) → judge f ≡ accepted t → parse (listOf f) ≡ items (itemsOf f)
 
 -- reading back is accepted exactly where the reader accepts, with its numbers, and there is room; and refused exactly where the reader
 -- refuses, by the same, or by 21
 abbrev pub ReadBackAccepted : Type 0
-ReadBackAccepted = (f : List ℕ) (room d c n : ℕ) → (judgeRoom f room ≡ accepted d c n) ↔ ((judge f ≡ accepted d c n) × (length (listOf f) ≤ room))
+ReadBackAccepted = (f : List ℕ) (room : ℕ) (t : Totals) → (judgeRoom f room ≡ accepted t) ↔ ((judge f ≡ accepted t) × (length (listOf f) ≤ room))
 
 abbrev pub ReadBackRefused : Type 0
 ReadBackRefused =
-    (f : List ℕ) (room n r p : ℕ)
-    → (judgeRoom f room ≡ refused n r p) ↔ ((judge f ≡ refused n r p) ⊎ ((d c m : ℕ) × (judge f ≡ accepted d c m) × (room < length (listOf f)) × (n ≡ 21) × (r ≡ 0) × (p ≡ 0)))
+    (f : List ℕ) (room : ℕ) (x : Refusal)
+    → (judgeRoom f room ≡ refused x) ↔ ((judge f ≡ refused x) ⊎ ((t : Totals) × (judge f ≡ accepted t) × (room < length (listOf f)) × (x ≡ ofCall 21)))
 
 -- it leaves exactly the list, and where it is refused nothing
 abbrev pub ReadBackLeaves : Type 0
 ReadBackLeaves =
     (f out : List ℕ)
-    → ((d c n : ℕ) → judgeRoom f (length out) ≡ accepted d c n → Leaves (readBack f out) (listOf f) out)
-    × ((n r p : ℕ) → judgeRoom f (length out) ≡ refused n r p → LeavesAlone (readBack f out) out)
+    → ((t : Totals) → judgeRoom f (length out) ≡ accepted t → Leaves (readBack f out) (listOf f) out)
+    × ((x : Refusal) → judgeRoom f (length out) ≡ refused x → LeavesAlone (readBack f out) out)
 
 -- an accepted flow's list, written again, is accepted with the same numbers; a flow's total is one that EF's digits hold
 abbrev pub RewrittenExact : Type 0
-RewrittenExact = (f : List ℕ) (d c n room : ℕ) → judge f ≡ accepted d c n → length f ≤ room → judgeList (listOf f) room ≡ accepted d c n
+RewrittenExact = (f : List ℕ) (t : Totals) (room : ℕ) → judge f ≡ accepted t → length f ≤ room → judgeList (listOf f) room ≡ accepted t
 
 -- and gives the same bytes exactly where the flow was canonical
 abbrev pub RewrittenSame : Type 0
 RewrittenSame =
-    (f out : List ℕ) (d c n : ℕ) → judge f ≡ accepted d c n → length f ≤ length out → let w = write (listOf f) out in
+    (f out : List ℕ) (t : Totals) → judge f ≡ accepted t → length f ≤ length out → let w = write (listOf f) out in
     (take (w .written) (w .bytes) ≡ f) ↔ Canonical f
 
 -- an accepted flow and the encoding of its list have one length and one list, and differ only at positions that the table of checks does
 -- not name
 abbrev pub UncheckedOnly : Type 0
 UncheckedOnly =
-    (f : List ℕ) (d c n : ℕ) → judge f ≡ accepted d c n → let again = encode (itemsOf f) in
-    (length again ≡ length f) × (listOf again ≡ listOf f) × ((i : ℕ) (k : Kind) → i < n → field 2 3 (recordAt i f) ≡ typeOf k → Alike (checked k) (recordAt i f) (recordAt i again))
+    (f : List ℕ) (t : Totals) → judge f ≡ accepted t → let again = encode (itemsOf f) in
+    (length again ≡ length f) × (listOf again ≡ listOf f) × ((i : ℕ) (k : Kind) → i < t .records → field 2 3 (recordAt i f) ≡ typeOf k → Alike (checked k) (recordAt i f) (recordAt i again))
 
 -- what an answer stands for on paper determines it
 abbrev pub FilledDetermined : Type 0

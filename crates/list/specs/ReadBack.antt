@@ -3,16 +3,16 @@ use Prim.Native.Nat.{ℕ, suc}
 use mathlib.Core.Bool.{cond}
 use mathlib.Core.List.{List, [], _∷_, map, flatten}
 use mathlib.Core.Path.{_≡_}
-use lib.Dec.{leb}
 use lib.ListN.{length}
 use Rattle.records.specs.Field.{Span, _to_, field}
 use Rattle.records.specs.declared.kind.Kind.{Kind}
 use Rattle.flow.specs.Judge.{judge}
+use Rattle.flow.specs.Output.{Output, output, withRoom}
 use Rattle.flow.specs.Records.{recordsOf}
-use Rattle.flow.specs.Verdict.{Verdict, accepted, refused}
+use Rattle.flow.specs.Verdict.{Verdict}
+use Rattle.flow.specs.declared.answer.Totals.{Totals}
 use Rattle.list.specs.Encode.{encode}
 use Rattle.list.specs.Items.{Item, item, listBytes}
-use Rattle.list.specs.Output.{Output, output}
 use Rattle.list.specs.Table.{carried, bodyLength, hasItem, kindIn}
 
 -- the bytes of a record at spans, in order
@@ -38,14 +38,10 @@ abbrev pub listOf : List ℕ → List ℕ
 listOf f = listBytes (itemsOf f)
 
 -- the answer to a flow, with an output of so many bytes
-abbrev pub withRoom : Verdict → List ℕ → ℕ → Verdict
-withRoom (accepted d c n) list room = cond (leb (length list) room) (accepted d c n) (refused 21 0 0)
-withRoom (refused e r p) list room = refused e r p
+unfoldable pub judgeRoom : List ℕ → ℕ → Verdict Totals
+judgeRoom f room = withRoom (judge f) (length (listOf f)) room
 
-unfoldable pub judgeRoom : List ℕ → ℕ → Verdict
-judgeRoom f room = withRoom (judge f) (listOf f) room
-
-unfoldable pub readBack : List ℕ → List ℕ → Output
+unfoldable pub readBack : List ℕ → List ℕ → Output Totals
 readBack f out = output (judgeRoom f (length out)) (listOf f) out
 
 -- document 01's "clean": equal to what its own list encodes

@@ -6,35 +6,36 @@ use mathlib.Core.List.{List, [], flatten}
 use lib.Dec.{leb}
 use lib.ListN.{length, take}
 use Rattle.records.specs.Context.{headerOf}
-use Rattle.flow.specs.Judge.{go}
+use Rattle.flow.specs.Judge.{totals, go}
 use Rattle.flow.specs.Order.{permitted, mayClose}
+use Rattle.flow.specs.Output.{Output, output}
 use Rattle.flow.specs.Steps.{start}
-use Rattle.flow.specs.Verdict.{Verdict, accepted, refused}
+use Rattle.flow.specs.Verdict.{Verdict, accepted, refused, refusal, ofCall}
+use Rattle.flow.specs.declared.answer.Totals.{Totals}
 use Rattle.flow.specs.declared.walk.Walk.{Walk}
 use Rattle.list.specs.Encode.{recordsFor, encode}
 use Rattle.list.specs.Items.{Item, Parsed, items, faulty, parse, itemsIn}
-use Rattle.list.specs.Output.{Output, output}
 
 -- the answer behind the last of n records: 3 where EF may not follow, 17 where its fifteen digits do not hold the total
-abbrev pub closed : Walk → ℕ → Verdict
+abbrev pub closed : Walk → ℕ → Verdict Totals
 closed w n =
     cond (mayClose (permitted (w .place .due)))
-    (cond (leb (w .cents) 999999999999999) (accepted (w .dispositions) (w .cents) (suc n)) (refused 17 0 0))
-    (refused 3 (suc n) 2)
+    (cond (leb (w .cents) 999999999999999) (accepted (totals w (suc n))) (refused (ofCall 17)))
+    (refused (refusal 3 (suc n) 2))
 
 -- the encoded records, judged as the reader judges them: the first 120 bytes are the header
-unfoldable pub judgeItems : List Item → Verdict
+unfoldable pub judgeItems : List Item → Verdict Totals
 judgeItems is = go closed (headerOf (take 120 (flatten (recordsFor is)))) start [] 0 (recordsFor is)
 
 -- 20; then 1; then 21; then the records
-abbrev pub judgeParsed : Parsed → ℕ → Verdict
-judgeParsed (faulty n) room = refused 20 n 0
+abbrev pub judgeParsed : Parsed → ℕ → Verdict Totals
+judgeParsed (faulty n) room = refused (refusal 20 n 0)
 judgeParsed (items is) room =
-    cond (leb (suc (length is)) 9999999) (cond (leb (120 * suc (length is)) room) (judgeItems is) (refused 21 0 0)) (refused 1 0 0)
+    cond (leb (suc (length is)) 9999999) (cond (leb (120 * suc (length is)) room) (judgeItems is) (refused (ofCall 21))) (refused (ofCall 1))
 
 -- the answer to a list, with an output of so many bytes
-unfoldable pub judgeList : List ℕ → ℕ → Verdict
+unfoldable pub judgeList : List ℕ → ℕ → Verdict Totals
 judgeList list room = judgeParsed (parse list) room
 
-unfoldable pub write : List ℕ → List ℕ → Output
+unfoldable pub write : List ℕ → List ℕ → Output Totals
 write list out = output (judgeList list (length out)) (encode (itemsIn list)) out

@@ -14,6 +14,7 @@ ghost use Rattle.list.specs.Table.{bodyLength};
 ghost use Rattle.list.specs.Table.{carried as Table·carried};
 use crate::table::carried;
 use crate::table::width;
+use flow::Totals;
 use records::CAUSALE;
 use records::CURRENCY;
 use records::Kind;
@@ -92,32 +93,27 @@ fn place_body(rec: &mut [u8], kind: Kind, body: &[u8])
 }
 
 // EF: `header` is the body of the latest H, or empty.
-pub(crate) fn encode_trailer(
-    header: &[u8],
-    dispositions: u64,
-    cents: u64,
-    records: u64,
-) -> [u8; 120]
-    ensures { λ r. ⌜ r ≡ encodeTrailer (now (header .entry)) dispositions cents records ⌝ }
+pub(crate) fn encode_trailer(header: &[u8], totals: Totals) -> [u8; 120]
+    ensures { λ r. ⌜ r ≡ encodeTrailer (now (header .entry)) totals ⌝ }
 {
     let mut rec = [b' '; 120];
     // 4-45 of the header, as its H carries them.
-    fill_trailer(&mut rec, field(header, 1, 42), dispositions, cents, records);
+    fill_trailer(&mut rec, field(header, 1, 42), totals);
     rec
 }
 
-fn fill_trailer(rec: &mut [u8], copied: &[u8], dispositions: u64, cents: u64, records: u64)
+fn fill_trailer(rec: &mut [u8], copied: &[u8], totals: Totals)
     requires { ⌜ length (now rec) ≡ 120 ⌝ }
     requires { ⌜ length (now copied) ≤ 42 ⌝ }
-    ensures { λ _. ⌜ now (rec .exit) ≡ fill (trailerPlaced (now (copied .entry)) dispositions cents records) (now (rec .entry)) ⌝ }
+    ensures { λ _. ⌜ now (rec .exit) ≡ fill (trailerPlaced (now (copied .entry)) totals) (now (rec .entry)) ⌝ }
 {
     let code = records::type_of(Kind::Ef);
     place(rec, 2, &code);
     place(rec, 4, copied);
-    place_number(rec, 46, 52, dispositions);
-    place_number(rec, 53, 67, cents);
+    place_number(rec, 46, 52, totals.dispositions);
+    place_number(rec, 53, 67, totals.cents);
     place_number(rec, 68, 82, 0);
-    place_number(rec, 83, 89, records);
+    place_number(rec, 83, 89, totals.records);
     place(rec, 114, &CURRENCY);
 }
 

@@ -2,6 +2,8 @@
 ghost use mathlib.Core.Path.{_≡_};
 ghost use Rattle.flow.specs.Verdict.{accepted, refused, verdict};
 use flow::Answer;
+use flow::Refusal;
+use flow::Totals;
 
 // The answer of the flow that was written or read back, and the length written: 0 where the call is
 // refused.
@@ -11,28 +13,20 @@ pub struct Filled {
 }
 
 impl Filled {
-    pub(crate) fn accepted(dispositions: u64, cents: u64, records: u64, length: u64) -> Filled
-        ensures { λ r. ⌜ (verdict (r .answer) ≡ accepted dispositions cents records) × (r .length ≡ length) ⌝ }
+    pub(crate) fn accepted(totals: Totals, length: u64) -> Filled
+        ensures { λ r. ⌜ (verdict (r .answer) ≡ accepted totals) × (r .length ≡ length) ⌝ }
     {
         Filled {
-            answer: Answer::Accepted {
-                dispositions,
-                cents,
-                records,
-            },
+            answer: Answer::Accepted(totals),
             length,
         }
     }
 
-    pub(crate) fn refused(number: u64, record: u64, position: u64) -> Filled
-        ensures { λ r. ⌜ (verdict (r .answer) ≡ refused number «record» position) × (r .length ≡ 0) ⌝ }
+    pub(crate) fn refused(refusal: Refusal) -> Filled
+        ensures { λ r. ⌜ (verdict (r .answer) ≡ refused refusal) × (r .length ≡ 0) ⌝ }
     {
         Filled {
-            answer: Answer::Refused {
-                number,
-                record,
-                position,
-            },
+            answer: Answer::Refused(refusal),
             length: 0,
         }
     }

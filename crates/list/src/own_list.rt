@@ -20,29 +20,20 @@ use flow::Answer;
 use records::Kind;
 use records::field;
 
-// Writes the flow's list at the front of out, and answers the flow's three numbers and the list's
-// length. What the reader refuses is refused by its three numbers, and then an out that is too short by
-// 21.
+// Writes the flow's list at the front of out, and answers the flow's totals and the list's length.
+// What the reader refuses is refused alike, and then an out that is too short by 21.
 pub fn read_back(flow: &[u8], out: &mut [u8]) -> Filled
     ensures { λ r. ⌜ outputOf r (now (out .exit)) ≡ readBack (now (flow .entry)) (now (out .entry)) ⌝ }
 {
     match flow::read(flow) {
-        Answer::Refused {
-            number,
-            record,
-            position,
-        } => Filled::refused(number, record, position),
-        Answer::Accepted {
-            dispositions,
-            cents,
-            records,
-        } => {
+        Answer::Refused(refusal) => Filled::refused(refusal),
+        Answer::Accepted(totals) => {
             let length = list_length(flow);
             if out.len() < length {
-                return Filled::refused(NO_ROOM, 0, 0);
+                return Filled::refused(flow::refusal_of_call(NO_ROOM));
             }
             store_list(flow, out);
-            Filled::accepted(dispositions, cents, records, number(length))
+            Filled::accepted(totals, number(length))
         }
     }
 }

@@ -10,14 +10,13 @@ ghost use Rattle.records.specs.Kinds.{heads, opened};
 ghost use Rattle.flow.specs.Judge.{go};
 ghost use Rattle.flow.specs.Steps.{start};
 ghost use Rattle.flow.specs.Verdict.{verdict};
-ghost use Rattle.list.specs.Encode.{dispositionsOf, centsOf, recordsFor, encode};
+ghost use Rattle.list.specs.Encode.{totalsOf, recordsFor, encode};
 ghost use Rattle.list.specs.Items.{itemsIn, Listed};
 ghost use Rattle.list.specs.Output.{outputOf};
 ghost use Rattle.list.specs.Write.{closed, judgeItems};
 ghost use Rattle.list.specs.Write.{write as Write·write};
 use crate::count::Count;
 use crate::count::count_items;
-use crate::count::number;
 use crate::encode::encode_item;
 use crate::encode::encode_trailer;
 use crate::encode::place;
@@ -25,6 +24,8 @@ use crate::filled::Filled;
 use crate::table::body_length;
 use crate::table::kind_of;
 use flow::Answer;
+use flow::Refusal;
+use flow::Totals;
 use flow::WRONG_TYPE;
 use flow::Walk;
 use records::Judged;
@@ -45,35 +46,31 @@ const NO_ITEM: u64 = 20;
 
 pub(crate) const NO_ROOM: u64 = 21;
 
-// Writes the flow that the list encodes at the front of out, and answers its three numbers and its
-// length. Refused, in this order: 20, an item that is none; 1, too many items; 21, out is too short;
-// what the reader refuses of the records, or 3 where EF may not follow them; 17, a total of more than
-// fifteen digits. All of this is judged before a byte of out is written.
+// Writes the flow that the list encodes at the front of out, and answers its totals and its length.
+// Refused, in this order: 20, an item that is none; 1, too many items; 21, out is too short; what the
+// reader refuses of the records, or 3 where EF may not follow them; 17, a total of more than fifteen
+// digits. All of this is judged before a byte of out is written.
 pub fn write(list: &[u8], out: &mut [u8]) -> Filled
     ensures { λ r. ⌜ outputOf r (now (out .exit)) ≡ Write·write (now (list .entry)) (now (out .entry)) ⌝ }
 {
     match count_items(list) {
-        Count::Faulty(n) => Filled::refused(NO_ITEM, n, 0),
+        Count::Faulty(n) => Filled::refused(Refusal {
+            number: NO_ITEM,
+            record: n,
+            position: 0,
+        }),
         Count::Items(items) => {
             if MOST < items {
-                return Filled::refused(WRONG_LENGTH, 0, 0);
+                return Filled::refused(flow::refusal_of_call(WRONG_LENGTH));
             }
             if out.len() < 120 * (items + 1) {
-                return Filled::refused(NO_ROOM, 0, 0);
+                return Filled::refused(flow::refusal_of_call(NO_ROOM));
             }
             match judge_items(list) {
-                Answer::Refused {
-                    number,
-                    record,
-                    position,
-                } => Filled::refused(number, record, position),
-                Answer::Accepted {
-                    dispositions,
-                    cents,
-                    records,
-                } => {
-                    store_items(list, out, dispositions, cents);
-                    Filled::accepted(dispositions, cents, records, 120 * records)
+                Answer::Refused(refusal) => Filled::refused(refusal),
+                Answer::Accepted(totals) => {
+                    store_items(list, out, totals);
+                    Filled::accepted(totals, 120 * totals.records)
                 }
             }
         }
@@ -139,11 +136,11 @@ fn judge_records(
         n += 1;
         match walk.judge(&rec, n, mittente, abi, date, name, currency, company) {
             Judged::Refused(number, position) => {
-                return Answer::Refused {
+                return Answer::Refused(Refusal {
                     number,
                     record: n,
                     position,
-                };
+                });
             }
             Judged::Right(right) => {
                 // 92-96 of a 14, as its D carries them: the record itself does not outlive this turn.
@@ -186,32 +183,27 @@ fn close(walk: Walk, n: u64) -> Answer
     ensures { λ r. ⌜ verdict r ≡ closed walk n ⌝ }
 {
     if !walk.may_close() {
-        return Answer::Refused {
+        return Answer::Refused(Refusal {
             number: WRONG_TYPE,
             record: n + 1,
             position: 2,
-        };
+        });
     }
     if MOST_CENTS < walk.cents {
-        return Answer::Refused {
-            number: TOTAL_TOO_LARGE,
-            record: 0,
-            position: 0,
-        };
+        return Answer::Refused(flow::refusal_of_call(TOTAL_TOO_LARGE));
     }
-    Answer::Accepted {
+    Answer::Accepted(Totals {
         dispositions: walk.dispositions,
         cents: walk.cents,
         records: n + 1,
-    }
+    })
 }
 
-// Each record, and then EF with the counts, at the front of out.
-fn store_items(list: &[u8], out: &mut [u8], count: u64, cents: u64)
+// Each record, and then EF with the totals, at the front of out.
+fn store_items(list: &[u8], out: &mut [u8], totals: Totals)
     requires { ⌜ Listed (now list) ⌝ }
     requires { ⌜ 120 * suc (length (itemsIn (now list))) ≤ length (now out) ⌝ }
-    requires { ⌜ count ≡ dispositionsOf (itemsIn (now list)) ⌝ }
-    requires { ⌜ cents ≡ centsOf (itemsIn (now list)) ⌝ }
+    requires { ⌜ totals ≡ totalsOf (itemsIn (now list)) ⌝ }
     ensures { λ _. ⌜ now (out .exit) ≡ put 0 (encode (itemsIn (now (list .entry)))) (now (out .entry)) ⌝ }
 {
     let mut header = &list[0..0];
@@ -230,6 +222,6 @@ fn store_items(list: &[u8], out: &mut [u8], count: u64, cents: u64)
         n += 1;
         at = end;
     }
-    let trailer = encode_trailer(header, count, cents, number(n + 1));
+    let trailer = encode_trailer(header, totals);
     place(out, 120 * n + 1, &trailer);
 }

@@ -37,17 +37,9 @@ fn fill_marked(kind: u8, given: &[u8], out: &mut [u8]) -> Filled {
 fn refused(filled: Filled) -> bool {
     let answer = filled.answer;
     match answer {
-        Answer::Accepted {
-            dispositions: _,
-            cents: _,
-            records: _,
-        } => false,
-        Answer::Refused {
-            number,
-            record,
-            position,
-        } => {
-            report::print_refusal(number, record, position);
+        Answer::Accepted(_) => false,
+        Answer::Refused(refusal) => {
+            report::print_refusal(refusal);
             line_feed();
             true
         }

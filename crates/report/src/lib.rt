@@ -2,6 +2,7 @@
 //
 // No public function has a `requires`. What is written is tested, not proved.
 use flow::Answer;
+use flow::Refusal;
 use printing::labelled;
 use printing::line_feed;
 
@@ -15,27 +16,19 @@ pub fn print_answer(answer: Answer) {
 // `refused 9 record 10 position 4` with no line feed. A write that fails is not told.
 pub fn print_text(answer: Answer) {
     match answer {
-        Answer::Accepted {
-            dispositions,
-            cents,
-            records,
-        } => {
-            labelled(b"accepted dispositions ", dispositions);
-            labelled(b" cents ", cents);
-            labelled(b" records ", records);
+        Answer::Accepted(totals) => {
+            labelled(b"accepted dispositions ", totals.dispositions);
+            labelled(b" cents ", totals.cents);
+            labelled(b" records ", totals.records);
         }
-        Answer::Refused {
-            number,
-            record,
-            position,
-        } => print_refusal(number, record, position),
+        Answer::Refused(refusal) => print_refusal(refusal),
     }
 }
 
 // Writes a refusal to standard output, as `refused 9 record 10 position 4` with no line feed. A write
 // that fails is not told.
-pub fn print_refusal(number: u64, record: u64, position: u64) {
-    labelled(b"refused ", number);
-    labelled(b" record ", record);
-    labelled(b" position ", position);
+pub fn print_refusal(refusal: Refusal) {
+    labelled(b"refused ", refusal.number);
+    labelled(b" record ", refusal.record);
+    labelled(b" position ", refusal.position);
 }

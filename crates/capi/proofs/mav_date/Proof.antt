@@ -3,7 +3,8 @@ use mathlib.Core.Path.{sym, _∙_, ap}
 use borrow.Author.Needs.{needs}
 use Rattle.fields.specs.Answer.{dateAnswer}
 use Rattle.fields.specs.declared.date.Date.{Date}
-use Rattle.capi.specs.Reply.{ofDay}
+use Rattle.flow.specs.declared.answer.Refusal.{Refusal}
+use Rattle.capi.specs.Reply.{ofRefusal, ofDay}
 use Rattle.capi.proofs.mav_date.Statement.{statement}
 use Rattle.capi.proofs.mav_date.Tie as tie
 
@@ -19,6 +20,9 @@ accept-requires c κs = search needs
 enum-known-number : tie.Need-enum-known-number
 enum-known-number c = search needs
 
+refusal-of-call-requires : tie.Need-refusal-of-call-requires
+refusal-of-call-requires c κs = search needs
+
 refuse-requires : tie.Need-refuse-requires
 refuse-requires c κs = search needs
 
@@ -26,7 +30,7 @@ returns : tie.Need-returns
 returns c = c .accept .ensures ∙ sym (ap (λ (t : Date). ofDay (dateAnswer t)) (c .before .before .enum-told .given .1)) ∙ ap ofDay (c .before .before .before .before .read-date .ensures)
 
 returns-2 : tie.Need-returns-2
-returns-2 c = c .refuse .ensures ∙ sym (ap (λ (t : Date). ofDay (dateAnswer t)) (c .before .before .before .number .given .1)) ∙ ap ofDay (c .before .before .before .before .before .read-date .ensures)
+returns-2 c = c .refuse .ensures ∙ ap (λ (x : Refusal). ofRefusal x 0) (c .before .refusal-of-call .ensures) ∙ sym (ap (λ (t : Date). ofDay (dateAnswer t)) (c .before .before .before .before .number .given .1)) ∙ ap ofDay (c .before .before .before .before .before .before .read-date .ensures)
 
 pub mav-date-spec : {M : Type 1} → statement M
 mav-date-spec =
@@ -36,6 +40,7 @@ mav-date-spec =
     enum-told
     accept-requires
     enum-known-number
+    refusal-of-call-requires
     refuse-requires
     returns
     returns-2)

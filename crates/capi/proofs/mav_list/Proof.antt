@@ -1,7 +1,8 @@
 -- `capi::mav_list` meets its contract. Assumes nothing.
 use mathlib.Core.Path.{_∙_, ap}
 use borrow.Author.Needs.{needs}
-use Rattle.list.specs.Output.{Output}
+use Rattle.flow.specs.Output.{Output}
+use Rattle.flow.specs.declared.answer.Totals.{Totals}
 use Rattle.capi.specs.Reply.{ofOutput}
 use Rattle.capi.proofs.mav_list.Statement.{statement}
 use Rattle.capi.proofs.mav_list.Tie as tie
@@ -18,7 +19,7 @@ same-length c = search needs
 returns : tie.Need-returns
 returns c =
     let filled = c .before .before .before .before .read-back .ensures in
-    (c .tell .ensures ∙ ap ofOutput filled, ap (λ (o : Output). o .bytes) filled)
+    (c .tell .ensures ∙ ap ofOutput filled, ap (λ (o : Output Totals). o .bytes) filled)
 
 pub mav-list-spec : {M : Type 1} → statement M
 mav-list-spec = tie.close (tie.spec read-back-requires tell-requires same-length returns)

@@ -2,6 +2,7 @@
 use mathlib.Core.Path.{_∙_, ap}
 use borrow.Author.Needs.{needs}
 use Rattle.flow.specs.Verdict.{Verdict}
+use Rattle.flow.specs.declared.answer.Totals.{Totals}
 use Rattle.capi.specs.Reply.{ofVerdict}
 use Rattle.capi.proofs.mav_read.Statement.{statement}
 use Rattle.capi.proofs.mav_read.Tie as tie
@@ -13,7 +14,7 @@ tell-requires : tie.Need-tell-requires
 tell-requires c κs = search needs
 
 returns : tie.Need-returns
-returns c = c .tell .ensures ∙ ap (λ (v : Verdict). ofVerdict v 0) (c .before .read .ensures)
+returns c = c .tell .ensures ∙ ap (λ (v : Verdict Totals). ofVerdict v 0) (c .before .read .ensures)
 
 pub mav-read-spec : {M : Type 1} → statement M
 mav-read-spec = tie.close (tie.spec read-requires tell-requires returns)

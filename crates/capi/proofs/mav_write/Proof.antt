@@ -1,7 +1,8 @@
 -- `capi::mav_write` meets its contract. Assumes nothing.
 use mathlib.Core.Path.{_∙_, ap}
 use borrow.Author.Needs.{needs}
-use Rattle.list.specs.Output.{Output}
+use Rattle.flow.specs.Output.{Output}
+use Rattle.flow.specs.declared.answer.Totals.{Totals}
 use Rattle.capi.specs.Reply.{ofOutput}
 use Rattle.capi.proofs.mav_write.Statement.{statement}
 use Rattle.capi.proofs.mav_write.Tie as tie
@@ -18,7 +19,7 @@ same-length c = search needs
 returns : tie.Need-returns
 returns c =
     let filled = c .before .before .before .before .write .ensures in
-    (c .tell .ensures ∙ ap ofOutput filled, ap (λ (o : Output). o .bytes) filled)
+    (c .tell .ensures ∙ ap ofOutput filled, ap (λ (o : Output Totals). o .bytes) filled)
 
 pub mav-write-spec : {M : Type 1} → statement M
 mav-write-spec = tie.close (tie.spec write-requires tell-requires same-length returns)

@@ -3,7 +3,8 @@ use mathlib.Core.Path.{sym, _∙_, ap}
 use borrow.Author.Needs.{needs}
 use Rattle.fields.specs.Answer.{numberAnswer}
 use Rattle.fields.specs.declared.digits.Number.{Number}
-use Rattle.capi.specs.Reply.{ofNumber}
+use Rattle.flow.specs.declared.answer.Refusal.{Refusal}
+use Rattle.capi.specs.Reply.{ofRefusal, ofNumber}
 use Rattle.capi.proofs.tell_number.Statement.{statement}
 use Rattle.capi.proofs.tell_number.Tie as tie
 
@@ -16,6 +17,9 @@ accept-requires c κs = search needs
 enum-known-told-2 : tie.Need-enum-known-told-2
 enum-known-told-2 c = search needs
 
+refusal-of-call-requires : tie.Need-refusal-of-call-requires
+refusal-of-call-requires c κs = search needs
+
 refuse-requires : tie.Need-refuse-requires
 refuse-requires c κs = search needs
 
@@ -23,9 +27,16 @@ returns : tie.Need-returns
 returns c = c .accept .ensures ∙ sym (ap (λ (t : Number). ofNumber (numberAnswer t)) (c .before .before .before .told .given .1))
 
 returns-2 : tie.Need-returns-2
-returns-2 c = c .refuse .ensures ∙ sym (ap (λ (t : Number). ofNumber (numberAnswer t)) (c .before .before .before .told2 .given .1))
+returns-2 c = c .refuse .ensures ∙ ap (λ (x : Refusal). ofRefusal x 0) (c .before .refusal-of-call .ensures) ∙ sym (ap (λ (t : Number). ofNumber (numberAnswer t)) (c .before .before .before .before .told2 .given .1))
 
 pub tell-number-spec : {M : Type 1} → statement M
 tell-number-spec =
     tie.close
-    (tie.spec enum-known-told accept-requires enum-known-told-2 refuse-requires returns returns-2)
+    (tie.spec
+    enum-known-told
+    accept-requires
+    enum-known-told-2
+    refusal-of-call-requires
+    refuse-requires
+    returns
+    returns-2)

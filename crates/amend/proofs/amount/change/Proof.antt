@@ -7,10 +7,14 @@ use lib.ListN.{length}
 use borrow.Author.Needs.{needs}
 use borrow.Author.Tests.{le-leb, lt-leb}
 use Rattle.fields.specs.Digits.{digits}
-use Rattle.flow.specs.Seek.{Target, target, refused, sought, seek}
-use Rattle.flow.specs.Verdict.{accepted}
+use Rattle.flow.specs.Seek.{sought, seek}
+use Rattle.flow.specs.Verdict.{Verdict, accepted, refused}
+use Rattle.flow.specs.declared.answer.Answer.the-variants.{Refused}
+use Rattle.flow.specs.declared.answer.Refusal.{Refusal}
+use Rattle.flow.specs.declared.answer.Totals.{Totals}
+use Rattle.flow.specs.declared.location.Target.{Target}
 use Rattle.amend.specs.Amended.{unchanged, written}
-use Rattle.amend.specs.Change.{changed, changeAt, changeFound}
+use Rattle.amend.specs.Change.{totalsChanged, changed, changeAt, changeFound}
 use Rattle.amend.specs.Change.{change as Change·change}
 use Rattle.amend.proofs.Standing.{Standing, sought-stands}
 use Rattle.amend.proofs.Unchanged.{left-unchanged}
@@ -18,13 +22,13 @@ use Rattle.amend.proofs.amount.change.Statement.{statement}
 use Rattle.amend.proofs.amount.change.Tie as tie
 
 -- what was sought decides
-refused-so : (f : List ℕ) (k new : ℕ) {e r p : ℕ} → seek f k ≡ refused e r p → Change·change f k new ≡ unchanged e r p f
+refused-so : (f : List ℕ) (k new : ℕ) {x : Refusal} → seek f k ≡ refused x → Change·change f k new ≡ unchanged x f
 unfolding Change·change
-refused-so f k new none = ap (λ (t : Target). changeFound t new f) none
+refused-so f k new none = ap (λ (l : Verdict Target). changeFound l new f) none
 
-change-so : (f : List ℕ) (k new : ℕ) {d c n first m a : ℕ} → seek f k ≡ target d c n first m a → Change·change f k new ≡ changeAt d c n first a new f
+change-so : (f : List ℕ) (k new : ℕ) {v : Target} → seek f k ≡ accepted v → Change·change f k new ≡ changeAt v new f
 unfolding Change·change
-change-so f k new there = ap (λ (t : Target). changeFound t new f) there
+change-so f k new there = ap (λ (l : Verdict Target). changeFound l new f) there
 
 -- disposition k stands in the flow
 module _ (c : tie.After-known-told2) where
@@ -37,27 +41,30 @@ module _ (c : tie.After-known-told2) where
   abbrev new : ℕ
   new = c .before .before .before .before .before .before .args .cents
 
-  there : let t = c .before .dispositions .given .0 in seek flow k ≡ target (t .0) (t .1 .0) (t .1 .1 .0) (t .1 .1 .1 .0) (t .1 .1 .1 .1 .0) (t .1 .1 .1 .1 .1 .0)
-  there = sym (c .before .before .before .seek .ensures) ∙ ap sought (c .before .dispositions .given .1)
+  abbrev found : Target
+  found = c .before .target .given .0 .0
 
-  known : let t = c .before .dispositions .given .0 in Standing flow k (t .0) (t .1 .0) (t .1 .1 .0) (t .1 .1 .1 .0) (t .1 .1 .1 .1 .0) (t .1 .1 .1 .1 .1 .0)
+  there : seek flow k ≡ accepted found
+  there = sym (c .before .before .before .seek .ensures) ∙ ap sought (c .before .target .given .1)
+
+  known : Standing flow k found
   known = sought-stands flow k there
 
-  -- the total that the change makes
-  abbrev total : ℕ
-  total = c .before .dispositions .given .0 .1 .0 - c .before .dispositions .given .0 .1 .1 .1 .1 .1 .0 + new
+  -- the totals that the change makes
+  abbrev made : Totals
+  made = totalsChanged found new
 
 seek-requires : tie.Need-seek-requires
 seek-requires c κs = search needs
 
-enum-known-number : tie.Need-enum-known-number
-enum-known-number c = search needs
+enum-known-refusal : tie.Need-enum-known-refusal
+enum-known-refusal c = search needs
 
-enum-known-dispositions : tie.Need-enum-known-dispositions
-enum-known-dispositions c = search needs
+enum-known-target : tie.Need-enum-known-target
+enum-known-target c = search needs
 
-refused-requires : tie.Need-refused-requires
-refused-requires c κs = search needs
+refusal-of-call-requires : tie.Need-refusal-of-call-requires
+refusal-of-call-requires c κs = search needs
 
 same-length : tie.Need-same-length
 same-length c = search needs
@@ -65,41 +72,41 @@ same-length c = search needs
 returns : tie.Need-returns
 returns c =
     let at = c .before .before in
-    left-unchanged (c .refused .result) (length (flow at)) (flow at) (c .refused .ensures) refl ∙ sym (change-so _ _ _ (there at) ∙ rw (lt-leb (new at) 9999999999999 (c .before .if1 .taken)))
+    left-unchanged (Refused (c .refusal-of-call .result)) (length (flow at)) (flow at) (ap refused (c .refusal-of-call .ensures)) refl ∙ sym (change-so _ _ _ (there at) ∙ rw (lt-leb (new at) 9999999999999 (c .before .if1 .taken)))
 
-sub-total : tie.Need-sub-total
-sub-total c = known (c .before) .share
+sub-t15 : tie.Need-sub-t15
+sub-t15 c = known (c .before .before .before .before .before) .share
 
-add-total : tie.Need-add-total
-add-total c = omega (arith, known (c .before) .share, known (c .before) .cents)
+add-t16 : tie.Need-add-t16
+add-t16 c = omega (arith, known (c .before .before .before .before .before) .share, known (c .before .before .before .before .before) .cents)
 
-refused-requires-2 : tie.Need-refused-requires-2
-refused-requires-2 c κs = search needs
+refusal-of-call-requires-2 : tie.Need-refusal-of-call-requires-2
+refusal-of-call-requires-2 c κs = search needs
 
 same-length-2 : tie.Need-same-length-2
 same-length-2 c = search needs
 
 returns-2 : tie.Need-returns-2
 returns-2 c =
-    let at = c .before .before .before in
-    left-unchanged (c .refused2 .result) (length (flow at)) (flow at) (c .refused2 .ensures) refl
-    ∙ sym (change-so _ _ _ (there at) ∙ rw (le-leb (new at) 9999999999999 (c .before .before .if1 .left), lt-leb (total at) 999999999999999 (c .before .if2 .taken)))
+    let at = c .before .before .before .before .before .before .before .before in
+    left-unchanged (Refused (c .refusal-of-call2 .result)) (length (flow at)) (flow at) (ap refused (c .refusal-of-call2 .ensures)) refl
+    ∙ sym (change-so _ _ _ (there at) ∙ rw (le-leb (new at) 9999999999999 (c .before .before .before .before .before .before .before .if1 .left), lt-leb (made at .cents) 999999999999999 (c .before .if2 .taken)))
 
 place-number-requires : tie.Need-place-number-requires
 place-number-requires c κs =
-    let s = known (c .before .before .before) in
+    let s = known (c .before .before .before .before .before .before .before .before) in
     omega (arith, s .starts, s .ends, s .size)
 
 place-number-requires-2 : tie.Need-place-number-requires-2
 place-number-requires-2 c κs =
-    let s = known (c .before .before .before .before .before .before .before) in
+    let s = known (c .before .before .before .before .before .before .before .before .before .before .before .before) in
     omega (arith, s .starts, s .ends, s .size)
 
 same-length-3 : tie.Need-same-length-3
 same-length-3 c = search needs
 
 returns-3 : tie.Need-returns-3
-returns-3 c = sym (refused-so _ _ _ (sym (c .before .before .before .seek .ensures) ∙ ap sought (c .before .number .given .1)))
+returns-3 c = sym (refused-so _ _ _ (sym (c .before .before .before .seek .ensures) ∙ ap sought (c .before .refusal .given .1)))
 
 same-length-4 : tie.Need-same-length-4
 same-length-4 c = search needs
@@ -107,26 +114,26 @@ same-length-4 c = search needs
 returns-4 : tie.Need-returns-4
 returns-4 c =
     let end = c .before .before .before .before .before .before .before .before in
-    let at = end .before .before in
-    let t = at .before .dispositions .given .0 in
+    let at = end .before .before .before .before .before .before .before in
+    let t = made at in
     let first = c .before .before .before .before .before .before .place-number .ensures in
-    let bytes : c .before .before .place-number2 .last .0 ≡ changed (t .1 .1 .1 .0) (new at) (t .1 .1 .0) (total at) (flow at) = c .before .before .place-number2 .ensures ∙ ap (written (t .1 .1 .0) 53 (digits 15 (total at))) first in
-    ap (λ (l : List ℕ). record { answer = accepted (t .0) (total at) (t .1 .1 .0); size = length (flow at); bytes = l }) bytes
-    ∙ sym (change-so _ _ _ (there at) ∙ rw (le-leb (new at) 9999999999999 (end .before .if1 .left), le-leb (total at) 999999999999999 (end .if2 .left)))
+    let bytes : c .before .before .place-number2 .last .0 ≡ changed (found at .stand .first) (new at) t (flow at) = c .before .before .place-number2 .ensures ∙ ap (written (t .records) 53 (digits 15 (t .cents))) first in
+    ap (λ (l : List ℕ). record { answer = accepted t; size = length (flow at); bytes = l }) bytes
+    ∙ sym (change-so _ _ _ (there at) ∙ rw (le-leb (new at) 9999999999999 (end .before .before .before .before .before .before .if1 .left), le-leb (t .cents) 999999999999999 (end .if2 .left)))
 
 pub change-spec : {M : Type 1} → statement M
 change-spec =
     tie.close
     (tie.spec
     seek-requires
-    enum-known-number
-    enum-known-dispositions
-    refused-requires
+    enum-known-refusal
+    enum-known-target
+    refusal-of-call-requires
     same-length
     returns
-    sub-total
-    add-total
-    refused-requires-2
+    sub-t15
+    add-t16
+    refusal-of-call-requires-2
     same-length-2
     returns-2
     place-number-requires

@@ -21,10 +21,10 @@ same-length c = search needs
 returns : tie.Need-returns
 returns c =
     let first = c .before .before .before .before .before .before .before .before .before .before in
-    let args = first .before .before .before .args in
+    let t = first .before .before .before .args .totals in
     let second = c .before .before .before .before .before .before .place-number2 .ensures in
     let third = c .before .before .place-number3 .ensures in
-    third ∙ ap (written (args .n) 83 (digits 7 (args .n))) (second ∙ ap (written (args .n) 53 (digits 15 (args .cents))) (first .place-number .ensures))
+    third ∙ ap (written (t .records) 83 (digits 7 (t .records))) (second ∙ ap (written (t .records) 53 (digits 15 (t .cents))) (first .place-number .ensures))
 
 pub recount-spec : {M : Type 1} → statement M
 recount-spec =

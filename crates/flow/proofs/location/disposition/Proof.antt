@@ -6,7 +6,9 @@ use native.Mathlib.Omega.{arith}
 use lib.ListN.{length}
 use borrow.Author.Needs.{needs}
 use Rattle.sequences.specs.Part.{part}
-use Rattle.flow.specs.Find.{Located, located, standing, refused, bytesAt, offsetAt, find}
+use Rattle.flow.specs.Find.{located, bytesAt, offsetAt, find}
+use Rattle.flow.specs.Verdict.{Verdict, accepted, refused}
+use Rattle.flow.specs.declared.location.Stand.{Stand}
 use Rattle.flow.proofs.Dispositions.{found-within}
 use Rattle.flow.proofs.location.disposition.Statement.{statement}
 use Rattle.flow.proofs.location.disposition.Tie as tie
@@ -14,43 +16,40 @@ use Rattle.flow.proofs.location.disposition.Tie as tie
 find-requires : tie.Need-find-requires
 find-requires c κs = search needs
 
-enum-known-first : tie.Need-enum-known-first
-enum-known-first c = search needs
+enum-known-stand : tie.Need-enum-known-stand
+enum-known-stand c = search needs
 
 -- what `find` has found
 module _ (c : tie.After-known-told) where
   abbrev flow : List ℕ
   flow = c .before .before .before .before .before .args .flow .now
 
-  abbrev first : ℕ
-  first = c .before .first .given .0 .0
+  abbrev stand : Stand
+  stand = c .before .stand .given .0 .0
 
-  abbrev records : ℕ
-  records = c .before .first .given .0 .1 .0
+  found : find flow (c .before .before .before .before .before .args .k) ≡ accepted stand
+  found = sym (c .before .before .before .find .ensures) ∙ ap located (c .before .stand .given .1)
 
-  found : find flow (c .before .before .before .before .before .args .k) ≡ standing first records (c .before .first .given .0 .1 .1 .0)
-  found = sym (c .before .before .before .find .ensures) ∙ ap located (c .before .first .given .1)
-
-  within : (1 ≤ first) × (120 * (first - 1 + records) + 120 ≤ length flow)
+  within : (1 ≤ stand .first) × (120 * (stand .first - 1 + stand .records) + 120 ≤ length flow)
   within = found-within flow _ found
 
 sub-index : tie.Need-sub-index
-sub-index c = omega (arith, within c)
+sub-index c = omega (arith, within (c .before))
 
 index-requires : tie.Need-index-requires
 index-requires c κs = search needs
 
 mul-result : tie.Need-mul-result
-mul-result c = omega (arith, within (c .before), c .index .ensures)
+mul-result c = omega (arith, within (c .before .before), c .index .ensures)
 
 index-requires-2 : tie.Need-index-requires-2
 index-requires-2 c κs = search needs
 
 add-result : tie.Need-add-result
-add-result c = omega (arith, within (c .before .before))
+add-result c = omega (arith, within (c .before .before .before))
 
 mul-result-2 : tie.Need-mul-result-2
-mul-result-2 c = omega (arith, within (c .before .before))
+mul-result-2 c = omega (arith, within (c .before .before .before))
 
 sub-result : tie.Need-sub-result
 sub-result c = search needs
@@ -59,16 +58,16 @@ part-result-start : tie.Need-part-result-start
 part-result-start c = search needs
 
 part-result-end : tie.Need-part-result-end
-part-result-end c = omega (arith, within (c .before .before))
+part-result-end c = omega (arith, within (c .before .before .before))
 
 returns : tie.Need-returns
 returns c =
-    let told = c .before .before .before in
+    let told = c .before .before .before .before in
     let from = c .before .before .index .result in
     let to = from + c .before .index2 .result in
-    let start : 120 * from ≡ 120 * (first told - 1) = ap (λ (n : ℕ). 120 * n) (c .before .before .index .ensures) in
-    let size : 120 * to - 120 * from ≡ 120 * records told = omega (arith, c .before .index2 .ensures) in
-    let bytes = ap₂ (λ (a n : ℕ). part a n (flow told)) start size ∙ sym (ap (λ (l : Located). bytesAt l (flow told)) (found told)) in
+    let start : 120 * from ≡ 120 * (stand told .first - 1) = ap (λ (n : ℕ). 120 * n) (c .before .before .index .ensures) in
+    let size : 120 * to - 120 * from ≡ 120 * stand told .records = omega (arith, c .before .index2 .ensures) in
+    let bytes = ap₂ (λ (a n : ℕ). part a n (flow told)) start size ∙ sym (ap (λ (l : Verdict Stand). bytesAt l (flow told)) (found told)) in
     let lent = told .before .before .before .before .before .args .flow in
     (bytes, (refl, ap (λ (n : ℕ). n + lent .ptr .1) (start ∙ sym (ap offsetAt (found told)))))
 
@@ -86,17 +85,17 @@ part-result-end-2 c = search needs
 
 returns-2 : tie.Need-returns-2
 returns-2 c =
-    let none : located (c .before .before .before .find .result) ≡ refused _ _ _ = ap located (c .before .enum-told .given .1) in
-    let refusal = sym (c .before .before .before .find .ensures) ∙ none in
+    let none : located (c .before .before .before .find .result) ≡ refused _ = ap located (c .before .enum-told .given .1) in
+    let wrong = sym (c .before .before .before .find .ensures) ∙ none in
     let lent = c .before .before .before .before .before .args .flow in
-    (sym (ap (λ (l : Located). bytesAt l (lent .now)) refusal), (refl, ap (λ (n : ℕ). n + lent .ptr .1) (sym (ap offsetAt refusal))))
+    (sym (ap (λ (l : Verdict Stand). bytesAt l (lent .now)) wrong), (refl, ap (λ (n : ℕ). n + lent .ptr .1) (sym (ap offsetAt wrong))))
 
 pub disposition-spec : {M : Type 1} → statement M
 disposition-spec =
     tie.close
     (tie.spec
     find-requires
-    enum-known-first
+    enum-known-stand
     sub-index
     index-requires
     mul-result

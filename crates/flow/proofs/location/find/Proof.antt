@@ -9,17 +9,17 @@ use Rattle.flow.proofs.location.find.Tie as tie
 seek-requires : tie.Need-seek-requires
 seek-requires c κs = search needs
 
-enum-known-number : tie.Need-enum-known-number
-enum-known-number c = search needs
+enum-known-refusal : tie.Need-enum-known-refusal
+enum-known-refusal c = search needs
 
-enum-known-first : tie.Need-enum-known-first
-enum-known-first c = search needs
+enum-known-target : tie.Need-enum-known-target
+enum-known-target c = search needs
 
 returns : tie.Need-returns
-returns c = sym (seek-exact _ _ .1 _ _ _ .0 (sym (c .before .before .before .seek .ensures) ∙ ap sought (c .before .number .given .1)))
+returns c = sym (seek-exact _ _ .1 _ .0 (sym (c .before .before .before .seek .ensures) ∙ ap sought (c .before .refusal .given .1)))
 
 returns-2 : tie.Need-returns-2
-returns-2 c = sym (sought-read _ _ (sym (c .before .before .before .seek .ensures) ∙ ap sought (c .before .first .given .1)) .1)
+returns-2 c = sym (sought-read _ _ (sym (c .before .before .before .before .seek .ensures) ∙ ap sought (c .before .before .target .given .1)) .1)
 
 pub find-spec : {M : Type 1} → statement M
-find-spec = tie.close (tie.spec seek-requires enum-known-number enum-known-first returns returns-2)
+find-spec = tie.close (tie.spec seek-requires enum-known-refusal enum-known-target returns returns-2)

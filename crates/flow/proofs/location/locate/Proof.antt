@@ -9,7 +9,7 @@ use borrow.Author.Needs.{needs}
 use Rattle.sequences.proofs.Part.{part-length}
 use Rattle.fields.specs.Digits.{number}
 use Rattle.records.specs.Field.{field}
-use Rattle.flow.specs.Find.{dispositionsIn, startsAt, standing}
+use Rattle.flow.specs.Find.{dispositionsIn, startsAt}
 use Rattle.flow.proofs.Dispositions.{Disposition, accepted-length, disposition-stands}
 use Rattle.flow.proofs.Cut.{record-part}
 use Rattle.flow.proofs.location.locate.Statement.{statement}
@@ -80,7 +80,7 @@ returns c =
     let end : c .before .before .before .before .next-opening .result ≡ at + length records = c .before .before .before .before .next-opening .ensures ∙ d .next in
     let size : c .count2 .result ≡ length records = c .count2 .ensures ∙ omega arith in
     let cents : c .before .before .amount .result ≡ number (field 34 46 (getD records 0 [])) = c .before .before .amount .ensures ∙ ap (λ (r : List ℕ). number (field 34 46 r)) (record-part at f ∙ sym (d .opening)) in
-    λ i. standing (first i) (size i) (cents i)
+    λ i. record { first = first i; records = size i; cents = cents i }
 
 pub locate-spec : {M : Type 1} → statement M
 locate-spec =

@@ -7,7 +7,8 @@ use lib.Dec.{leb}
 use borrow.Author.Needs.{needs}
 use borrow.Author.Tests.{not-true, not-false}
 use Rattle.flow.specs.Judge.{judge}
-use Rattle.flow.specs.Verdict.{accepted, verdict}
+use Rattle.flow.specs.Verdict.{accepted, refused, verdict}
+use Rattle.flow.specs.declared.answer.Totals.{Totals}
 use Rattle.flow.proofs.Dispositions.{stands}
 use Rattle.flow.proofs.Sought.{not-read, no-number, numbered}
 use Rattle.flow.proofs.location.seek.Statement.{statement}
@@ -16,16 +17,16 @@ use Rattle.flow.proofs.location.seek.Tie as tie
 read-requires : tie.Need-read-requires
 read-requires c κs = search needs
 
-enum-known-number : tie.Need-enum-known-number
-enum-known-number c = search needs
+enum-known-refusal : tie.Need-enum-known-refusal
+enum-known-refusal c = search needs
 
-enum-known-dispositions : tie.Need-enum-known-dispositions
-enum-known-dispositions c = search needs
+enum-known-totals : tie.Need-enum-known-totals
+enum-known-totals c = search needs
 
 is-number-requires : tie.Need-is-number-requires
 is-number-requires c κs = search needs
 
--- the flow is accepted with some count, and the test is whether k is a number up to it
+-- the flow is accepted with its totals, and the test is whether k is a number up to it
 module _ (c : tie.After-is-number) where
   abbrev flow : List ℕ
   flow = c .before .before .before .before .before .before .args .flow .now
@@ -33,23 +34,26 @@ module _ (c : tie.After-is-number) where
   abbrev k : ℕ
   k = c .before .before .before .before .before .before .args .k
 
-  abbrev count : ℕ
-  count = c .before .before .dispositions .given .0 .0
+  abbrev totals : Totals
+  totals = c .before .before .totals .given .0 .0
 
-  read : judge flow ≡ accepted count (c .before .before .dispositions .given .0 .1 .0) (c .before .before .dispositions .given .0 .1 .1 .0)
-  read = sym (c .before .before .before .before .read .ensures) ∙ ap verdict (c .before .before .dispositions .given .1)
+  read : judge flow ≡ accepted totals
+  read = sym (c .before .before .before .before .read .ensures) ∙ ap verdict (c .before .before .totals .given .1)
 
-  tested : (leb 1 k && leb k count) ≡ c .is-number .result
+  tested : (leb 1 k && leb k (totals .dispositions)) ≡ c .is-number .result
   tested = sym (c .is-number .ensures)
 
+refusal-of-call-requires : tie.Need-refusal-of-call-requires
+refusal-of-call-requires c κs = search needs
+
 returns : tie.Need-returns
-returns c = sym (no-number _ _ (read (c .before)) (tested (c .before) ∙ not-true _ (c .if1 .taken)))
+returns c = ap refused (c .refusal-of-call .ensures) ∙ sym (no-number _ _ (read (c .before .before)) (tested (c .before .before) ∙ not-true _ (c .before .if1 .taken)))
 
 locate-requires : tie.Need-locate-requires
 locate-requires c κs = stands _ _ (read (c .before)) (tested (c .before) ∙ not-false _ (c .if1 .left))
 
 returns-2 : tie.Need-returns-2
-returns-2 c = sym (not-read _ _ (sym (c .before .before .before .read .ensures) ∙ ap verdict (c .before .number .given .1)))
+returns-2 c = sym (not-read _ _ (sym (c .before .before .before .read .ensures) ∙ ap verdict (c .before .refusal .given .1)))
 
 returns-3 : tie.Need-returns-3
 returns-3 c = sym (numbered _ _ (read (c .before .before)) (tested (c .before .before) ∙ not-false _ (c .before .if1 .left)) (c .locate .ensures))
@@ -59,9 +63,10 @@ seek-spec =
     tie.close
     (tie.spec
     read-requires
-    enum-known-number
-    enum-known-dispositions
+    enum-known-refusal
+    enum-known-totals
     is-number-requires
+    refusal-of-call-requires
     returns
     locate-requires
     returns-2

@@ -23,7 +23,7 @@ stands : (c : tie.At-loop Inv-loop μ-loop) → Stands (c .before .before .args 
 stands c =
     let s = c .before .before .pre in
     let below = s .within in
-    record { dispositions = s .dispositions; cents = s .cents; records = s .records; read = s .read; some = c .loop .inv .0; within = omega arith }
+    record { totals = s .totals; read = s .read; some = c .loop .inv .0; within = omega arith }
 
 add-next-opening : tie.Need-add-next-opening Inv-loop μ-loop
 add-next-opening c =

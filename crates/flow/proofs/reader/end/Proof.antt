@@ -16,8 +16,8 @@ returns c =
     let none : isDue (permitted (c .before .before .args .walk .place .due)) ≡ false = not-true _ (sym (c .before .complete .ensures) ∙ c .if1 .taken) in
     rw none
 
-add-t4 : tie.Need-add-t4
-add-t4 c = search needs
+add-t5 : tie.Need-add-t5
+add-t5 c = search needs
 
 returns-2 : tie.Need-returns-2
 returns-2 c =
@@ -25,4 +25,4 @@ returns-2 c =
     rw (one, add-one)
 
 pub end-spec : {M : Type 1} → statement M
-end-spec = tie.close (tie.spec complete-requires returns add-t4 returns-2)
+end-spec = tie.close (tie.spec complete-requires returns add-t5 returns-2)

@@ -1,12 +1,13 @@
 -- `flow::read` meets its contract. Assumes nothing.
 use mathlib.Core.Bool.{true, false}
-use mathlib.Core.Path.{_≡_, sym, _∙_}
+use mathlib.Core.Path.{_≡_, sym, _∙_, ap}
 use native.Mathlib.Omega.{arith}
 use lib.ListN.{length}
 use borrow.Author.Needs.{needs}
 use borrow.Author.Tests.{not-true, not-false}
 use Rattle.flow.specs.Judge.{judge}
 use Rattle.flow.specs.Records.{isLength}
+use Rattle.flow.specs.Verdict.{refused}
 use Rattle.flow.proofs.Lengths.{length-said}
 use Rattle.flow.proofs.reader.read.Statement.{statement}
 use Rattle.flow.proofs.reader.read.Tie as tie
@@ -14,11 +15,14 @@ use Rattle.flow.proofs.reader.read.Tie as tie
 is-length-requires : tie.Need-is-length-requires
 is-length-requires c κs = search needs
 
+refusal-of-call-requires : tie.Need-refusal-of-call-requires
+refusal-of-call-requires c κs = search needs
+
 returns : tie.Need-returns
 unfolding judge
 returns c =
-    let wrong : isLength (length (c .before .before .before .args .flow .now)) ≡ false = sym (c .before .is-length .ensures) ∙ not-true _ (c .if1 .taken) in
-    rw wrong
+    let wrong : isLength (length (c .before .before .before .before .args .flow .now)) ≡ false = sym (c .before .before .is-length .ensures) ∙ not-true _ (c .before .if1 .taken) in
+    rw wrong (ap refused (c .refusal-of-call .ensures))
 
 sub-header : tie.Need-sub-header
 sub-header c = search needs
@@ -61,6 +65,7 @@ read-spec =
     tie.close
     (tie.spec
     is-length-requires
+    refusal-of-call-requires
     returns
     sub-header
     part-header-start

@@ -50,7 +50,7 @@ returns c =
     let first = second .before .before .before .before in
     let typed = first .before .before .before in
     let args = typed .before .before .before .args in
-    let all : Fills (trailerPlaced (args .copied .now) (args .dispositions) (args .cents) (args .records)) (args .rec .now) (seventh .place3 .last .0) =
+    let all : Fills (trailerPlaced (args .copied .now) (args .totals)) (args .rec .now) (seventh .place3 .last .0) =
     fills-place (first .place .ensures) (typed .type-of .ensures)
     (fills-place (second .place2 .ensures) refl
     (fills-place (third .place-number .ensures) refl

@@ -15,23 +15,25 @@ use Rattle.list.proofs.own_list.read_back.Tie as tie
 read-requires : tie.Need-read-requires
 read-requires c κs = search needs
 
-enum-known-number : tie.Need-enum-known-number
-enum-known-number c = search needs
+enum-known-refusal : tie.Need-enum-known-refusal
+enum-known-refusal c = search needs
 
 refused-requires : tie.Need-refused-requires
 refused-requires c κs = search needs
 
-enum-known-dispositions : tie.Need-enum-known-dispositions
-enum-known-dispositions c = search needs
+enum-known-totals : tie.Need-enum-known-totals
+enum-known-totals c = search needs
 
 -- the flow is accepted
 read :
-    (c : tie.After-known-told2) → let told = c .before .dispositions .given .0 in
-    judge (c .before .before .before .before .before .before .args .flow .now) ≡ accepted (told .0) (told .1 .0) (told .1 .1 .0)
-read c = sym (c .before .before .before .read .ensures) ∙ ap verdict (c .before .dispositions .given .1)
+    (c : tie.After-known-told2) → judge (c .before .before .before .before .before .before .args .flow .now) ≡ accepted (c .before .totals .given .0 .0)
+read c = sym (c .before .before .before .read .ensures) ∙ ap verdict (c .before .totals .given .1)
 
 list-length-requires : tie.Need-list-length-requires
 list-length-requires c κs = accepted-length _ (read c) .2
+
+refusal-of-call-requires : tie.Need-refusal-of-call-requires
+refusal-of-call-requires c κs = search needs
 
 refused-requires-2 : tie.Need-refused-requires-2
 refused-requires-2 c κs = search needs
@@ -39,11 +41,11 @@ refused-requires-2 c κs = search needs
 returns : tie.Need-returns
 unfolding readBack judgeRoom
 returns c =
-    let told = c .before .before .before in
+    let told = c .before .before .before .before in
     let a = told .before .before .before .before .before .before .args in
-    let short : leb (length (listOf (a .flow .now))) (length (a .out .now)) ≡ false = lt-leb _ _ (rw (c .before .before .list-length .ensures) at (c .before .if1 .taken)) in
+    let short : leb (length (listOf (a .flow .now))) (length (a .out .now)) ≡ false = lt-leb _ _ (rw (c .before .before .before .list-length .ensures) at (c .before .before .if1 .taken)) in
     let said = c .refused2 .ensures in
-    rw (read told, short) (λ i. record { answer = said .0 i; written = said .1 i; bytes = a .out .now })
+    rw (read told, short) (λ i. record { answer = (said .0 ∙ ap refused (c .before .refusal-of-call .ensures)) i; written = said .1 i; bytes = a .out .now })
 
 store-list-requires : tie.Need-store-list-requires
 store-list-requires c κs = search needs
@@ -58,8 +60,7 @@ returns-2 : tie.Need-returns-2
 unfolding readBack judgeRoom
 returns-2 c =
     let a = c .before .before .before .before .before .before .before .args in
-    let told = c .before .before .number .given .0 in
-    let wrong : judge (a .flow .now) ≡ refused (told .0) (told .1 .0) (told .1 .1 .0) = sym (c .before .before .before .before .read .ensures) ∙ ap verdict (c .before .before .number .given .1) in
+    let wrong : judge (a .flow .now) ≡ refused (c .before .before .refusal .given .0 .0) = sym (c .before .before .before .before .read .ensures) ∙ ap verdict (c .before .before .refusal .given .1) in
     let said = c .refused .ensures in
     rw wrong (λ i. record { answer = said .0 i; written = said .1 i; bytes = a .out .now })
 
@@ -74,7 +75,7 @@ returns-3 c =
     let size = c .before .before .before .before .before .before .before .list-length .ensures in
     let fits : leb (length (listOf (a .flow .now))) (length (a .out .now)) ≡ true = le-leb _ _ (rw size at (c .before .before .before .before .before .before .if1 .left)) in
     let said = c .accepted .ensures in
-    let written : c .accepted .result .length ≡ length (listOf (a .flow .now)) = said .1 ∙ c .before .number2 .ensures ∙ size in
+    let written : c .accepted .result .length ≡ length (listOf (a .flow .now)) = said .1 ∙ c .before .number .ensures ∙ size in
     rw (read told, fits) (λ i. record { answer = said .0 i; written = written i; bytes = c .before .before .before .before .store-list .ensures i })
 
 pub read-back-spec : {M : Type 1} → statement M
@@ -82,10 +83,11 @@ read-back-spec =
     tie.close
     (tie.spec
     read-requires
-    enum-known-number
+    enum-known-refusal
     refused-requires
-    enum-known-dispositions
+    enum-known-totals
     list-length-requires
+    refusal-of-call-requires
     refused-requires-2
     returns
     store-list-requires

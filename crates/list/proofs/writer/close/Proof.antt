@@ -1,12 +1,13 @@
 -- `list::close` meets its contract. Assumes nothing.
 use mathlib.Core.Bool.{true, false}
-use mathlib.Core.Path.{_≡_, sym, _∙_}
+use mathlib.Core.Path.{_≡_, sym, _∙_, ap}
 use native.Mathlib.Numerals.{add-one}
 use native.Mathlib.Omega.{arith}
 use lib.Dec.{leb}
 use borrow.Author.Needs.{needs}
 use borrow.Author.Tests.{not-true, not-false, le-leb, lt-leb}
 use Rattle.flow.specs.Order.{permitted, mayClose}
+use Rattle.flow.specs.Verdict.{refused}
 use Rattle.list.proofs.writer.close.Statement.{statement}
 use Rattle.list.proofs.writer.close.Tie as tie
 
@@ -21,14 +22,17 @@ returns c =
     let shut : mayClose (permitted (c .before .before .args .walk .place .due)) ≡ false = sym (c .before .may-close .ensures) ∙ not-true _ (c .if1 .taken) in
     rw (shut, add-one)
 
+refusal-of-call-requires : tie.Need-refusal-of-call-requires
+refusal-of-call-requires c κs = search needs
+
 returns-2 : tie.Need-returns-2
 returns-2 c =
-    let due : mayClose (permitted (c .before .before .before .before .args .walk .place .due)) ≡ true = sym (c .before .before .before .may-close .ensures) ∙ not-false _ (c .before .before .if1 .left) in
-    let over : leb (c .before .before .before .before .args .walk .cents) 999999999999999 ≡ false = lt-leb (c .before .before .before .before .args .walk .cents) 999999999999999 (omega (arith, c .if2 .taken)) in
-    rw (due, over)
+    let due : mayClose (permitted (c .before .before .before .before .before .args .walk .place .due)) ≡ true = sym (c .before .before .before .before .may-close .ensures) ∙ not-false _ (c .before .before .before .if1 .left) in
+    let over : leb (c .before .before .before .before .before .args .walk .cents) 999999999999999 ≡ false = lt-leb (c .before .before .before .before .before .args .walk .cents) 999999999999999 (omega (arith, c .before .if2 .taken)) in
+    rw (due, over) (ap refused (c .refusal-of-call .ensures))
 
-add-t6 : tie.Need-add-t6
-add-t6 c = search needs
+add-t8 : tie.Need-add-t8
+add-t8 c = search needs
 
 returns-3 : tie.Need-returns-3
 returns-3 c =
@@ -37,4 +41,5 @@ returns-3 c =
     rw (due, small, add-one)
 
 pub close-spec : {M : Type 1} → statement M
-close-spec = tie.close (tie.spec may-close-requires add-t5 returns returns-2 add-t6 returns-3)
+close-spec =
+    tie.close (tie.spec may-close-requires add-t5 returns refusal-of-call-requires returns-2 add-t8 returns-3)

@@ -21,11 +21,11 @@ use Rattle.list.proofs.writer.store_items.Statement.{statement}
 use Rattle.list.proofs.writer.store_items.Tie as tie
 
 abbrev Inv-loop : tie.InvT-loop
-Inv-loop list out₀ count cents header₀ dispositions₀ n₀ at₀ out header dispositions n j =
+Inv-loop list out₀ totals header₀ dispositions₀ n₀ at₀ out header dispositions n j =
     (j ≤ length list) × (length (itemsIn list) ≤ 9999998) × (length out ≡ length out₀) × StoringAt list (put 0 (encode (itemsIn list)) out₀) j n dispositions header out
 
 abbrev μ-loop : tie.MeasureT-loop
-μ-loop list out₀ count cents header₀ dispositions₀ n₀ at₀ out header dispositions n j = length list - j
+μ-loop list out₀ totals header₀ dispositions₀ n₀ at₀ out header dispositions n j = length list - j
 
 sub-header : tie.Need-sub-header Inv-loop μ-loop
 sub-header c = search needs
@@ -148,49 +148,42 @@ loop-again c =
       subst (λ (A : Type 0). A) (λ j. StoringAt list (put 0 (encode (itemsIn list)) (l .before .before .before .before .args .out .now)) (end j) (sym (add-one (l .loop .n)) j) (number j) (meant j) (sym stored j)) (storing-on (l .loop .inv .3) (c .before .before .before .before .before .before .before .before .before .before .before .before .loop-test .taken)),
     )
 
-add-number : tie.Need-add-number Inv-loop μ-loop
-add-number c = omega (arith, few-so (c .before) .1)
-
-number-requires : tie.Need-number-requires Inv-loop μ-loop
-number-requires c κs = search needs
-
 encode-trailer-requires : tie.Need-encode-trailer-requires Inv-loop μ-loop
 encode-trailer-requires c κs = search needs
 
 mul-place-2 : tie.Need-mul-place-2 Inv-loop μ-loop
-mul-place-2 c = omega (arith, few-so (c .before .before .before .before) .1)
+mul-place-2 c = omega (arith, few-so (c .before .before .before) .1)
 
 add-place-2 : tie.Need-add-place-2 Inv-loop μ-loop
-add-place-2 c = omega (arith, few-so (c .before .before .before .before) .1)
+add-place-2 c = omega (arith, few-so (c .before .before .before) .1)
 
 slice-aggregate-place-2 : tie.Need-slice-aggregate-place-2 Inv-loop μ-loop
 slice-aggregate-place-2 c = search needs
 
 trailer-sized : (c : tie.After-encode-trailer Inv-loop μ-loop) → length (c .encode-trailer .result) ≡ 120
-trailer-sized c = ap length (c .encode-trailer .ensures) ∙ trailer-length _ _ _ _
+trailer-sized c = ap length (c .encode-trailer .ensures) ∙ trailer-length _ _
 
 place-requires-2 : tie.Need-place-requires-2 Inv-loop μ-loop
-place-requires-2 c κs = (omega arith, omega (arith, trailer-sized (c .before .before), room-so (c .before .before .before .before .before)))
+place-requires-2 c κs = (omega arith, omega (arith, trailer-sized (c .before .before), room-so (c .before .before .before .before)))
 
 -- EF behind the last record
-last-stored : (c : tie.After-place2 Inv-loop μ-loop) → let l = c .before .before .before .before .before .before in c .place2 .last .0 ≡ put (120 * l .loop .n) (c .before .before .before .encode-trailer .result) (l .loop .out)
+last-stored : (c : tie.After-place2 Inv-loop μ-loop) → let l = c .before .before .before .before .before in c .place2 .last .0 ≡ put (120 * l .loop .n) (c .before .before .before .encode-trailer .result) (l .loop .out)
 last-stored c =
-    let l = c .before .before .before .before .before .before in
+    let l = c .before .before .before .before .before in
     let index : 120 * l .loop .n + 1 - 1 ≡ 120 * l .loop .n = omega arith in
     c .place2 .ensures ∙ ap (λ (m : ℕ). put m (c .before .before .before .encode-trailer .result) (l .loop .out)) index
 
 same-length : tie.Need-same-length Inv-loop μ-loop
 same-length c =
-    let l = c .before .before .before .before .before .before .before .before in
+    let l = c .before .before .before .before .before .before .before in
     ap length (last-stored (c .before .before)) ∙ put-length (120 * l .loop .n) (c .before .before .before .before .before .encode-trailer .result) (l .loop .out) (omega (arith, trailer-sized (c .before .before .before .before .before), room-so l)) ∙ l .loop .inv .2
 
 returns : tie.Need-returns Inv-loop μ-loop
 returns c =
-    let l = c .before .before .before .before .before .before .before .before in
+    let l = c .before .before .before .before .before .before .before in
     let pre = l .before .before .before .before .pre in
-    let ends = storing-ends (l .loop .inv .3) (c .before .before .before .before .before .before .before .loop-test .left) in
-    let records : c .before .before .before .before .before .before .number .result ≡ suc (length (itemsIn (list-of l))) = c .before .before .before .before .before .before .number .ensures ∙ add-one (l .loop .n) ∙ ap suc (ends .0) in
-    let trailer : c .before .before .before .before .before .encode-trailer .result ≡ trailerFor (itemsIn (list-of l)) = c .before .before .before .before .before .encode-trailer .ensures ∙ (λ j. encodeTrailer (ends .1 j) (pre .1 .1 .0 j) (pre .1 .1 .1 j) (records j)) in
+    let ends = storing-ends (l .loop .inv .3) (c .before .before .before .before .before .before .loop-test .left) in
+    let trailer : c .before .before .before .before .before .encode-trailer .result ≡ trailerFor (itemsIn (list-of l)) = c .before .before .before .before .before .encode-trailer .ensures ∙ (λ j. encodeTrailer (ends .1 j) (pre .1 .1 j)) in
     last-stored (c .before .before) ∙ ap (λ (rec : List ℕ). put (120 * l .loop .n) rec (l .loop .out)) trailer ∙ ends .2
 
 pub store-items-spec : {M : Type 1} → statement M
@@ -222,8 +215,6 @@ store-items-spec =
     add-n
     loop-less
     loop-again
-    add-number
-    number-requires
     encode-trailer-requires
     mul-place-2
     add-place-2

@@ -6,7 +6,8 @@ use native.Mathlib.Omega.{arith}
 use lib.ListN.{length}
 use borrow.Author.Needs.{needs}
 use Rattle.sequences.specs.All.{All}
-use Rattle.flow.specs.Verdict.{accepted, refused, verdict}
+use Rattle.flow.specs.Verdict.{accepted, refused, verdict, refusal, ofCall}
+use Rattle.flow.specs.declared.answer.Totals.{Totals}
 use Rattle.list.specs.Encode.{encode}
 use Rattle.list.specs.Items.{Proper, items, parse, itemsIn, Listed}
 use Rattle.list.specs.Laws.{Fitting, no-item, too-many, no-room}
@@ -41,16 +42,19 @@ out-of c = c .before .before .before .before .before .before .args .out .now
 counted-so : (c : tie.After-known-told2) → (parse (list-of c) ≡ items (itemsIn (list-of c))) × (length (itemsIn (list-of c)) ≡ c .before .items .given .0 .0)
 counted-so c = items-counted (parse (list-of c)) _ (sym (c .before .before .before .count-items .ensures) ∙ c .before .items .given .1)
 
+refusal-of-call-requires : tie.Need-refusal-of-call-requires
+refusal-of-call-requires c κs = search needs
+
 refused-requires-2 : tie.Need-refused-requires-2
 refused-requires-2 c κs = search needs
 
 returns : tie.Need-returns
 returns c =
-    let told = c .before .before in
+    let told = c .before .before .before in
     let list = list-of told in
     let room = length (out-of told) in
     let items-so = counted-so told in
-    write-refuses list (out-of told) (c .refused2 .result) 1 0 0 (write-refused list room 1 0 0 .1 (too-many (itemsIn list) (items-so .0) (omega (arith, items-so .1, c .before .if1 .taken)))) (c .refused2 .ensures)
+    write-refuses list (out-of told) (c .refused2 .result) (ofCall 1) (write-refused list room (ofCall 1) .1 (too-many (itemsIn list) (items-so .0) (omega (arith, items-so .1, c .before .before .if1 .taken)))) (c .refused2 .ensures .0 ∙ ap refused (c .before .refusal-of-call .ensures), c .refused2 .ensures .1)
 
 add-if2 : tie.Need-add-if2
 add-if2 c = search needs
@@ -58,16 +62,19 @@ add-if2 c = search needs
 mul-if2 : tie.Need-mul-if2
 mul-if2 c = search needs
 
+refusal-of-call-requires-2 : tie.Need-refusal-of-call-requires-2
+refusal-of-call-requires-2 c κs = search needs
+
 refused-requires-3 : tie.Need-refused-requires-3
 refused-requires-3 c κs = search needs
 
 returns-2 : tie.Need-returns-2
 returns-2 c =
-    let told = c .before .before .before in
+    let told = c .before .before .before .before in
     let list = list-of told in
     let room = length (out-of told) in
     let items-so = counted-so told in
-    write-refuses list (out-of told) (c .refused3 .result) 21 0 0 (write-refused list room 21 0 0 .1 (no-room (itemsIn list) (items-so .0) (omega (arith, items-so .1, c .before .before .if1 .left)) (omega (arith, items-so .1, c .before .if2 .taken)))) (c .refused3 .ensures)
+    write-refuses list (out-of told) (c .refused3 .result) (ofCall 21) (write-refused list room (ofCall 21) .1 (no-room (itemsIn list) (items-so .0) (omega (arith, items-so .1, c .before .before .before .if1 .left)) (omega (arith, items-so .1, c .before .before .if2 .taken)))) (c .refused3 .ensures .0 ∙ ap refused (c .before .refusal-of-call2 .ensures), c .refused3 .ensures .1)
 
 -- where there is room for them
 fitting : (c : tie.Else2) → let told = c .before .before in Fitting (list-of told) (length (out-of told)) (itemsIn (list-of told))
@@ -81,37 +88,36 @@ listed c = let f = fitting c in record { said = f .said; few = omega (arith, f .
 judge-items-requires : tie.Need-judge-items-requires
 judge-items-requires c κs = listed c
 
-enum-known-number : tie.Need-enum-known-number
-enum-known-number c = search needs
+enum-known-refusal : tie.Need-enum-known-refusal
+enum-known-refusal c = search needs
 
 refused-requires-4 : tie.Need-refused-requires-4
 refused-requires-4 c κs = search needs
 
-enum-known-dispositions : tie.Need-enum-known-dispositions
-enum-known-dispositions c = search needs
+enum-known-totals : tie.Need-enum-known-totals
+enum-known-totals c = search needs
 
 -- and they are accepted
 told-so :
-    (c : tie.After-known-told4) → let list = list-of (c .before .before .before .before .before .before) in let told = c .before .dispositions .given .0 in
-    judgeItems (itemsIn list) ≡ accepted (told .0) (told .1 .0) (told .1 .1 .0)
-told-so c = sym (c .before .before .before .judge-items .ensures) ∙ ap verdict (c .before .dispositions .given .1)
+    (c : tie.After-known-told4) → judgeItems (itemsIn (list-of (c .before .before .before .before .before .before))) ≡ accepted (c .before .totals .given .0 .0)
+told-so c = sym (c .before .before .before .judge-items .ensures) ∙ ap verdict (c .before .totals .given .1)
 
 proper-so : (c : tie.After-known-told4) → All Proper (itemsIn (list-of (c .before .before .before .before .before .before)))
 proper-so c = let list = list-of (c .before .before .before .before .before .before) in items-exact list (itemsIn list) .0 (fitting (c .before .before .before .before) .said) .1
 
-accepted-so : (c : tie.After-known-told4) → let told = c .before .dispositions .given .0 in AcceptedItems (itemsIn (list-of (c .before .before .before .before .before .before))) (told .0) (told .1 .0) (told .1 .1 .0)
-accepted-so c = accepted-items (itemsIn (list-of (c .before .before .before .before .before .before))) (proper-so c) _ _ _ (told-so c)
+accepted-so : (c : tie.After-known-told4) → AcceptedItems (itemsIn (list-of (c .before .before .before .before .before .before))) (c .before .totals .given .0 .0)
+accepted-so c = accepted-items (itemsIn (list-of (c .before .before .before .before .before .before))) (proper-so c) _ (told-so c)
 
 store-items-requires : tie.Need-store-items-requires
 store-items-requires c κs =
     let told = c .before in
     let so = accepted-so told in
-    (listed (told .before .before .before .before), (fitting (told .before .before .before .before) .roomy, (sym (so .dispositions), sym (so .cents))))
+    (listed (told .before .before .before .before), (fitting (told .before .before .before .before) .roomy, sym (so .told)))
 
 mul-accepted : tie.Need-mul-accepted
 mul-accepted c =
-    let told = c .before .before .before .before in
-    omega (arith, accepted-so told .records, fitting (told .before .before .before .before) .few)
+    let told = c .before .before .before .before .before in
+    omega (arith, ap (λ (t : Totals). t .records) (accepted-so told .told), fitting (told .before .before .before .before) .few)
 
 accepted-requires : tie.Need-accepted-requires
 accepted-requires c κs = search needs
@@ -122,29 +128,28 @@ returns-3 c =
     let list = a .list .now in
     let number = c .before .before .n .given .0 .0 in
     let said = faulty-counted (parse list) number (sym (c .before .before .before .before .count-items .ensures) ∙ c .before .before .n .given .1) in
-    write-refuses list (a .out .now) (c .refused .result) 20 number 0 (write-refused list (length (a .out .now)) 20 number 0 .1 (no-item number (faulty-exact list number .0 said))) (c .refused .ensures)
+    write-refuses list (a .out .now) (c .refused .result) (refusal 20 number 0) (write-refused list (length (a .out .now)) (refusal 20 number 0) .1 (no-item number (faulty-exact list number .0 said))) (c .refused .ensures)
 
 returns-4 : tie.Need-returns-4
 returns-4 c =
     let e = c .before .before .before .before .before in
     let told = e .before .before in
     let list = list-of told in
-    let number = c .before .before .number .given .0 in
-    let wrong : judgeItems (itemsIn list) ≡ refused (number .0) (number .1 .0) (number .1 .1 .0) = sym (c .before .before .before .before .judge-items .ensures) ∙ ap verdict (c .before .before .number .given .1) in
-    write-refuses list (out-of told) (c .refused4 .result) _ _ _ (fitting-judged list (length (out-of told)) (itemsIn list) (fitting e) ∙ wrong) (c .refused4 .ensures)
+    let wrong : judgeItems (itemsIn list) ≡ refused (c .before .before .refusal .given .0 .0) = sym (c .before .before .before .before .judge-items .ensures) ∙ ap verdict (c .before .before .refusal .given .1) in
+    write-refuses list (out-of told) (c .refused4 .result) _ (fitting-judged list (length (out-of told)) (itemsIn list) (fitting e) ∙ wrong) (c .refused4 .ensures)
 
 same-length : tie.Need-same-length
 same-length c = search needs
 
 returns-5 : tie.Need-returns-5
 returns-5 c =
-    let told = c .before .before .before .before .before in
+    let told = c .before .before .before .before .before .before in
     let list = list-of (told .before .before .before .before .before .before) in
     let out = out-of (told .before .before .before .before .before .before) in
     let so = accepted-so told in
     let said = c .accepted .ensures in
-    let size : c .accepted .result .length ≡ length (encode (itemsIn list)) = said .1 ∙ ap (λ (m : ℕ). 120 * m) (sym (so .records)) ∙ sym (encode-length (itemsIn list) (proper-so told)) in
-    write-accepts list out _ (c .accepted .result) _ _ _ (fitting-judged list (length out) (itemsIn list) (fitting (told .before .before .before .before)) ∙ told-so told) (said .0, size) (c .before .before .before .store-items .ensures)
+    let size : c .accepted .result .length ≡ length (encode (itemsIn list)) = said .1 ∙ ap (λ (t : Totals). 120 * t .records) (sym (so .told)) ∙ sym (encode-length (itemsIn list) (proper-so told)) in
+    write-accepts list out _ (c .accepted .result) _ (fitting-judged list (length out) (itemsIn list) (fitting (told .before .before .before .before)) ∙ told-so told) (said .0, size) (c .before .before .before .before .store-items .ensures)
 
 pub write-spec : {M : Type 1} → statement M
 write-spec =
@@ -154,16 +159,18 @@ write-spec =
     enum-known-n
     refused-requires
     enum-known-items
+    refusal-of-call-requires
     refused-requires-2
     returns
     add-if2
     mul-if2
+    refusal-of-call-requires-2
     refused-requires-3
     returns-2
     judge-items-requires
-    enum-known-number
+    enum-known-refusal
     refused-requires-4
-    enum-known-dispositions
+    enum-known-totals
     store-items-requires
     mul-accepted
     accepted-requires
