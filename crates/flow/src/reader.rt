@@ -5,7 +5,7 @@ ghost use mathlib.Core.List.{[]};
 ghost use mathlib.Core.Path.{_≡_};
 ghost use lib.ListN.{length};
 ghost use denote.Ref.{ptr};
-ghost use Rattle.records.specs.Context.{headed};
+ghost use Rattle.records.specs.Context.{headerOf};
 ghost use Rattle.flow.specs.Judge.{ended, go};
 ghost use Rattle.flow.specs.Records.{isLength, recordsOf};
 ghost use Rattle.flow.specs.Judge.{judge as Judge·judge};
@@ -37,14 +37,7 @@ pub fn read(flow: &[u8]) -> Answer
         return Answer::Refused(refusal_of_call(WRONG_LENGTH));
     }
     let header = &flow[0..120];
-    read_records(
-        flow,
-        field(header, 4, 8),
-        field(header, 9, 13),
-        field(header, 14, 19),
-        field(header, 20, 39),
-        field(header, 114, 114),
-    )
+    read_records(flow, header)
 }
 
 fn is_length(n: usize) -> bool
@@ -59,18 +52,11 @@ fn is_length(n: usize) -> bool
     n <= MOST
 }
 
-// Each record in turn, with the header's fields: by the rules, and then those that are passed over.
-fn read_records(
-    flow: &[u8],
-    mittente: &[u8],
-    abi: &[u8],
-    date: &[u8],
-    name: &[u8],
-    currency: &[u8],
-) -> Answer
+// Each record in turn, with the header: by the rules, and then those that are passed over.
+fn read_records(flow: &[u8], header: &[u8]) -> Answer
     requires { ⌜ isLength (length (now flow)) ≡ true ⌝ }
     ensures { λ r. ⌜ verdict r ≡ go ended
-        (headed (now (mittente .entry)) (now (abi .entry)) (now (date .entry)) (now (name .entry)) (now (currency .entry)))
+        (headerOf (now (header .entry)))
         start [] 0 (recordsOf (now (flow .entry))) ⌝ }
 {
     let mut walk = Walk::start();
@@ -79,7 +65,7 @@ fn read_records(
     while i < flow.len() / 120 {
         let rec = &flow[120 * i..120 * i + 120];
         let n = count(i + 1);
-        match walk.judge(rec, n, mittente, abi, date, name, currency, company) {
+        match walk.judge(rec, n, header, company) {
             Judged::Refused(number, position) => {
                 return Answer::Refused(Refusal {
                     number,

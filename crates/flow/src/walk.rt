@@ -2,7 +2,7 @@
 ghost use Prim.Native.Nat.{_+_, min};
 ghost use mathlib.Core.Bool.{false, not};
 ghost use mathlib.Core.Path.{_≡_};
-ghost use Rattle.records.specs.Context.{headed};
+ghost use Rattle.records.specs.Context.{headerOf};
 ghost use Rattle.records.specs.Finding.{finding};
 ghost use Rattle.records.specs.Kinds.{opens};
 ghost use Rattle.records.specs.Limits.{countLimit};
@@ -52,23 +52,12 @@ impl Walk {
         }
     }
 
-    // The first fault of the flow's n-th record, or its kind and cents. The header's fields are those
-    // of the flow's IM, and `company` is the latest company code present, blank or empty where there
-    // is none.
-    pub fn judge(
-        self,
-        rec: &[u8],
-        n: u64,
-        mittente: &[u8],
-        abi: &[u8],
-        date: &[u8],
-        name: &[u8],
-        currency: &[u8],
-        company: &[u8],
-    ) -> Judged
+    // The first fault of the flow's n-th record, or its kind and cents. `header` is the flow's IM, and
+    // what stands elsewhere in it than `headerOf` names may be anything; `company` is the latest company
+    // code present, blank or empty where there is none.
+    pub fn judge(self, rec: &[u8], n: u64, header: &[u8], company: &[u8]) -> Judged
         ensures { λ r. ⌜ finding r ≡ judgeRecord
-            (headed (now (mittente .entry)) (now (abi .entry)) (now (date .entry)) (now (name .entry)) (now (currency .entry)))
-            self (now (company .entry)) n (now (rec .entry)) ⌝ }
+            (headerOf (now (header .entry))) self (now (company .entry)) n (now (rec .entry)) ⌝ }
     {
         if rec.len() != 120 {
             return Judged::Refused(WRONG_LENGTH, 0);
@@ -86,17 +75,7 @@ impl Walk {
                     cents: self.cents,
                     records: n,
                 };
-                records::judge(
-                    rec,
-                    kind,
-                    counts,
-                    mittente,
-                    abi,
-                    date,
-                    name,
-                    currency,
-                    company,
-                )
+                records::judge(rec, kind, counts, header, company)
             }
             Found::Missing => Judged::Refused(WRONG_TYPE, 2),
         }

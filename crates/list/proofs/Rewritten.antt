@@ -17,7 +17,7 @@ use Rattle.sequences.proofs.Flatten.{flatten-append}
 use Rattle.sequences.proofs.Part.{part-length, part-put}
 use Rattle.fields.specs.Digits.{number}
 use Rattle.records.specs.Checked.{checked, Alike}
-use Rattle.records.specs.Context.{Header, headerOf, headed}
+use Rattle.records.specs.Context.{Header, headerOf}
 use Rattle.records.specs.Field.{field}
 use Rattle.records.specs.Kinds.{typeOf, heads, opened, closes}
 use Rattle.records.specs.declared.kind.Kind.{Kind}
@@ -217,7 +217,13 @@ module _ (f : List ℕ) (t : Totals) (g : Grammar f t) where
   header-again =
       let first : take 120 (front own) ≡ im-again = take-at im-again _ 120 (again-walked-all .0 .formed .whole) in
       let a = im-alike in
-      ap headerOf first ∙ (λ i. headed (sym (a .1 .0) i) (sym (a .1 .1 .0) i) (sym (a .1 .1 .1 .0) i) (sym (a .1 .1 .1 .1 .0) i) (sym (a .1 .1 .1 .1 .1 .1 .0) i)) ∙ ap headerOf (sym im-first)
+      ap headerOf first ∙ (λ i. record {
+        mittente = sym (a .1 .0) i;
+        abi = sym (a .1 .1 .0) i;
+        date = sym (a .1 .1 .1 .0) i;
+        name = sym (a .1 .1 .1 .1 .0) i;
+        currency = sym (a .1 .1 .1 .1 .1 .1 .0) i;
+      }) ∙ ap headerOf (sym im-first)
 
   abbrev right-items : RightItems own
   right-items = record { typed = again; same = again-records; walked = subst (λ (x : Header). Walked x start [] 0 again) (sym header-again) again-walked-all }

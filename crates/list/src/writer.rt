@@ -5,7 +5,7 @@ ghost use mathlib.Core.List.{[], flatten};
 ghost use mathlib.Core.Path.{_≡_};
 ghost use lib.ListN.{length, take};
 ghost use Rattle.sequences.specs.Part.{put};
-ghost use Rattle.records.specs.Context.{headed};
+ghost use Rattle.records.specs.Context.{headerOf};
 ghost use Rattle.records.specs.Kinds.{heads, opened};
 ghost use Rattle.flow.specs.Judge.{go};
 ghost use Rattle.flow.specs.Steps.{start};
@@ -86,14 +86,7 @@ fn judge_items(list: &[u8]) -> Answer
         return close(Walk::start(), 0);
     }
     let header = first_record(list);
-    judge_records(
-        list,
-        field(&header, 4, 8),
-        field(&header, 9, 13),
-        field(&header, 14, 19),
-        field(&header, 20, 39),
-        field(&header, 114, 114),
-    )
+    judge_records(list, &header)
 }
 
 // The record of the first item.
@@ -107,18 +100,11 @@ fn first_record(list: &[u8]) -> [u8; 120]
     encode_item(kind, counted(0, kind), &list[0..0], body)
 }
 
-// Each record in turn, built and judged, with the header's fields.
-fn judge_records(
-    list: &[u8],
-    mittente: &[u8],
-    abi: &[u8],
-    date: &[u8],
-    name: &[u8],
-    currency: &[u8],
-) -> Answer
+// Each record in turn, built and judged, with the flow's header.
+fn judge_records(list: &[u8], im: &[u8]) -> Answer
     requires { ⌜ Listed (now list) ⌝ }
     ensures { λ r. ⌜ verdict r ≡ go closed
-        (headed (now (mittente .entry)) (now (abi .entry)) (now (date .entry)) (now (name .entry)) (now (currency .entry)))
+        (headerOf (now (im .entry)))
         start [] 0 (recordsFor (itemsIn (now (list .entry)))) ⌝ }
 {
     let mut walk = Walk::start();
@@ -134,7 +120,7 @@ fn judge_records(
         dispositions = counted(dispositions, kind);
         let rec = encode_item(kind, dispositions, header, body);
         n += 1;
-        match walk.judge(&rec, n, mittente, abi, date, name, currency, company) {
+        match walk.judge(&rec, n, im, company) {
             Judged::Refused(number, position) => {
                 return Answer::Refused(Refusal {
                     number,

@@ -12,13 +12,9 @@ pub record Header : Type 0 where
   pub name : List ℕ
   pub currency : List ℕ
 
--- a header by its fields
-abbrev pub headed : List ℕ → List ℕ → List ℕ → List ℕ → List ℕ → Header
-headed mittente abi date name currency = record { mittente = mittente; abi = abi; date = date; name = name; currency = currency }
-
--- the fields as they stand in record IM
+-- the fields as they stand in record IM, whatever else stands in it
 abbrev pub headerOf : List ℕ → Header
-headerOf rec = headed (field 4 8 rec) (field 9 13 rec) (field 14 19 rec) (field 20 39 rec) (field 114 114 rec)
+headerOf rec = record { mittente = field 4 8 rec; abi = field 9 13 rec; date = field 14 19 rec; name = field 20 39 rec; currency = field 114 114 rec }
 
 -- the header; the latest company code present, blank or empty where there is none; and the counts: dispositions up to and with this
 -- record, the cents of the amounts before it, records up to and with it

@@ -3,6 +3,7 @@ ghost use mathlib.Core.Path.{_≡_};
 ghost use mathlib.Core.List.{_++_};
 ghost use lib.ListN.{length};
 ghost use Rattle.records.specs.Checks.{numberChecks, coordinatesChecks};
+ghost use Rattle.records.specs.Context.{headerOf};
 ghost use Rattle.records.specs.Finding.{right, firstFault, finding};
 ghost use Rattle.records.specs.declared.kind.Kind.the-variants.{R16};
 use crate::constants::ABSENT;
@@ -16,15 +17,15 @@ use crate::rules::blank;
 use crate::rules::digits;
 use crate::rules::digits_equal_to;
 use crate::rules::either;
-use crate::rules::equal_to_header;
+use crate::rules::equal_to_abi;
 use crate::rules::same;
 use fields::NOT_DIGITS;
 use fields::Number;
 
-pub(crate) fn judge_coordinates(rec: &[u8], n: u64, abi: &[u8]) -> Judged
+pub(crate) fn judge_coordinates(rec: &[u8], n: u64, header: &[u8]) -> Judged
     requires { ⌜ length (now rec) ≡ 120 ⌝ }
     ensures { λ r. ⌜ finding r ≡ firstFault
-        (numberChecks n (now (rec .entry)) ++ coordinatesChecks (now (abi .entry)) (now (rec .entry)))
+        (numberChecks n (now (rec .entry)) ++ coordinatesChecks (headerOf (now (header .entry)) .abi) (now (rec .entry)))
         (right R16 0) ⌝ }
 {
     if let Number::Refused(number) = digits_equal_to(rec, 4, 10, n, WRONG_NUMBER) {
@@ -39,7 +40,7 @@ pub(crate) fn judge_coordinates(rec: &[u8], n: u64, abi: &[u8]) -> Judged
     if blank(rec, 15, 15) {
         return Judged::Refused(ABSENT, 15);
     }
-    if let Number::Refused(number) = equal_to_header(rec, 16, 20, abi) {
+    if let Number::Refused(number) = equal_to_abi(rec, 16, 20, header) {
         return Judged::Refused(number, 16);
     }
     if let Number::Refused(number) = above_zero(rec, 21, 25) {

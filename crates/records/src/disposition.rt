@@ -4,6 +4,7 @@ ghost use mathlib.Core.List.{_++_};
 ghost use lib.ListN.{length};
 ghost use Rattle.fields.specs.Digits.{number};
 ghost use Rattle.records.specs.Checks.{numberChecks, dispositionChecks};
+ghost use Rattle.records.specs.Context.{headerOf};
 ghost use Rattle.records.specs.Field.{field as Field·field};
 ghost use Rattle.records.specs.Finding.{right, firstFault, finding};
 ghost use Rattle.records.specs.declared.kind.Kind.the-variants.{R14};
@@ -22,18 +23,18 @@ use crate::rules::amount;
 use crate::rules::blank_or_digits;
 use crate::rules::date;
 use crate::rules::digits_equal_to;
-use crate::rules::equal_to_header;
+use crate::rules::equal_to_abi;
 use crate::rules::listed;
 use crate::rules::same;
 use fields::Date;
 use fields::NOT_DIGITS;
 use fields::Number;
 
-pub(crate) fn judge_disposition(rec: &[u8], n: u64, abi: &[u8], company: &[u8]) -> Judged
+pub(crate) fn judge_disposition(rec: &[u8], n: u64, header: &[u8], company: &[u8]) -> Judged
     requires { ⌜ length (now rec) ≡ 120 ⌝ }
     ensures { λ r. ⌜ finding r ≡ firstFault
         (numberChecks n (now (rec .entry))
-        ++ dispositionChecks (now (abi .entry)) (now (company .entry)) (now (rec .entry)))
+        ++ dispositionChecks (headerOf (now (header .entry)) .abi) (now (company .entry)) (now (rec .entry)))
         (right R14 (number (Field·field 34 46 (now (rec .entry))))) ⌝ }
 {
     if let Number::Refused(number) = digits_equal_to(rec, 4, 10, n, WRONG_NUMBER) {
@@ -51,7 +52,7 @@ pub(crate) fn judge_disposition(rec: &[u8], n: u64, abi: &[u8], company: &[u8]) 
     if !same(rec, 47, 47, &SIGN) {
         return Judged::Refused(NOT_PERMITTED, 47);
     }
-    if let Number::Refused(number) = equal_to_header(rec, 48, 52, abi) {
+    if let Number::Refused(number) = equal_to_abi(rec, 48, 52, header) {
         return Judged::Refused(number, 48);
     }
     if !blank_or_digits(rec, 53, 57) {

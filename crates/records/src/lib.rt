@@ -2,8 +2,8 @@
 // position, `judge`, which gives its first fault, and `seen_right`, which sees by a few tests that most
 // records have none.
 //
-// A record is judged by its own bytes. What a rule needs from elsewhere in the flow, the header's
-// fields, the company code so far and the counts so far, is handed in as slices and numbers. No
+// A record is judged by its own bytes. What a rule needs from elsewhere in the flow, the header,
+// the company code so far and the counts so far, is handed in as slices and numbers. No
 // public function has a `requires`, and none changes a byte.
 mod bytes;
 mod constants;

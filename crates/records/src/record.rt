@@ -1,6 +1,6 @@
 // One record of a known kind, judged.
 ghost use mathlib.Core.Path.{_≡_};
-ghost use Rattle.records.specs.Context.{headed, context};
+ghost use Rattle.records.specs.Context.{headerOf, context};
 ghost use Rattle.records.specs.Finding.{finding};
 ghost use Rattle.records.specs.Judge.{judge as Judge·judge};
 use crate::constants::WRONG_LENGTH;
@@ -15,22 +15,12 @@ use crate::judged::Judged;
 use crate::kind::Kind;
 use crate::trailer::judge_trailer;
 
-// The first fault of a record of the kind, or its cents. The header's fields are those of the flow's
-// IM, and `company` is the latest company code present, blank or empty where there is none.
-pub fn judge(
-    rec: &[u8],
-    kind: Kind,
-    counts: Counts,
-    mittente: &[u8],
-    abi: &[u8],
-    date: &[u8],
-    name: &[u8],
-    currency: &[u8],
-    company: &[u8],
-) -> Judged
+// The first fault of a record of the kind, or its cents. `header` is the flow's IM, of which the rules look
+// at no other position than `headerOf` names: what stands elsewhere in it may be anything. `company` is the
+// latest company code present, blank or empty where there is none.
+pub fn judge(rec: &[u8], kind: Kind, counts: Counts, header: &[u8], company: &[u8]) -> Judged
     ensures { λ r. ⌜ finding r ≡ Judge·judge kind
-        (context (headed (now (mittente .entry)) (now (abi .entry)) (now (date .entry)) (now (name .entry)) (now (currency .entry)))
-        (now (company .entry)) counts)
+        (context (headerOf (now (header .entry))) (now (company .entry)) counts)
         (now (rec .entry)) ⌝ }
 {
     if rec.len() != 120 {
@@ -39,8 +29,8 @@ pub fn judge(
     let n = counts.dispositions;
     match kind {
         Kind::Im => judge_header(rec),
-        Kind::R14 => judge_disposition(rec, n, abi, company),
-        Kind::R16 => judge_coordinates(rec, n, abi),
+        Kind::R14 => judge_disposition(rec, n, header, company),
+        Kind::R16 => judge_coordinates(rec, n, header),
         Kind::R20 => judge_with_text(rec, Kind::R20, n, 34),
         Kind::R30 => judge_with_text(rec, Kind::R30, n, 40),
         Kind::R40 => judge_numbered(rec, Kind::R40, n),
@@ -48,6 +38,6 @@ pub fn judge(
         Kind::R59 => judge_with_text(rec, Kind::R59, n, 65),
         Kind::R51 => judge_numbered(rec, Kind::R51, n),
         Kind::R70 => judge_control(rec, n),
-        Kind::Ef => judge_trailer(rec, counts, mittente, abi, date, name, currency),
+        Kind::Ef => judge_trailer(rec, counts, header),
     }
 }

@@ -9,6 +9,7 @@ ghost use Rattle.fields.specs.Digits.{isDigits, digitsFrom};
 ghost use Rattle.fields.specs.Digits.{number as Digits·number};
 ghost use Rattle.records.specs.Field.{byteAt};
 ghost use Rattle.records.specs.Field.{field as Field·field};
+ghost use Rattle.records.specs.Context.{headerOf};
 ghost use Rattle.records.specs.Checks.{isListed, agrees};
 ghost use Rattle.records.specs.Rows.{Fits, digitsThen, digitsThenDay};
 use crate::constants::NOT_PERMITTED;
@@ -28,6 +29,15 @@ pub(crate) fn same(rec: &[u8], first: usize, last: usize, other: &[u8]) -> bool
     ensures { λ r. ⌜ r ≡ isEqual (Field·field first last (now (rec .entry))) (now (other .entry)) ⌝ }
 {
     fields::equal(field(rec, first, last), other)
+}
+
+// Whether the record has at its positions what the header has there.
+pub(crate) fn as_in_header(rec: &[u8], first: usize, last: usize, header: &[u8]) -> bool
+    ensures { λ r. ⌜ r ≡ isEqual
+        (Field·field first last (now (rec .entry)))
+        (Field·field first last (now (header .entry))) ⌝ }
+{
+    same(rec, first, last, field(header, first, last))
 }
 
 pub(crate) fn either(a: bool, b: bool) -> bool
@@ -133,18 +143,18 @@ pub(crate) fn digits_equal_to(
     Number::Refused(number)
 }
 
-// Digits that are the header's, or else the refusal: 5, then 10.
-pub(crate) fn equal_to_header(rec: &[u8], first: usize, last: usize, header: &[u8]) -> Number
+// Digits that are the header's ABI, or else the refusal: 5, then 10.
+pub(crate) fn equal_to_abi(rec: &[u8], first: usize, last: usize, header: &[u8]) -> Number
     requires { ⌜ Fits first last (now rec) ⌝ }
     ensures { λ r. ⌜ numberAnswer r ≡ digitsThen
         (Field·field first last (now (rec .entry)))
-        (isEqual (Field·field first last (now (rec .entry))) (now (header .entry)))
+        (isEqual (Field·field first last (now (rec .entry))) (headerOf (now (header .entry)) .abi))
         10 ⌝ }
 {
     let Number::Value(found) = number_at(rec, first, last) else {
         return Number::Refused(NOT_DIGITS);
     };
-    if same(rec, first, last, header) {
+    if same(rec, first, last, field(header, 9, 13)) {
         return Number::Value(found);
     }
     Number::Refused(NOT_THE_HEADERS)

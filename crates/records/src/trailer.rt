@@ -2,7 +2,7 @@
 ghost use mathlib.Core.Path.{_≡_};
 ghost use lib.ListN.{length};
 ghost use Rattle.records.specs.Checks.{trailerChecks};
-ghost use Rattle.records.specs.Context.{headed};
+ghost use Rattle.records.specs.Context.{headerOf};
 ghost use Rattle.records.specs.Finding.{right, firstFault, finding};
 ghost use Rattle.records.specs.declared.kind.Kind.the-variants.{Ef};
 use crate::constants::NOT_THE_HEADERS;
@@ -13,35 +13,26 @@ use crate::judged::Counts;
 use crate::judged::Judged;
 use crate::judged::Record;
 use crate::kind::Kind;
+use crate::rules::as_in_header;
 use crate::rules::digits_equal_to;
-use crate::rules::same;
 use fields::Number;
 
-pub(crate) fn judge_trailer(
-    rec: &[u8],
-    counts: Counts,
-    mittente: &[u8],
-    abi: &[u8],
-    date: &[u8],
-    name: &[u8],
-    currency: &[u8],
-) -> Judged
+pub(crate) fn judge_trailer(rec: &[u8], counts: Counts, header: &[u8]) -> Judged
     requires { ⌜ length (now rec) ≡ 120 ⌝ }
     ensures { λ r. ⌜ finding r ≡ firstFault
-        (trailerChecks (headed (now (mittente .entry)) (now (abi .entry)) (now (date .entry)) (now (name .entry)) (now (currency .entry)))
-        counts (now (rec .entry)))
+        (trailerChecks (headerOf (now (header .entry))) counts (now (rec .entry)))
         (right Ef 0) ⌝ }
 {
-    if !same(rec, 4, 8, mittente) {
+    if !as_in_header(rec, 4, 8, header) {
         return Judged::Refused(NOT_THE_HEADERS, 4);
     }
-    if !same(rec, 9, 13, abi) {
+    if !as_in_header(rec, 9, 13, header) {
         return Judged::Refused(NOT_THE_HEADERS, 9);
     }
-    if !same(rec, 14, 19, date) {
+    if !as_in_header(rec, 14, 19, header) {
         return Judged::Refused(NOT_THE_HEADERS, 14);
     }
-    if !same(rec, 20, 39, name) {
+    if !as_in_header(rec, 20, 39, header) {
         return Judged::Refused(NOT_THE_HEADERS, 20);
     }
     if let Number::Refused(number) = digits_equal_to(
@@ -62,7 +53,7 @@ pub(crate) fn judge_trailer(
     if let Number::Refused(number) = digits_equal_to(rec, 83, 89, counts.records, WRONG_RECORDS) {
         return Judged::Refused(number, 83);
     }
-    if !same(rec, 114, 114, currency) {
+    if !as_in_header(rec, 114, 114, header) {
         return Judged::Refused(NOT_THE_HEADERS, 114);
     }
     Judged::Right(Record {

@@ -36,29 +36,14 @@ part-header-end c =
     let said = length-said n (sym (c .before .is-length .ensures) ∙ not-false _ (c .if1 .left)) in
     omega arith
 
-field-requires : tie.Need-field-requires
-field-requires c κs = search needs
-
-field-requires-2 : tie.Need-field-requires-2
-field-requires-2 c κs = search needs
-
-field-requires-3 : tie.Need-field-requires-3
-field-requires-3 c κs = search needs
-
-field-requires-4 : tie.Need-field-requires-4
-field-requires-4 c κs = search needs
-
-field-requires-5 : tie.Need-field-requires-5
-field-requires-5 c κs = search needs
-
 read-records-requires : tie.Need-read-records-requires
-read-records-requires c κs = sym (c .before .before .before .before .before .before .before .is-length .ensures) ∙ not-false _ (c .before .before .before .before .before .before .if1 .left)
+read-records-requires c κs = sym (c .before .before .is-length .ensures) ∙ not-false _ (c .before .if1 .left)
 
 returns-2 : tie.Need-returns-2
 unfolding judge
 returns-2 c =
-    let right : isLength (length (c .before .before .before .before .before .before .before .before .before .before .args .flow .now)) ≡ true = sym (c .before .before .before .before .before .before .before .before .is-length .ensures) ∙ not-false _ (c .before .before .before .before .before .before .before .if1 .left) in
-    rw (right, ← c .before .before .before .before .before .field .ensures .0, ← c .before .before .before .before .field2 .ensures .0, ← c .before .before .before .field3 .ensures .0, ← c .before .before .field4 .ensures .0, ← c .before .field5 .ensures .0) (c .read-records .ensures)
+    let right : isLength (length (c .before .before .before .before .before .args .flow .now)) ≡ true = sym (c .before .before .before .is-length .ensures) ∙ not-false _ (c .before .before .if1 .left) in
+    rw right (c .read-records .ensures)
 
 pub read-spec : {M : Type 1} → statement M
 read-spec =
@@ -70,10 +55,5 @@ read-spec =
     sub-header
     part-header-start
     part-header-end
-    field-requires
-    field-requires-2
-    field-requires-3
-    field-requires-4
-    field-requires-5
     read-records-requires
     returns-2)

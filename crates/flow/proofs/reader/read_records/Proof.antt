@@ -7,7 +7,7 @@ use native.Mathlib.Omega.{arith}
 use lib.ListN.{length}
 use borrow.Author.Needs.{needs}
 use Rattle.sequences.specs.Part.{part}
-use Rattle.records.specs.Context.{headed}
+use Rattle.records.specs.Context.{headerOf}
 use Rattle.records.specs.Finding.{finding}
 use Rattle.flow.specs.FastPath.{Numbered}
 use Rattle.flow.specs.Judge.{ended}
@@ -21,10 +21,10 @@ use Rattle.flow.proofs.reader.read_records.Statement.{statement}
 use Rattle.flow.proofs.reader.read_records.Tie as tie
 
 abbrev Inv-loop : tie.InvT-loop
-Inv-loop flow mittente abi date name currency walk₀ company₀ i₀ walk company i = (i ≤ length flow / 120) × (length flow ≤ 1199999880) × Reading ended (headed mittente abi date name currency) (recordsOf flow) walk company i (recordsFrom i flow)
+Inv-loop flow header walk₀ company₀ i₀ walk company i = (i ≤ length flow / 120) × (length flow ≤ 1199999880) × Reading ended (headerOf header) (recordsOf flow) walk company i (recordsFrom i flow)
 
 abbrev μ-loop : tie.MeasureT-loop
-μ-loop flow mittente abi date name currency walk₀ company₀ i₀ walk company i = length flow / 120 - i
+μ-loop flow header walk₀ company₀ i₀ walk company i = length flow / 120 - i
 
 start-requires : tie.Need-start-requires Inv-loop μ-loop
 start-requires c κs = search needs
@@ -40,9 +40,9 @@ part-company-end c = search needs
 
 loop-holds : tie.Need-loop-holds Inv-loop μ-loop
 loop-holds c =
-    let flow : List ℕ = c .before .before .before .before .before .before .before .before .args .flow .now in
+    let flow : List ℕ = c .before .before .before .before .args .flow .now in
     let all : length flow / 120 - 0 ≡ length flow / 120 = omega arith in
-    (omega arith, length-said _ (c .before .before .before .before .before .before .before .before .pre) .2, rw (c .before .start .ensures, all) (begin _ _ _))
+    (omega arith, length-said _ (c .before .before .before .before .pre) .2, rw (c .before .start .ensures, all) (begin _ _ _))
 
 mul-rec : tie.Need-mul-rec Inv-loop μ-loop
 mul-rec c = omega arith
@@ -76,14 +76,14 @@ enum-known-number c = search needs
 
 -- the part handed on is the record, and its number is its index + 1
 abbrev flow-of : tie.At-loop Inv-loop μ-loop → List ℕ
-flow-of at = at .before .before .before .before .before .before .before .before .before .args .flow .now
+flow-of at = at .before .before .before .before .before .args .flow .now
 
 handed : (at : tie.At-loop Inv-loop μ-loop) → let i = at .loop .i in part (120 * i) (120 * i + 120 - 120 * i) (flow-of at) ≡ recordAt i (flow-of at)
 handed at = record-part (at .loop .i) (flow-of at)
 
 found :
-    (c : tie.After-judge Inv-loop μ-loop) → let at = c .before .before .before .before in let a = at .before .before .before .before .before .before .before .before .before .args in
-    judgeRecord (headed (a .mittente .now) (a .abi .now) (a .date .now) (a .name .now) (a .currency .now)) (at .loop .walk) (at .loop .company .now) (suc (at .loop .i)) (recordAt (at .loop .i) (a .flow .now)) ≡ finding (c .judge .result)
+    (c : tie.After-judge Inv-loop μ-loop) → let at = c .before .before .before .before in let a = at .before .before .before .before .before .args in
+    judgeRecord (headerOf (a .header .now)) (at .loop .walk) (at .loop .company .now) (suc (at .loop .i)) (recordAt (at .loop .i) (a .flow .now)) ≡ finding (c .judge .result)
 found c =
     let at = c .before .before .before .before in
     let number : c .before .count .result ≡ suc (at .loop .i) = c .before .count .ensures ∙ add-one (at .loop .i) in

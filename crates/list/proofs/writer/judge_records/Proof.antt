@@ -7,7 +7,7 @@ use native.Mathlib.Numerals.{add-one}
 use native.Mathlib.Omega.{arith}
 use lib.ListN.{length}
 use borrow.Author.Needs.{needs}
-use Rattle.records.specs.Context.{Header, headed}
+use Rattle.records.specs.Context.{Header, headerOf}
 use Rattle.records.specs.Field.{field}
 use Rattle.records.specs.Kinds.{heads, opened}
 use Rattle.records.specs.Finding.{finding}
@@ -22,11 +22,11 @@ use Rattle.list.proofs.writer.judge_records.Statement.{statement}
 use Rattle.list.proofs.writer.judge_records.Tie as tie
 
 abbrev Inv-loop : tie.InvT-loop
-Inv-loop list mittente abi date name currency walk₀ company₀ header₀ dispositions₀ n₀ at₀ walk company header dispositions n i =
-    (i ≤ length list) × (length (itemsIn list) ≤ 9999998) × JudgingAt (headed mittente abi date name currency) list i n dispositions header walk company
+Inv-loop list im walk₀ company₀ header₀ dispositions₀ n₀ at₀ walk company header dispositions n i =
+    (i ≤ length list) × (length (itemsIn list) ≤ 9999998) × JudgingAt (headerOf im) list i n dispositions header walk company
 
 abbrev μ-loop : tie.MeasureT-loop
-μ-loop list mittente abi date name currency walk₀ company₀ header₀ dispositions₀ n₀ at₀ walk company header dispositions n i = length list - i
+μ-loop list im walk₀ company₀ header₀ dispositions₀ n₀ at₀ walk company header dispositions n i = length list - i
 
 start-requires : tie.Need-start-requires Inv-loop μ-loop
 start-requires c κs = search needs
@@ -50,15 +50,14 @@ part-header-end : tie.Need-part-header-end Inv-loop μ-loop
 part-header-end c = search needs
 
 abbrev list-of : tie.At-loop Inv-loop μ-loop → List ℕ
-list-of a = a .before .before .before .before .before .before .before .before .before .before .args .list .now
+list-of a = a .before .before .before .before .before .before .args .list .now
 
 abbrev header-of : tie.At-loop Inv-loop μ-loop → Header
 header-of a =
-    let args = a .before .before .before .before .before .before .before .before .before .before .args in
-    headed (args .mittente .now) (args .abi .now) (args .date .now) (args .name .now) (args .currency .now)
+    headerOf (a .before .before .before .before .before .before .args .im .now)
 
 loop-holds : tie.Need-loop-holds Inv-loop μ-loop
-loop-holds c = (omega arith, c .before .before .before .before .before .before .before .before .before .pre .few, rw (c .before .before .start .ensures) (judging-begins _ _ (c .before .before .before .before .before .before .before .before .before .pre)))
+loop-holds c = (omega arith, c .before .before .before .before .before .pre .few, rw (c .before .before .start .ensures) (judging-begins _ _ (c .before .before .before .before .before .pre)))
 
 shared-slice-read-kind-of : tie.Need-shared-slice-read-kind-of Inv-loop μ-loop
 shared-slice-read-kind-of c = search needs

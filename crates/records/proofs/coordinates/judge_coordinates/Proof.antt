@@ -6,6 +6,7 @@ use borrow.Author.Needs.{needs}
 use borrow.Author.Tests.{not-true, not-false}
 use Rattle.fields.specs.Answer.{numberAnswer}
 use Rattle.records.specs.Checks.{numberChecks, coordinatesChecks}
+use Rattle.records.specs.Context.{headerOf}
 use Rattle.records.specs.Finding.{right}
 use Rattle.records.specs.declared.kind.Kind.the-variants.{R16}
 use Rattle.records.proofs.FirstFault.{Reached, enter, pass, pass-row, stop, done}
@@ -20,7 +21,7 @@ enum-known-number : tie.Need-enum-known-number
 enum-known-number c = search needs
 
 abbrev entered : tie.After-shared-slice-known → Reached
-entered c = enter (numberChecks (c .before .args .n) (c .before .args .rec .now) ++ coordinatesChecks (c .before .args .abi .now) (c .before .args .rec .now)) (right R16 0)
+entered c = enter (numberChecks (c .before .args .n) (c .before .args .rec .now) ++ coordinatesChecks (headerOf (c .before .args .header .now) .abi) (c .before .args .rec .now)) (right R16 0)
 
 returns : tie.Need-returns
 returns c = stop-digits (entered (c .before .before .before .before .before)) _ 4 _ _ refl (sym (c .before .before .before .digits-equal-to .ensures) ∙ ap numberAnswer (c .before .number .given .1))
@@ -67,8 +68,8 @@ past-13 c = pass (past-11 (c .before .before)) (sym (c .before .digits .ensures)
 returns-4 : tie.Need-returns-4
 returns-4 c = stop (past-13 (c .before .before)) (ap not (sym (c .before .blank .ensures) ∙ c .if3 .taken))
 
-equal-to-header-requires : tie.Need-equal-to-header-requires
-equal-to-header-requires c κs = search needs
+equal-to-abi-requires : tie.Need-equal-to-abi-requires
+equal-to-abi-requires c κs = search needs
 
 enum-known-number-2 : tie.Need-enum-known-number-2
 enum-known-number-2 c = search needs
@@ -77,7 +78,7 @@ abbrev past-15 : tie.Else3 → Reached
 past-15 c = pass (past-13 (c .before .before)) (ap not (sym (c .before .blank .ensures) ∙ c .if3 .left))
 
 returns-5 : tie.Need-returns-5
-returns-5 c = stop-digits (past-15 (c .before .before .before .before)) _ 16 _ _ refl (sym (c .before .before .before .equal-to-header .ensures) ∙ ap numberAnswer (c .before .number2 .given .1))
+returns-5 c = stop-digits (past-15 (c .before .before .before .before)) _ 16 _ _ refl (sym (c .before .before .before .equal-to-abi .ensures) ∙ ap numberAnswer (c .before .number2 .given .1))
 
 enum-told-2 : tie.Need-enum-told-2
 enum-told-2 c = search needs
@@ -89,7 +90,7 @@ enum-known-number-3 : tie.Need-enum-known-number-3
 enum-known-number-3 c = search needs
 
 abbrev past-16 : tie.After-enum-told2 → Reached
-past-16 c = pass-row (past-15 (c .before .before .before)) (digits-both _ _ _ (sym (c .before .before .equal-to-header .ensures) ∙ ap numberAnswer (c .enum-told2 .given .1)))
+past-16 c = pass-row (past-15 (c .before .before .before)) (digits-both _ _ _ (sym (c .before .before .equal-to-abi .ensures) ∙ ap numberAnswer (c .enum-told2 .given .1)))
 
 returns-6 : tie.Need-returns-6
 returns-6 c = stop-digits (past-16 (c .before .before .before .before)) _ 21 _ _ refl (sym (c .before .before .before .above-zero .ensures) ∙ ap numberAnswer (c .before .number3 .given .1))
@@ -130,7 +131,7 @@ judge-coordinates-spec =
     returns-3
     blank-requires
     returns-4
-    equal-to-header-requires
+    equal-to-abi-requires
     enum-known-number-2
     returns-5
     enum-told-2

@@ -10,6 +10,7 @@ use Rattle.fields.specs.Digits.{isDigits, number}
 use Rattle.fields.proofs.Answers.{passed, failed, accepted-same}
 use Rattle.records.specs.Checks.{agrees, numberChecks, dispositionChecks}
 use Rattle.records.specs.Field.{field}
+use Rattle.records.specs.Context.{headerOf}
 use Rattle.records.specs.Finding.{right}
 use Rattle.records.specs.declared.kind.Kind.the-variants.{R14}
 use Rattle.records.proofs.FirstFault.{Reached, enter, pass, pass-row, stop, done}
@@ -24,7 +25,7 @@ enum-known-number : tie.Need-enum-known-number
 enum-known-number c = search needs
 
 abbrev entered : tie.After-shared-slice-known → Reached
-entered c = enter (numberChecks (c .before .args .n) (c .before .args .rec .now) ++ dispositionChecks (c .before .args .abi .now) (c .before .args .company .now) (c .before .args .rec .now)) (right R14 (number (field 34 46 (c .before .args .rec .now))))
+entered c = enter (numberChecks (c .before .args .n) (c .before .args .rec .now) ++ dispositionChecks (headerOf (c .before .args .header .now) .abi) (c .before .args .company .now) (c .before .args .rec .now)) (right R14 (number (field 34 46 (c .before .args .rec .now))))
 
 returns : tie.Need-returns
 returns c = stop-digits (entered (c .before .before .before .before .before .before)) _ 4 _ _ refl (sym (c .before .before .before .digits-equal-to .ensures) ∙ ap numberAnswer (c .before .number .given .1))
@@ -94,8 +95,8 @@ past-34 c = pass (past-29 (c .before .before .before .before)) (read c .0)
 returns-5 : tie.Need-returns-5
 returns-5 c = stop (past-34 (c .before .before .before)) (sym (c .before .same2 .ensures) ∙ not-true _ (c .if2 .taken))
 
-equal-to-header-requires : tie.Need-equal-to-header-requires
-equal-to-header-requires c κs = search needs
+equal-to-abi-requires : tie.Need-equal-to-abi-requires
+equal-to-abi-requires c κs = search needs
 
 enum-known-number-3 : tie.Need-enum-known-number-3
 enum-known-number-3 c = search needs
@@ -104,7 +105,7 @@ abbrev past-47 : tie.Else2 → Reached
 past-47 c = pass (past-34 (c .before .before .before)) (sym (c .before .same2 .ensures) ∙ not-false _ (c .if2 .left))
 
 returns-6 : tie.Need-returns-6
-returns-6 c = stop-digits (past-47 (c .before .before .before .before)) _ 48 _ _ refl (sym (c .before .before .before .equal-to-header .ensures) ∙ ap numberAnswer (c .before .number3 .given .1))
+returns-6 c = stop-digits (past-47 (c .before .before .before .before)) _ 48 _ _ refl (sym (c .before .before .before .equal-to-abi .ensures) ∙ ap numberAnswer (c .before .number3 .given .1))
 
 enum-told-4 : tie.Need-enum-told-4
 enum-told-4 c = search needs
@@ -113,7 +114,7 @@ blank-or-digits-requires : tie.Need-blank-or-digits-requires
 blank-or-digits-requires c κs = search needs
 
 abbrev past-48 : tie.After-enum-told4 → Reached
-past-48 c = pass-row (past-47 (c .before .before .before)) (digits-both _ _ _ (sym (c .before .before .equal-to-header .ensures) ∙ ap numberAnswer (c .enum-told4 .given .1)))
+past-48 c = pass-row (past-47 (c .before .before .before)) (digits-both _ _ _ (sym (c .before .before .equal-to-abi .ensures) ∙ ap numberAnswer (c .enum-told4 .given .1)))
 
 returns-7 : tie.Need-returns-7
 returns-7 c = stop (past-48 (c .before .before)) (sym (c .before .blank-or-digits .ensures) ∙ not-true _ (c .if3 .taken))
@@ -182,7 +183,7 @@ judge-disposition-spec =
     slice-aggregate-same-2
     same-requires-2
     returns-5
-    equal-to-header-requires
+    equal-to-abi-requires
     enum-known-number-3
     returns-6
     enum-told-4

@@ -5,7 +5,7 @@ use borrow.Author.Needs.{needs}
 use borrow.Author.Tests.{not-true, not-false}
 use Rattle.fields.specs.Answer.{numberAnswer}
 use Rattle.records.specs.Checks.{trailerChecks}
-use Rattle.records.specs.Context.{headed}
+use Rattle.records.specs.Context.{headerOf}
 use Rattle.records.specs.Finding.{right}
 use Rattle.records.specs.declared.kind.Kind.the-variants.{Ef}
 use Rattle.records.proofs.FirstFault.{Reached, enter, pass, pass-row, stop, done}
@@ -13,41 +13,41 @@ use Rattle.records.proofs.Rows.{fits, digits-both, stop-digits}
 use Rattle.records.proofs.trailer.judge_trailer.Statement.{statement}
 use Rattle.records.proofs.trailer.judge_trailer.Tie as tie
 
-same-requires : tie.Need-same-requires
-same-requires c κs = search needs
+as-in-header-requires : tie.Need-as-in-header-requires
+as-in-header-requires c κs = search needs
 
 abbrev entered : tie.After-shared-slice-known → Reached
-entered c = enter (trailerChecks (headed (c .before .args .mittente .now) (c .before .args .abi .now) (c .before .args .date .now) (c .before .args .name .now) (c .before .args .currency .now)) (c .before .args .counts) (c .before .args .rec .now)) (right Ef 0)
+entered c = enter (trailerChecks (headerOf (c .before .args .header .now)) (c .before .args .counts) (c .before .args .rec .now)) (right Ef 0)
 
 returns : tie.Need-returns
-returns c = stop (entered (c .before .before .before .before .before .before .before)) (sym (c .before .same .ensures) ∙ not-true _ (c .if1 .taken))
+returns c = stop (entered (c .before .before .before)) (sym (c .before .as-in-header .ensures) ∙ not-true _ (c .if1 .taken))
 
-same-requires-2 : tie.Need-same-requires-2
-same-requires-2 c κs = search needs
+as-in-header-requires-2 : tie.Need-as-in-header-requires-2
+as-in-header-requires-2 c κs = search needs
 
 abbrev past-4 : tie.Else1 → Reached
-past-4 c = pass (entered (c .before .before .before .before .before .before .before)) (sym (c .before .same .ensures) ∙ not-false _ (c .if1 .left))
+past-4 c = pass (entered (c .before .before .before)) (sym (c .before .as-in-header .ensures) ∙ not-false _ (c .if1 .left))
 
 returns-2 : tie.Need-returns-2
-returns-2 c = stop (past-4 (c .before .before)) (sym (c .before .same2 .ensures) ∙ not-true _ (c .if2 .taken))
+returns-2 c = stop (past-4 (c .before .before)) (sym (c .before .as-in-header2 .ensures) ∙ not-true _ (c .if2 .taken))
 
-same-requires-3 : tie.Need-same-requires-3
-same-requires-3 c κs = search needs
+as-in-header-requires-3 : tie.Need-as-in-header-requires-3
+as-in-header-requires-3 c κs = search needs
 
 abbrev past-9 : tie.Else2 → Reached
-past-9 c = pass (past-4 (c .before .before)) (sym (c .before .same2 .ensures) ∙ not-false _ (c .if2 .left))
+past-9 c = pass (past-4 (c .before .before)) (sym (c .before .as-in-header2 .ensures) ∙ not-false _ (c .if2 .left))
 
 returns-3 : tie.Need-returns-3
-returns-3 c = stop (past-9 (c .before .before)) (sym (c .before .same3 .ensures) ∙ not-true _ (c .if3 .taken))
+returns-3 c = stop (past-9 (c .before .before)) (sym (c .before .as-in-header3 .ensures) ∙ not-true _ (c .if3 .taken))
 
-same-requires-4 : tie.Need-same-requires-4
-same-requires-4 c κs = search needs
+as-in-header-requires-4 : tie.Need-as-in-header-requires-4
+as-in-header-requires-4 c κs = search needs
 
 abbrev past-14 : tie.Else3 → Reached
-past-14 c = pass (past-9 (c .before .before)) (sym (c .before .same3 .ensures) ∙ not-false _ (c .if3 .left))
+past-14 c = pass (past-9 (c .before .before)) (sym (c .before .as-in-header3 .ensures) ∙ not-false _ (c .if3 .left))
 
 returns-4 : tie.Need-returns-4
-returns-4 c = stop (past-14 (c .before .before)) (sym (c .before .same4 .ensures) ∙ not-true _ (c .if4 .taken))
+returns-4 c = stop (past-14 (c .before .before)) (sym (c .before .as-in-header4 .ensures) ∙ not-true _ (c .if4 .taken))
 
 digits-equal-to-requires : tie.Need-digits-equal-to-requires
 digits-equal-to-requires c κs = search needs
@@ -56,7 +56,7 @@ enum-known-number : tie.Need-enum-known-number
 enum-known-number c = search needs
 
 abbrev past-20 : tie.Else4 → Reached
-past-20 c = pass (past-14 (c .before .before)) (sym (c .before .same4 .ensures) ∙ not-false _ (c .if4 .left))
+past-20 c = pass (past-14 (c .before .before)) (sym (c .before .as-in-header4 .ensures) ∙ not-false _ (c .if4 .left))
 
 returns-5 : tie.Need-returns-5
 returns-5 c = stop-digits (past-20 (c .before .before .before .before)) _ 46 _ _ refl (sym (c .before .before .before .digits-equal-to .ensures) ∙ ap numberAnswer (c .before .number .given .1))
@@ -95,7 +95,7 @@ enum-told-3 : tie.Need-enum-told-3
 enum-told-3 c = search needs
 
 digits-equal-to-requires-4 : tie.Need-digits-equal-to-requires-4
-digits-equal-to-requires-4 c κs = fits 83 89 _ (c .before .before .before .before .before .before .before .before .before .before .before .before .before .before .before .before .before .before .before .before .before .before .before .pre) (omega arith) (omega arith) (omega arith) (omega arith)
+digits-equal-to-requires-4 c κs = fits 83 89 _ (c .before .before .before .before .before .before .before .before .before .before .before .before .before .before .before .before .before .before .before .pre) (omega arith) (omega arith) (omega arith) (omega arith)
 
 enum-known-number-4 : tie.Need-enum-known-number-4
 enum-known-number-4 c = search needs
@@ -109,17 +109,17 @@ returns-8 c = stop-digits (past-68 (c .before .before .before .before)) _ 83 _ _
 enum-told-4 : tie.Need-enum-told-4
 enum-told-4 c = search needs
 
-same-requires-5 : tie.Need-same-requires-5
-same-requires-5 c κs = search needs
+as-in-header-requires-5 : tie.Need-as-in-header-requires-5
+as-in-header-requires-5 c κs = search needs
 
 abbrev past-83 : tie.After-enum-told4 → Reached
 past-83 c = pass-row (past-68 (c .before .before .before)) (digits-both _ _ _ (sym (c .before .before .digits-equal-to4 .ensures) ∙ ap numberAnswer (c .enum-told4 .given .1)))
 
 returns-9 : tie.Need-returns-9
-returns-9 c = stop (past-83 (c .before .before)) (sym (c .before .same5 .ensures) ∙ not-true _ (c .if5 .taken))
+returns-9 c = stop (past-83 (c .before .before)) (sym (c .before .as-in-header5 .ensures) ∙ not-true _ (c .if5 .taken))
 
 abbrev past-114 : tie.Else5 → Reached
-past-114 c = pass (past-83 (c .before .before)) (sym (c .before .same5 .ensures) ∙ not-false _ (c .if5 .left))
+past-114 c = pass (past-83 (c .before .before)) (sym (c .before .as-in-header5 .ensures) ∙ not-false _ (c .if5 .left))
 
 returns-10 : tie.Need-returns-10
 returns-10 c = done (past-114 c) refl
@@ -128,13 +128,13 @@ pub judge-trailer-spec : {M : Type 1} → statement M
 judge-trailer-spec =
     tie.close
     (tie.spec
-    same-requires
+    as-in-header-requires
     returns
-    same-requires-2
+    as-in-header-requires-2
     returns-2
-    same-requires-3
+    as-in-header-requires-3
     returns-3
-    same-requires-4
+    as-in-header-requires-4
     returns-4
     digits-equal-to-requires
     enum-known-number
@@ -152,6 +152,6 @@ judge-trailer-spec =
     enum-known-number-4
     returns-8
     enum-told-4
-    same-requires-5
+    as-in-header-requires-5
     returns-9
     returns-10)

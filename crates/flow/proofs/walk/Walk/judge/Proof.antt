@@ -35,8 +35,8 @@ enum-told c = search needs
 
 returns-3 : tie.Need-returns-3
 returns-3 c =
-    let w = c .before .before .before .before .before .before .before .before .before .before .before .before .before .before .before .before .before .args .self in
-    let rec = c .before .before .before .before .before .before .before .before .before .before .before .before .before .before .before .before .before .args .rec .now in
+    let w = c .before .before .before .before .before .before .before .before .before .before .before .before .before .args .self in
+    let rec = c .before .before .before .before .before .before .before .before .before .before .before .before .before .args .rec .now in
     let kind = c .before .before .before .kind .given .0 .0 in
     let printable : badByte rec ≡ 0 = sym (c .before .before .before .before .before .before .before .before .bad-byte .ensures) ∙ c .before .before .before .before .before .before .before .if2 .left in
     let found : among (permitted (w .place .due)) rec ≡ Of kind = sym (c .before .before .before .before .before .kind-due .ensures) ∙ c .before .before .before .kind .given .1 in
@@ -44,8 +44,8 @@ returns-3 c =
 
 returns-4 : tie.Need-returns-4
 returns-4 c =
-    let w = c .before .before .before .before .before .before .before .before .before .before .before .before .before .before .args .self in
-    let rec = c .before .before .before .before .before .before .before .before .before .before .before .before .before .before .args .rec .now in
+    let w = c .before .before .before .before .before .before .before .before .before .before .args .self in
+    let rec = c .before .before .before .before .before .before .before .before .before .before .args .rec .now in
     let printable : badByte rec ≡ 0 = sym (c .before .before .before .before .before .bad-byte .ensures) ∙ c .before .before .before .before .if2 .left in
     let found : among (permitted (w .place .due)) rec ≡ Missing = sym (c .before .before .kind-due .ensures) ∙ c .enum-told .given .1 in
     sym (no-type _ w _ _ rec (c .before .before .before .before .before .before .if1 .left) printable found)
