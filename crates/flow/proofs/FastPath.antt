@@ -1,7 +1,7 @@
 -- The fast path of the reader: a record that was settled is right, and behind a right record the next one's number is known. Assumes
 -- nothing.
 use Prim.Native.Nat.{ℕ, suc, _+_, _-_, _/_, min, _≤_, _<_}
-use mathlib.Core.Bool.{Bool, true, false, true≢false}
+use mathlib.Core.Bool.{Bool, true, false, and-eq-true-iff, true≢false}
 use mathlib.Core.List.{List, _∷_}
 use mathlib.Core.Path.{_≡_, refl, sym, _∙_, ap, subst}
 use native.Mathlib.Omega.{arith}
@@ -24,13 +24,12 @@ use Rattle.records.proofs.Found.{right-exact}
 use Rattle.records.proofs.SeenRight.{seen-right}
 use Rattle.flow.specs.FastPath.{isInside, Inside, Numbered, atPlace, PassedOver}
 use Rattle.flow.specs.Judge.{go}
-use Rattle.flow.specs.Order.{permitted, isDue, placeAfter, among}
+use Rattle.flow.specs.Order.{permitted, isDue, allGoOn, placeAfter, among}
 use Rattle.flow.specs.Records.{recordAt, recordsFrom}
 use Rattle.flow.specs.Steps.{counted, step, latest, judgeRecord, stopped}
 use Rattle.flow.specs.Verdict.{Verdict}
 use Rattle.flow.specs.declared.answer.Totals.{Totals}
 use Rattle.flow.specs.declared.order.Due.{Due}
-use Rattle.flow.specs.declared.order.Due.the-variants.{OnlyIm, OnlyR14, R16OrR20, OnlyR20, OnlyR30, OnlyR40, R50OrR59, R59OrR51, OnlyR51, OnlyR70, R14OrEf, Nothing}
 use Rattle.flow.specs.declared.order.Found.{Found}
 use Rattle.flow.specs.declared.order.Found.the-variants.{Of, Missing}
 use Rattle.flow.specs.declared.order.Place.{Place}
@@ -117,18 +116,7 @@ still-due : (p : Place) (k : Kind) → isInside (p .due) ≡ true → closes k �
 still-due p k inside stays = due-behind (isDue (permitted (placeAfter (p .further) k .due))) refl ∙ sym (inside-due (p .due) inside)
   where
     inside-due : (d : Due) → isInside d ≡ true → isDue (permitted d) ≡ true
-    inside-due OnlyIm e = refl
-    inside-due OnlyR14 e = refl
-    inside-due R16OrR20 e = refl
-    inside-due OnlyR20 e = refl
-    inside-due OnlyR30 e = refl
-    inside-due OnlyR40 e = refl
-    inside-due R50OrR59 e = refl
-    inside-due R59OrR51 e = refl
-    inside-due OnlyR51 e = refl
-    inside-due OnlyR70 e = refl
-    inside-due R14OrEf e = refl
-    inside-due Nothing e = absurd (true≢false (sym e))
+    inside-due d e = and-eq-true-iff (isDue (permitted d)) (allGoOn (permitted d)) .0 e .0
 
     due-behind : (b : Bool) → isDue (permitted (placeAfter (p .further) k .due)) ≡ b → b ≡ true
     due-behind true e = refl

@@ -1,6 +1,6 @@
 -- For the contracts of private functions: the fast path of the reader, which changes no answer. Assumes nothing.
 use Prim.Native.Nat.{ℕ, _-_, _/_, min, _≤_}
-use mathlib.Core.Bool.{Bool, true, false}
+use mathlib.Core.Bool.{Bool, true, _&&_}
 use mathlib.Core.List.{List}
 use mathlib.Core.Path.{_≡_}
 use lib.ListN.{length}
@@ -9,31 +9,19 @@ use Rattle.records.specs.Context.{Header}
 use Rattle.records.specs.Field.{field}
 use Rattle.records.specs.Limits.{countLimit}
 use Rattle.flow.specs.Judge.{go}
-use Rattle.flow.specs.Order.{permitted, isDue, among}
+use Rattle.flow.specs.Order.{permitted, isDue, allGoOn, among}
 use Rattle.flow.specs.Records.{recordAt, recordsFrom}
 use Rattle.flow.specs.Verdict.{Verdict}
 use Rattle.flow.specs.declared.answer.Totals.{Totals}
 use Rattle.flow.specs.declared.order.Due.{Due}
-use Rattle.flow.specs.declared.order.Due.the-variants.{OnlyIm, OnlyR14, R16OrR20, OnlyR20, OnlyR30, OnlyR40, R50OrR59, R59OrR51, OnlyR51, OnlyR70, R14OrEf, Nothing}
 use Rattle.flow.specs.declared.order.Found.{Found}
 use Rattle.flow.specs.declared.order.Found.the-variants.{Of, Missing}
 use Rattle.flow.specs.declared.order.Place.{Place}
 use Rattle.flow.specs.declared.walk.Walk.{Walk}
 
--- a disposition goes on here
+-- a disposition goes on here: a record is due, and whichever may come goes on with it
 abbrev pub isInside : Due → Bool
-isInside OnlyIm = false
-isInside OnlyR14 = false
-isInside R16OrR20 = true
-isInside OnlyR20 = true
-isInside OnlyR30 = true
-isInside OnlyR40 = true
-isInside R50OrR59 = true
-isInside R59OrR51 = true
-isInside OnlyR51 = true
-isInside OnlyR70 = true
-isInside R14OrEf = false
-isInside Nothing = false
+isInside due = isDue (permitted due) && allGoOn (permitted due)
 
 -- what is known of a record whose kind was found where a disposition goes on
 abbrev pub Inside : Due → List ℕ → Found → Type 0

@@ -1,12 +1,12 @@
 -- The order of records (document 01, "The flow as bytes": IM; then dispositions; then EF, and nothing after it. A disposition is 14,
 -- optionally 16, then 20, 30, 40, then either one 50 or one to five 59, then 51, 70). Assumes nothing.
 use Prim.Native.Nat.{ℕ, suc}
-use mathlib.Core.Bool.{Bool, true, false, cond, _||_}
+use mathlib.Core.Bool.{Bool, true, false, cond, _&&_, _||_}
 use mathlib.Core.List.{List, [], _∷_}
 use mathlib.Core.Logic.{_⊎_}
 use mathlib.Core.Path.{_≡_}
 use lib.Dec.{ltb}
-use Rattle.records.specs.Kinds.{hasType, closes}
+use Rattle.records.specs.Kinds.{hasType, goesOn, closes}
 use Rattle.records.specs.declared.kind.Kind.{Kind}
 use Rattle.records.specs.declared.kind.Kind.the-variants.{Im, R14, R16, R20, R30, R40, R50, R59, R51, R70, Ef}
 use Rattle.flow.specs.declared.order.Due.{Due}
@@ -44,6 +44,11 @@ isDue (k ∷ ks) = true
 abbrev pub mayClose : List Kind → Bool
 mayClose [] = false
 mayClose (k ∷ ks) = closes k || mayClose ks
+
+-- each of them goes on with a disposition
+abbrev pub allGoOn : List Kind → Bool
+allGoOn [] = true
+allGoOn (k ∷ ks) = goesOn k && allGoOn ks
 
 -- a place in the flow: what may come next, and, where a further 59 may come, how many stand right before it
 abbrev pub place : Due → Place

@@ -25,48 +25,50 @@ typeOf Ef = text "EF"
 abbrev pub hasType : Kind → List ℕ → Bool
 hasType k rec = isEqual (field 2 3 rec) (typeOf k)
 
+-- what a record does in a flow: it heads the flow, opens a disposition, goes on with it, or closes the flow
+pub data Role : Type 0 where
+  Heads : Role
+  Opens : Role
+  GoesOn : Role
+  Closes : Role
+
+-- by its kind (document 01, "The flow as bytes": IM; then dispositions, each from its 14 on; then EF)
+abbrev pub role : Kind → Role
+role Im = Heads
+role R14 = Opens
+role R16 = GoesOn
+role R20 = GoesOn
+role R30 = GoesOn
+role R40 = GoesOn
+role R50 = GoesOn
+role R59 = GoesOn
+role R51 = GoesOn
+role R70 = GoesOn
+role Ef = Closes
+
+-- of four values the one for the role
+abbrev pub byRole : {A : Type 0} → Role → A → A → A → A → A
+byRole Heads h o g c = h
+byRole Opens h o g c = o
+byRole GoesOn h o g c = g
+byRole Closes h o g c = c
+
 -- the record that heads a flow
 abbrev pub heads : Kind → Bool
-heads Im = true
-heads R14 = false
-heads R16 = false
-heads R20 = false
-heads R30 = false
-heads R40 = false
-heads R50 = false
-heads R59 = false
-heads R51 = false
-heads R70 = false
-heads Ef = false
+heads k = byRole (role k) true false false false
 
 -- the record that opens a disposition, and has its amount
 abbrev pub opens : Kind → Bool
-opens Im = false
-opens R14 = true
-opens R16 = false
-opens R20 = false
-opens R30 = false
-opens R40 = false
-opens R50 = false
-opens R59 = false
-opens R51 = false
-opens R70 = false
-opens Ef = false
+opens k = byRole (role k) false true false false
+
+-- a record that goes on with a disposition
+abbrev pub goesOn : Kind → Bool
+goesOn k = byRole (role k) false false true false
+
+-- the record that closes a flow
+abbrev pub closes : Kind → Bool
+closes k = byRole (role k) false false false true
 
 -- the dispositions that it opens: one or none
 abbrev pub opened : Kind → ℕ
 opened k = cond (opens k) 1 0
-
--- the record that closes a flow
-abbrev pub closes : Kind → Bool
-closes Im = false
-closes R14 = false
-closes R16 = false
-closes R20 = false
-closes R30 = false
-closes R40 = false
-closes R50 = false
-closes R59 = false
-closes R51 = false
-closes R70 = false
-closes Ef = true
