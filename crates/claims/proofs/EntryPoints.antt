@@ -13,6 +13,8 @@ use Rattle.records.proofs.bad_byte.Met.{met as bad-byte-met}
 use Rattle.records.proofs.field.Met.{met as field-met}
 use Rattle.records.proofs.type_of.Met.{met as type-of-met}
 use Rattle.records.proofs.has_type.Met.{met as has-type-met}
+use Rattle.records.proofs.is_opening.Met.{met as is-opening-met}
+use Rattle.records.proofs.amount.Met.{met as amount-met}
 use Rattle.records.proofs.heads.Met.{met as heads-met}
 use Rattle.records.proofs.opens.Met.{met as opens-met}
 use Rattle.records.proofs.closes.Met.{met as closes-met}
@@ -57,6 +59,8 @@ entry-points =
       field = (λ M. field-met, λ κs a g w. refl);
       type-of = (λ M. type-of-met, λ κs a g w. refl);
       has-type = (λ M. has-type-met, λ κs a g w. refl);
+      is-opening = (λ M. is-opening-met, λ κs a g w. refl);
+      amount = (λ M. amount-met, λ κs a g w. refl);
       heads = (λ M. heads-met, λ κs a g w. refl);
       opens = (λ M. opens-met, λ κs a g w. refl);
       closes = (λ M. closes-met, λ κs a g w. refl);

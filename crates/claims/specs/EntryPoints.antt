@@ -27,6 +27,10 @@ use Rattle.records.proofs.type_of.Reads.{requires as type-of-requires}
 use Rattle.records.proofs.type_of.Statement.{statement as type-of-statement}
 use Rattle.records.proofs.has_type.Reads.{requires as has-type-requires}
 use Rattle.records.proofs.has_type.Statement.{statement as has-type-statement}
+use Rattle.records.proofs.is_opening.Reads.{requires as is-opening-requires}
+use Rattle.records.proofs.is_opening.Statement.{statement as is-opening-statement}
+use Rattle.records.proofs.amount.Reads.{requires as amount-requires}
+use Rattle.records.proofs.amount.Statement.{statement as amount-statement}
 use Rattle.records.proofs.heads.Reads.{requires as heads-requires}
 use Rattle.records.proofs.heads.Statement.{statement as heads-statement}
 use Rattle.records.proofs.opens.Reads.{requires as opens-requires}
@@ -102,6 +106,8 @@ pub record EntryPoints : Type 2 where
   pub field : EntryPoint field-statement field-requires
   pub type-of : EntryPoint type-of-statement type-of-requires
   pub has-type : EntryPoint has-type-statement has-type-requires
+  pub is-opening : EntryPoint is-opening-statement is-opening-requires
+  pub amount : EntryPoint amount-statement amount-requires
   pub heads : EntryPoint heads-statement heads-requires
   pub opens : EntryPoint opens-statement opens-requires
   pub closes : EntryPoint closes-statement closes-requires

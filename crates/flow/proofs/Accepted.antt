@@ -8,14 +8,13 @@ use lib.Dec.{eqb}
 use lib.ListN.{length, take}
 use borrow.Author.Tests.{le-leb, eq-eqb}
 use Rattle.fields.specs.Digits.{number}
+use Rattle.records.specs.Amount.{amountIn}
 use Rattle.records.specs.Bytes.{badByte}
 use Rattle.records.specs.Context.{Header, context, headerOf}
-use Rattle.records.specs.Field.{field}
 use Rattle.records.specs.Finding.{Finding, right}
 use Rattle.records.specs.Finding.{refused as Finding·refused}
-use Rattle.records.specs.Kinds.{hasType, opened}
+use Rattle.records.specs.Kinds.{isOpening, opened}
 use Rattle.records.specs.declared.kind.Kind.{Kind}
-use Rattle.records.specs.declared.kind.Kind.the-variants.{R14}
 use Rattle.records.proofs.ByKind.{right-asked, opens-type}
 use Rattle.records.proofs.Numbers.{one-for-length}
 use Rattle.flow.specs.Judge.{after, totals, ended, go, judge}
@@ -56,7 +55,7 @@ ended-so w i {t} = go (isDue (permitted (w .place .due)))
 -- what a right record adds to the counts, by its type alone
 adds :
     (header : Header) (w : Walk) (company : List ℕ) (n : ℕ) (rec : List ℕ) (k : Kind) (c : ℕ)
-    → judgeRecord header w company n rec ≡ right k c → (opened k ≡ cond (hasType R14 rec) 1 0) × (c ≡ cond (hasType R14 rec) (number (field 34 46 rec)) 0)
+    → judgeRecord header w company n rec ≡ right k c → (opened k ≡ cond (isOpening rec) 1 0) × (c ≡ cond (isOpening rec) (number (amountIn rec)) 0)
 adds header w company n rec k c e =
     let kept = right-typed header w company n rec k c e in
     let kind = opens-type k rec (kept .0) in

@@ -1,5 +1,5 @@
 -- The dispositions of an accepted flow: the header stands before them and the trailer behind, they are as many as is answered, and the
--- record that opens one has its amount in digits. Assumes nothing.
+-- record that opens one has its amount. Assumes nothing.
 use Prim.Native.Nat.{ℕ, zero, suc, _+_, _-_, _*_, _/_, _%_, _≤_, _<_}
 use mathlib.Core.Bool.{Bool, true, false, cond, _&&_, and-eq-true-iff, true≢false}
 use mathlib.Core.List.{List, [], _∷_, dropLast}
@@ -8,32 +8,29 @@ use mathlib.Core.Path.{_≡_, refl, sym, _∙_, ap, subst}
 use native.Mathlib.Nat.{le-of-suc-le-suc, not-suc-le-zero}
 use native.Mathlib.Numerals.{add-one}
 use native.Mathlib.Omega.{arith}
-use lib.Dec.{leb, eqb}
+use lib.Dec.{leb}
 use lib.ListN.{length, take, drop, getD}
 use borrow.Author.Tests.{leb-true, le-leb}
 use Rattle.sequences.specs.Groups.{lead, groups}
 use Rattle.sequences.specs.Part.{part}
 use Rattle.sequences.proofs.DropLast.{dropLast-length, dropLast-getD}
 use Rattle.sequences.proofs.Groups.{lead-next, lead-end, startOf, Group, group-at, start-next, start-within}
-use Rattle.fields.specs.Digits.{isDigits}
-use Rattle.records.specs.Checks.{checks}
-use Rattle.records.specs.Context.{Header, Context, context, headerOf}
-use Rattle.records.specs.Field.{field}
-use Rattle.records.specs.Finding.{Finding, right, firstFault}
+use Rattle.records.specs.Amount.{HasAmount}
+use Rattle.records.specs.Context.{Header, headerOf}
+use Rattle.records.specs.Finding.{Finding, right}
 use Rattle.records.specs.Finding.{refused as Finding·refused}
-use Rattle.records.specs.Judge.{asked}
-use Rattle.records.specs.Judge.{judge as Record·judge}
-use Rattle.records.specs.Kinds.{hasType}
+use Rattle.records.specs.Kinds.{hasType, isOpening, opens}
 use Rattle.records.specs.declared.kind.Kind.{Kind}
-use Rattle.records.specs.declared.kind.Kind.the-variants.{Im, R14, Ef}
-use Rattle.records.proofs.ByKind.{one-type, opens-type}
-use Rattle.records.proofs.FirstFault.{right-not-refused, kept, behind}
+use Rattle.records.specs.declared.kind.Kind.the-variants.{Im, Ef}
+use Rattle.records.proofs.Amounts.{right-amount}
+use Rattle.records.proofs.ByKind.{opens-type}
+use Rattle.records.proofs.FirstFault.{behind}
 use Rattle.flow.specs.Find.{dispositionsIn, startsAt, IsNumber, standsAt, find, bytesAt, partOf, offsetAt, offsetOf, Stands, openingFrom}
 use Rattle.flow.specs.Judge.{after, ended, go, judge}
 use Rattle.flow.specs.Records.{isLength, recordAt, recordsOf}
 use Rattle.flow.specs.Laws.{LocationDetermined, FindRefused, PartPlaced}
 use Rattle.flow.specs.Order.{In, permitted, isDue}
-use Rattle.flow.specs.Steps.{start, countsAt, step, latest, judgeRecord}
+use Rattle.flow.specs.Steps.{start, step, latest, judgeRecord}
 use Rattle.flow.specs.Sums.{dispositionsOf}
 use Rattle.flow.specs.Verdict.{Verdict, accepted, refused, ofCall, andThen}
 use Rattle.flow.specs.declared.answer.Refusal.{Refusal}
@@ -82,17 +79,17 @@ without-trailer header w company i rec [] e =
     rw (← opens-type Ef rec trailer)
 without-trailer header w company i rec (next ∷ recs) e =
     let p = passed header w company i rec (next ∷ recs) e in
-    ap (λ (m : ℕ). cond (hasType R14 rec) 1 0 + m) (without-trailer header (step w (p .kind) (p .cents)) (latest (p .kind) company rec) (suc i) next recs (p .rest))
+    ap (λ (m : ℕ). cond (isOpening rec) 1 0 + m) (without-trailer header (step w (p .kind) (p .cents)) (latest (p .kind) company rec) (suc i) next recs (p .rest))
 
--- the records 14, each with its group
-groups-counted : (recs : List (List ℕ)) → length (groups (hasType R14) recs) ≡ dispositionsOf recs
+-- the records that open a disposition, each with its group
+groups-counted : (recs : List (List ℕ)) → length (groups isOpening recs) ≡ dispositionsOf recs
 unfolding groups dispositionsOf
 groups-counted [] = refl
-groups-counted (rec ∷ recs) = by (hasType R14 rec) (groups-counted recs)
+groups-counted (rec ∷ recs) = by (isOpening rec) (groups-counted recs)
   where
     by :
-        (b : Bool) → length (groups (hasType R14) recs) ≡ dispositionsOf recs
-        → length (cond b ((rec ∷ lead (hasType R14) recs) ∷ groups (hasType R14) recs) (groups (hasType R14) recs)) ≡ cond b 1 0 + dispositionsOf recs
+        (b : Bool) → length (groups isOpening recs) ≡ dispositionsOf recs
+        → length (cond b ((rec ∷ lead isOpening recs) ∷ groups isOpening recs) (groups isOpening recs)) ≡ cond b 1 0 + dispositionsOf recs
     by true e = omega arith
     by false e = omega arith
 
@@ -100,9 +97,9 @@ groups-counted (rec ∷ recs) = by (hasType R14 rec) (groups-counted recs)
 only-kind : {k l : Kind} → In k (l ∷ []) → k ≡ l
 only-kind (inl e) = e
 
--- the header stands before the first 14, and no other record does
+-- the header stands before the first disposition, and no other record does
 header-leads-all :
-    (header : Header) (recs : List (List ℕ)) {t : Totals} → go ended header start [] 0 recs ≡ accepted t → lead (hasType R14) (dropLast recs) ≡ getD recs 0 [] ∷ []
+    (header : Header) (recs : List (List ℕ)) {t : Totals} → go ended header start [] 0 recs ≡ accepted t → lead isOpening (dropLast recs) ≡ getD recs 0 [] ∷ []
 unfolding lead
 header-leads-all header [] e = absurd (true≢false (none-due header start [] 0 e))
 header-leads-all header (rec ∷ recs) {t} e = by recs (subst (λ (l : Kind). go ended header (step start l (p .cents)) (latest l [] rec) 1 recs ≡ accepted t) im (p .rest))
@@ -113,39 +110,28 @@ header-leads-all header (rec ∷ recs) {t} e = by recs (subst (λ (l : Kind). go
     im : p .kind ≡ Im
     im = only-kind (right-typed header start [] 1 rec (p .kind) (p .cents) (p .found) .2)
 
-    other : hasType R14 rec ≡ false
+    other : isOpening rec ≡ false
     other = sym (opens-type Im rec (subst (λ (l : Kind). hasType l rec ≡ true) im (right-typed header start [] 1 rec (p .kind) (p .cents) (p .found) .0)))
 
-    by : (recs : List (List ℕ)) → go ended header (step start Im (p .cents)) (latest Im [] rec) 1 recs ≡ accepted t → lead (hasType R14) (dropLast (rec ∷ recs)) ≡ rec ∷ []
+    by : (recs : List (List ℕ)) → go ended header (step start Im (p .cents)) (latest Im [] rec) 1 recs ≡ accepted t → lead isOpening (dropLast (rec ∷ recs)) ≡ rec ∷ []
     by [] e = absurd (true≢false (none-due header (step start Im (p .cents)) (latest Im [] rec) 1 e))
     by (next ∷ []) e = rw other
     by (next ∷ third ∷ recs) e =
         let w = step start Im (p .cents) in
         let q = passed header w (latest Im [] rec) 1 next (third ∷ recs) e in
         let typed = right-typed header w (latest Im [] rec) 2 next (q .kind) (q .cents) (q .found) in
-        let first : hasType R14 next ≡ true = subst (λ (l : Kind). hasType l next ≡ true) (only-kind (typed .2)) (typed .0) in
+        let first : isOpening next ≡ true = sym (opens-type (q .kind) next (typed .0)) ∙ ap opens (only-kind (typed .2)) in
         rw (other, first)
 
--- the amount of a right record 14 is digits
-right-amount : (ctx : Context) (rec : List ℕ) (k : Kind) (c : ℕ) → Record·judge R14 ctx rec ≡ right k c → isDigits (field 34 46 rec) ≡ true
-unfolding Record·judge checks
-right-amount ctx rec k c = by (eqb (length rec) 120)
-  where
-    by : (b : Bool) → cond b (firstFault (checks R14 ctx rec) (right R14 (asked R14 rec))) (Finding·refused 1 0) ≡ right k c → isDigits (field 34 46 rec) ≡ true
-    by true e = kept _ _ _ _ _ (behind 5 (checks R14 ctx rec) (right R14 (asked R14 rec)) e) .0
-    by false e = absurd (right-not-refused e)
-
--- so is that of each record 14 of an accepted flow
+-- each record of an accepted flow that opens a disposition has an amount
 amounts-all :
     (header : Header) (w : Walk) (company : List ℕ) (i : ℕ) (recs : List (List ℕ)) {t : Totals} → go ended header w company i recs ≡ accepted t
-    → (j : ℕ) → j < length recs → hasType R14 (getD recs j []) ≡ true → isDigits (field 34 46 (getD recs j [])) ≡ true
+    → (j : ℕ) → j < length recs → isOpening (getD recs j []) ≡ true → HasAmount (getD recs j [])
 amounts-all header w company i [] e j h t = absurd (not-suc-le-zero h)
 amounts-all header w company i (rec ∷ recs) e zero h t =
     let p = passed header w company i rec recs e in
-    let k = p .kind in
-    let typed = right-typed header w company (suc i) rec k (p .cents) (p .found) in
-    let same = one-type k R14 rec (typed .0) t in
-    right-amount (context header company (countsAt w (suc i) R14)) rec k (p .cents) (subst (λ (l : Kind). Record·judge l (context header company (countsAt w (suc i) l)) rec ≡ right k (p .cents)) same (typed .1))
+    let typed = right-typed header w company (suc i) rec (p .kind) (p .cents) (p .found) in
+    right-amount (p .kind) (p .kind) _ rec (p .cents) (opens-type (p .kind) rec (typed .0) ∙ t) (typed .1)
 amounts-all header w company i (rec ∷ recs) e (suc j) h t =
     let p = passed header w company i rec recs e in
     amounts-all header (step w (p .kind) (p .cents)) (latest (p .kind) company rec) (suc i) recs (p .rest) j (le-of-suc-le-suc h) t
@@ -160,21 +146,21 @@ until-length f = rw (dropLast-length, cut-count)
 until-at : (f : List ℕ) (i : ℕ) → suc i < length f / 120 → getD (untilTrailer f) i [] ≡ recordAt i f
 until-at f i h = dropLast-getD (recordsOf f) i [] (rw cut-count h) ∙ cut-at (length f / 120) i f (omega arith)
 
--- for a loop over i: a 14 at i is the first from i on, else the first from i + 1 on is; and from the trailer on there is none
-pub opening-next : (f : List ℕ) (i : ℕ) → suc i < length f / 120 → openingFrom f i ≡ cond (hasType R14 (recordAt i f)) i (openingFrom f (suc i))
+-- for a loop over i: a record at i that opens a disposition is the first from i on, else the first from i + 1 on is; and from the trailer on there is none
+pub opening-next : (f : List ℕ) (i : ℕ) → suc i < length f / 120 → openingFrom f i ≡ cond (isOpening (recordAt i f)) i (openingFrom f (suc i))
 opening-next f i h =
     let far : i < length (untilTrailer f) = rw until-length (omega arith) in
-    rw (lead-next (hasType R14) (untilTrailer f) i [] far, until-at f i h) (by (hasType R14 (recordAt i f)))
+    rw (lead-next isOpening (untilTrailer f) i [] far, until-at f i h) (by (isOpening (recordAt i f)))
   where
     by :
-        (b : Bool) → i + length (cond b [] (recordAt i f ∷ lead (hasType R14) (drop (suc i) (untilTrailer f)))) ≡ cond b i (openingFrom f (suc i))
+        (b : Bool) → i + length (cond b [] (recordAt i f ∷ lead isOpening (drop (suc i) (untilTrailer f)))) ≡ cond b i (openingFrom f (suc i))
     by true = omega arith
     by false = omega arith
 
 pub opening-end : (f : List ℕ) (i : ℕ) → length f / 120 ≤ suc i → openingFrom f i ≡ i
 opening-end f i h =
     let past : length (untilTrailer f) ≤ i = rw until-length (omega arith) in
-    rw (lead-end (hasType R14) (untilTrailer f) i past) (omega arith)
+    rw (lead-end isOpening (untilTrailer f) i past) (omega arith)
 
 -- an accepted flow has whole records, and they are accepted
 pub accepted-records : (f : List ℕ) {t : Totals} → judge f ≡ accepted t → (isLength (length f) ≡ true) × (go ended (headerOf (take 120 f)) start [] 0 (recordsOf f) ≡ accepted t)
@@ -192,7 +178,7 @@ module _ (f : List ℕ) {t : Totals} (e : judge f ≡ accepted t) where
       (omega arith, said .1, said .2)
 
   -- the header stands before the first disposition
-  pub header-leads : lead (hasType R14) (untilTrailer f) ≡ recordAt 0 f ∷ []
+  pub header-leads : lead isOpening (untilTrailer f) ≡ recordAt 0 f ∷ []
   header-leads =
       let some = accepted-length .0 in
       header-leads-all (headerOf (take 120 f)) (recordsOf f) (accepted-records f e .1) ∙ ap (λ (r : List ℕ). r ∷ []) (cut-at (length f / 120) 0 f (omega arith))
@@ -207,14 +193,14 @@ module _ (f : List ℕ) {t : Totals} (e : judge f ≡ accepted t) where
 
 -- a disposition of f, with its start and its records
 pub record Disposition (f : List ℕ) (at : ℕ) (records : List (List ℕ)) : Type 0 where
-  -- it goes on to the next 14 or the trailer
+  -- it goes on to the next one or the trailer
   pub next : openingFrom f (at + 1) ≡ at + length records
   -- the trailer stands behind it
   pub within : 120 * (at + length records) + 120 ≤ length f
-  -- it is opened by the record at its start, a 14 whose amount is digits
+  -- it is opened by the record at its start, which has an amount
   pub opening : getD records 0 [] ≡ recordAt at f
-  pub type : hasType R14 (recordAt at f) ≡ true
-  pub digits : isDigits (field 34 46 (recordAt at f)) ≡ true
+  pub type : isOpening (recordAt at f) ≡ true
+  pub amount : HasAmount (recordAt at f)
 
 module _ (f : List ℕ) (k : ℕ) (s : Stands f k) where
   counted : k - 1 < length (dispositionsIn f)
@@ -223,7 +209,7 @@ module _ (f : List ℕ) (k : ℕ) (s : Stands f k) where
       let within = s .within in
       omega (arith, dispositions-counted f (s .read))
 
-  starts : startOf (hasType R14) (untilTrailer f) (k - 1) ≡ startsAt (dispositionsIn f) k
+  starts : startOf isOpening (untilTrailer f) (k - 1) ≡ startsAt (dispositionsIn f) k
   starts = rw (header-leads f (s .read)) (omega arith)
 
   -- the disposition behind it starts where it ends
@@ -231,25 +217,25 @@ module _ (f : List ℕ) (k : ℕ) (s : Stands f k) where
   starts-next =
       let some = s .some in
       let one : k + 1 - 1 ≡ suc (k - 1) = omega arith in
-      rw one (omega (arith, start-next (hasType R14) (untilTrailer f) (k - 1) counted))
+      rw one (omega (arith, start-next isOpening (untilTrailer f) (k - 1) counted))
 
   pub disposition-stands : Disposition f (startsAt (dispositionsIn f) k) (getD (dispositionsIn f) (k - 1) [])
   disposition-stands =
       let at = startsAt (dispositionsIn f) k in
       let records = getD (dispositionsIn f) (k - 1) [] in
-      let group : Group (hasType R14) (untilTrailer f) [] (k - 1) at = subst (Group (hasType R14) (untilTrailer f) [] (k - 1)) starts (group-at (hasType R14) (untilTrailer f) [] (k - 1) counted) in
-      let size : length records ≡ suc (length (lead (hasType R14) (drop (suc at) (untilTrailer f)))) = ap length (group .all) in
+      let group : Group isOpening (untilTrailer f) [] (k - 1) at = subst (Group isOpening (untilTrailer f) [] (k - 1)) starts (group-at isOpening (untilTrailer f) [] (k - 1) counted) in
+      let size : length records ≡ suc (length (lead isOpening (drop (suc at) (untilTrailer f)))) = ap length (group .all) in
       let total = until-length f in
-      let end : at + length records ≤ length (untilTrailer f) = omega (arith, starts, start-next (hasType R14) (untilTrailer f) (k - 1) counted, start-within (hasType R14) (untilTrailer f) (suc (k - 1))) in
+      let end : at + length records ≤ length (untilTrailer f) = omega (arith, starts, start-next isOpening (untilTrailer f) (k - 1) counted, start-within isOpening (untilTrailer f) (suc (k - 1))) in
       let here = until-at f at (omega arith) in
-      let type : hasType R14 (recordAt at f) ≡ true = rw here at (group .opens) in
+      let type : isOpening (recordAt at f) ≡ true = rw here at (group .opens) in
       let cut-here = cut-at (length f / 120) at f (omega arith) in
       record {
         next = rw add-one (omega arith);
         within = omega arith;
         opening = ap (λ (l : List (List ℕ)). getD l 0 []) (group .all) ∙ here;
         type = type;
-        digits = rw cut-here at (amounts-all (headerOf (take 120 f)) start [] 0 (recordsOf f) (accepted-records f (s .read) .1) at (rw cut-count (omega arith)) (rw cut-here type));
+        amount = rw cut-here at (amounts-all (headerOf (take 120 f)) start [] 0 (recordsOf f) (accepted-records f (s .read) .1) at (rw cut-count (omega arith)) (rw cut-here type));
       }
 
 -- a number from 1 up to the count stands in the flow

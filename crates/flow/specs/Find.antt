@@ -9,9 +9,8 @@ use lib.ListN.{length, take, drop, getD}
 use Rattle.sequences.specs.Groups.{lead, groups}
 use Rattle.sequences.specs.Part.{part}
 use Rattle.fields.specs.Digits.{number}
-use Rattle.records.specs.Field.{field}
-use Rattle.records.specs.Kinds.{hasType}
-use Rattle.records.specs.declared.kind.Kind.the-variants.{R14}
+use Rattle.records.specs.Amount.{amountIn}
+use Rattle.records.specs.Kinds.{isOpening}
 use Rattle.flow.specs.Judge.{judge}
 use Rattle.flow.specs.Records.{recordsOf}
 use Rattle.flow.specs.Verdict.{Verdict, accepted, refused, ofCall, andThen}
@@ -25,9 +24,10 @@ abbrev pub located : Location → Verdict Stand
 located (At s) = accepted s
 located (Refused x) = refused x
 
--- the dispositions of an accepted flow: each 14 with the records behind it, up to the next 14 or the trailer
+-- the dispositions of an accepted flow: each record that opens one with those behind it, up to the
+-- next such record or the trailer
 abbrev pub dispositionsIn : List ℕ → List (List (List ℕ))
-dispositionsIn f = groups (hasType R14) (dropLast (recordsOf f))
+dispositionsIn f = groups isOpening (dropLast (recordsOf f))
 
 -- the index of the first record of the k-th of them, where dispositions count from 1 and indexes from 0: behind the header and those
 -- before it
@@ -42,7 +42,7 @@ IsNumber k d = (1 ≤ k) × (k ≤ d)
 abbrev pub standsAt : List (List (List ℕ)) → ℕ → Stand
 standsAt ds k =
     let d = getD ds (k - 1) [] in
-    record { first = suc (startsAt ds k); records = length d; cents = number (field 34 46 (getD d 0 [])) }
+    record { first = suc (startsAt ds k); records = length d; cents = number (amountIn (getD d 0 [])) }
 
 -- what the reader refuses is refused, and a number that no disposition has by 15
 unfoldable pub find : List ℕ → ℕ → Verdict Stand
@@ -73,7 +73,7 @@ pub record Stands (f : List ℕ) (k : ℕ) : Type 0 where
   pub some : 1 ≤ k
   pub within : k ≤ totals .dispositions
 
--- and the index of the first 14 at index i of f's records or behind it, or of the trailer where there is none; and i itself where it is
--- behind the trailer
+-- and the index of the first record that opens a disposition, at index i of f's records or behind it, or of the trailer where there is
+-- none; and i itself where it is behind the trailer
 abbrev pub openingFrom : List ℕ → ℕ → ℕ
-openingFrom f i = i + length (lead (hasType R14) (drop i (dropLast (recordsOf f))))
+openingFrom f i = i + length (lead isOpening (drop i (dropLast (recordsOf f))))

@@ -4,15 +4,14 @@ use Prim.Native.Nat.{ℕ, _+_}
 use mathlib.Core.Bool.{cond}
 use mathlib.Core.List.{List, [], _∷_}
 use Rattle.fields.specs.Digits.{number}
-use Rattle.records.specs.Field.{field}
-use Rattle.records.specs.Kinds.{hasType}
-use Rattle.records.specs.declared.kind.Kind.the-variants.{R14}
+use Rattle.records.specs.Amount.{amountIn}
+use Rattle.records.specs.Kinds.{isOpening}
 
--- the records 14 among records, and the sum of their amounts
+-- the records that open a disposition among records, and the sum of their amounts
 unfoldable pub dispositionsOf : List (List ℕ) → ℕ
 dispositionsOf [] = 0
-dispositionsOf (rec ∷ recs) = cond (hasType R14 rec) 1 0 + dispositionsOf recs
+dispositionsOf (rec ∷ recs) = cond (isOpening rec) 1 0 + dispositionsOf recs
 
 unfoldable pub centsOf : List (List ℕ) → ℕ
 centsOf [] = 0
-centsOf (rec ∷ recs) = cond (hasType R14 rec) (number (field 34 46 rec)) 0 + centsOf recs
+centsOf (rec ∷ recs) = cond (isOpening rec) (number (amountIn rec)) 0 + centsOf recs

@@ -1,13 +1,12 @@
 // Where a disposition stands in a flow.
 ghost use Prim.Native.Nat.{_≤_};
-ghost use mathlib.Core.Bool.{true, _&&_};
+ghost use mathlib.Core.Bool.{_&&_};
 ghost use mathlib.Core.Path.{_≡_};
 ghost use lib.Dec.{leb};
 ghost use lib.ListN.{length};
 ghost use Rattle.sequences.specs.Slice.{StartsAt};
-ghost use Rattle.fields.specs.Digits.{isDigits};
 ghost use Rattle.fields.specs.Digits.{number as Digits·number};
-ghost use Rattle.records.specs.Field.{field as Field·field};
+ghost use Rattle.records.specs.Amount.{amountIn, HasAmount};
 ghost use Rattle.flow.specs.Find.{located, dispositionsIn, startsAt, standsAt, partOf, offsetOf, Stands, openingFrom};
 ghost use Rattle.flow.specs.Find.{find as Find·find};
 ghost use Rattle.flow.specs.Seek.{sought};
@@ -19,8 +18,6 @@ use crate::answer::refusal_of_call;
 use crate::reader::count;
 use crate::reader::read;
 use fields::Number;
-use records::Kind;
-use records::field;
 
 // Where disposition k stands; or refused.
 pub enum Location {
@@ -106,7 +103,7 @@ fn is_number(k: u64, dispositions: u64) -> bool
     k <= dispositions
 }
 
-// Where disposition k of an accepted flow stands: up to the next record 14 or the trailer.
+// Where disposition k of an accepted flow stands: up to the next record that opens one or the trailer.
 fn locate(flow: &[u8], k: u64) -> Stand
     requires { ⌜ Stands (now flow) k ⌝ }
     ensures { λ r. ⌜ r ≡ standsAt (dispositionsIn (now (flow .entry))) k ⌝ }
@@ -122,7 +119,7 @@ fn locate(flow: &[u8], k: u64) -> Stand
 }
 
 // The index of the first record of disposition k of an accepted flow: from the record behind the
-// header, as many times to the next record 14 as there are dispositions before it.
+// header, as many times to the next record that opens one as there are dispositions before it.
 fn start_of(flow: &[u8], k: u64) -> usize
     requires { ⌜ Stands (now flow) k ⌝ }
     ensures { λ r. ⌜ r ≡ startsAt (dispositionsIn (now (flow .entry))) k ⌝ }
@@ -136,8 +133,8 @@ fn start_of(flow: &[u8], k: u64) -> usize
     at
 }
 
-// The index of the first record 14 at an index or behind it, or that of the trailer where there is
-// none. An index behind the trailer comes back as it is.
+// The index of the first record at an index or behind it that opens a disposition, or that of the trailer
+// where there is none. An index behind the trailer comes back as it is.
 fn next_opening(flow: &[u8], from: usize) -> usize
     requires { ⌜ 120 ≤ length (now flow) ⌝ }
     ensures { λ r. ⌜ r ≡ openingFrom (now (flow .entry)) from ⌝ }
@@ -146,7 +143,7 @@ fn next_opening(flow: &[u8], from: usize) -> usize
     let mut i = from;
     while i < trailer {
         let rec = &flow[120 * i..120 * i + 120];
-        if records::has_type(rec, Kind::R14) {
+        if records::is_opening(rec) {
             return i;
         }
         i += 1;
@@ -154,12 +151,12 @@ fn next_opening(flow: &[u8], from: usize) -> usize
     i
 }
 
-// The amount of a record 14 whose 34-46 are digits, as the reader has seen: it is never refused.
+// The amount of a record that opens a disposition of an accepted flow: it is never refused.
 fn amount(rec: &[u8]) -> u64
-    requires { ⌜ (length (now rec) ≡ 120) × (isDigits (Field·field 34 46 (now rec)) ≡ true) ⌝ }
-    ensures { λ r. ⌜ r ≡ Digits·number (Field·field 34 46 (now (rec .entry))) ⌝ }
+    requires { ⌜ HasAmount (now rec) ⌝ }
+    ensures { λ r. ⌜ r ≡ Digits·number (amountIn (now (rec .entry))) ⌝ }
 {
-    match fields::read_amount(field(rec, 34, 46)) {
+    match records::amount(rec) {
         Number::Value(cents) => cents,
         Number::Refused(_) => 0,
     }

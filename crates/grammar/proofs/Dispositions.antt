@@ -1,6 +1,6 @@
 -- The walk over the records of dispositions, and what the grammar says of them. Assumes nothing.
 use Prim.Native.Nat.{ℕ, zero, suc, _+_}
-use mathlib.Core.Bool.{Bool, true, false, cond, _&&_}
+use mathlib.Core.Bool.{Bool, true, false, cond, _&&_, true≢false}
 use mathlib.Core.List.{List, [], _∷_, _++_, map, flatten, nil≢cons, head-eq-of-cons-eq, tail-eq-of-cons-eq, map-append}
 use mathlib.Core.Logic.{_↔_}
 use mathlib.Core.Path.{_≡_, refl, sym, _∙_, ap, subst}
@@ -10,11 +10,12 @@ use Rattle.sequences.specs.All.{All}
 use Rattle.sequences.specs.Sum.{sum}
 use Rattle.sequences.proofs.All.{all-append}
 use Rattle.fields.specs.Digits.{number}
+use Rattle.records.specs.Amount.{amountIn}
 use Rattle.records.specs.Checks.{isPresent, agrees}
 use Rattle.records.specs.Context.{Header}
 use Rattle.records.specs.Field.{field}
 use Rattle.records.specs.Judge.{asked}
-use Rattle.records.specs.Kinds.{opens, opened}
+use Rattle.records.specs.Kinds.{opens, goesOn, opened}
 use Rattle.records.specs.declared.kind.Kind.{Kind}
 use Rattle.records.specs.declared.kind.Kind.the-variants.{Im, R14, R16, R20, R30, R40, R50, R59, R51, R70, Ef}
 use Rattle.flow.specs.Steps.{step, latest}
@@ -31,22 +32,12 @@ use Rattle.grammar.proofs.Walked.{stateBehind, codeBehind, Walked, walk
 
 -- a kind of record that stands in a disposition and does not open it
 abbrev pub Detail : Kind → Type 0
-Detail Im = ⊥
-Detail R14 = ⊥
-Detail R16 = Unit
-Detail R20 = Unit
-Detail R30 = Unit
-Detail R40 = Unit
-Detail R50 = Unit
-Detail R59 = Unit
-Detail R51 = Unit
-Detail R70 = Unit
-Detail Ef = ⊥
+Detail k = goesOn k ≡ true
 
 -- what holds of each of these
 pub each-detail : (P : Kind → Type 0) → All P (R16 ∷ R20 ∷ R30 ∷ R40 ∷ R50 ∷ R59 ∷ R51 ∷ R70 ∷ []) → (k : Kind) → Detail k → P k
-each-detail P all Im d = absurd d
-each-detail P all R14 d = absurd d
+each-detail P all Im d = absurd (true≢false (sym d))
+each-detail P all R14 d = absurd (true≢false (sym d))
 each-detail P all R16 d = all .0
 each-detail P all R20 d = all .1 .0
 each-detail P all R30 d = all .1 .1 .0
@@ -55,7 +46,7 @@ each-detail P all R50 d = all .1 .1 .1 .1 .0
 each-detail P all R59 d = all .1 .1 .1 .1 .1 .0
 each-detail P all R51 d = all .1 .1 .1 .1 .1 .1 .0
 each-detail P all R70 d = all .1 .1 .1 .1 .1 .1 .1 .0
-each-detail P all Ef d = absurd d
+each-detail P all Ef d = absurd (true≢false (sym d))
 
 pub detail-opens : (k : Kind) → Detail k → opens k ≡ false
 detail-opens = each-detail (λ (k : Kind). opens k ≡ false) (refl, (refl, (refl, (refl, (refl, (refl, (refl, (refl, tt))))))))
@@ -63,15 +54,15 @@ detail-opens = each-detail (λ (k : Kind). opens k ≡ false) (refl, (refl, (ref
 -- a disposition is a 14 and its details
 coordinates-details : {cs : List Kind} → Coordinates cs → All Detail cs
 coordinates-details without = tt
-coordinates-details with-16 = (tt, tt)
+coordinates-details with-16 = (refl, tt)
 
 reasons-details : {rs : List Kind} → Reasons rs → All Detail rs
-reasons-details one-50 = (tt, tt)
+reasons-details one-50 = (refl, tt)
 reasons-details (some-59 n some few) = go n
   where
     go : (n : ℕ) → All Detail (replicate n R59)
     go zero = tt
-    go (suc n) = (tt, go n)
+    go (suc n) = (refl, go n)
 
 -- the records of a disposition: the one that opens it, and its details
 pub data Opened : List Typed → Type 0 where
@@ -84,7 +75,7 @@ opened-so d order = go d (kindsOf d) refl order
     details (disposition {cs = cs} {rs = rs} c r) =
         let rest = R51 ∷ R70 ∷ [] in
         let middle = R20 ∷ R30 ∷ R40 ∷ (rs ++ rest) in
-        (cs ++ middle, refl, all-append Detail cs middle (coordinates-details c) (tt, (tt, (tt, all-append Detail rs rest (reasons-details r) (tt, (tt, tt))))))
+        (cs ++ middle, refl, all-append Detail cs middle (coordinates-details c) (refl, (refl, (refl, all-append Detail rs rest (reasons-details r) (refl, (refl, tt))))))
 
     go : (d : List Typed) (ks : List Kind) → kindsOf d ≡ ks → Disposition ks → Opened d
     go [] ks e o = absurd (nil≢cons (e ∙ details o .1))
@@ -102,7 +93,7 @@ details-state w code (r ∷ rs) details =
     let k = r .kind in
     let shut = detail-opens k (details .0) in
     let count : opened k ≡ 0 = ap (λ (b : Bool). cond b 1 0) shut in
-    let cents : asked k (r .bytes) ≡ 0 = ap (λ (b : Bool). cond b (number (field 34 46 (r .bytes))) 0) shut in
+    let cents : asked k (r .bytes) ≡ 0 = ap (λ (b : Bool). cond b (number (amountIn (r .bytes))) 0) shut in
     let same : latest k code (r .bytes) ≡ code = ap (λ (b : Bool). cond (b && isPresent (field 92 96 (r .bytes))) (field 92 96 (r .bytes)) code) shut in
     let rest = details-state (step w k (asked k (r .bytes))) (latest k code (r .bytes)) rs (details .1) in
     (omega arith, omega arith, rest .2 ∙ same)
@@ -114,7 +105,7 @@ pub disposition-state :
 disposition-state w code d (opened-by r rs e details) =
     let k = r .kind in
     let count : opened k ≡ 1 = ap opened e in
-    let cents : asked k (r .bytes) ≡ number (field 34 46 (r .bytes)) = ap (λ (l : Kind). asked l (r .bytes)) e in
+    let cents : asked k (r .bytes) ≡ number (amountIn (r .bytes)) = ap (λ (l : Kind). asked l (r .bytes)) e in
     let code-so : latest k code (r .bytes) ≡ latestOf code (field 92 96 (r .bytes)) = ap (λ (l : Kind). latest l code (r .bytes)) e in
     let rest = details-state (step w k (asked k (r .bytes))) (latest k code (r .bytes)) rs details in
     (omega arith, omega arith, rest .2 ∙ code-so)
@@ -152,7 +143,7 @@ details-exact h w code i n (r ∷ rs) details same =
     let k = r .kind in
     let shut : opened k ≡ 0 = ap (λ (b : Bool). cond b 1 0) (detail-opens k (details .0)) in
     let due : w .dispositions + opened k ≡ n = omega arith in
-    let one = member-exact h w code i n r (λ e. subst Detail e (details .0)) (λ e. subst Detail e (details .0)) due in
+    let one = member-exact h w code i n r (λ e. true≢false (sym (subst Detail e (details .0)))) (λ e. true≢false (sym (subst Detail e (details .0)))) due in
     let rest = details-exact h (step w k (asked k (r .bytes))) (latest k code (r .bytes)) (suc i) n rs (details .1) due in (
       λ walked.
           let front = one .0 (walked .0) in

@@ -1,6 +1,6 @@
 -- The dispositions found in a flow are those of the grammar; their parts are the bytes between header and trailer. Assumes nothing.
 use Prim.Native.Nat.{ℕ, zero, suc, _+_, _-_, _*_, _≤_, _<_}
-use mathlib.Core.Bool.{false}
+use mathlib.Core.Bool.{true, false}
 use mathlib.Core.List.{List, [], _∷_, _++_, append-assoc, map, map-map, map-append, flatten, dropLast}
 use mathlib.Core.Path.{_≡_, refl, sym, _∙_, ap, subst}
 use native.Mathlib.Nat.{le-of-suc-le-suc, not-suc-le-zero}
@@ -17,11 +17,12 @@ use Rattle.sequences.proofs.Flatten.{flatten-append, flatten-flatten, map-flatt
 use Rattle.sequences.proofs.Groups.{Opens, groups-joined}
 use Rattle.sequences.proofs.Map.{by-number}
 use Rattle.fields.specs.Digits.{number}
+use Rattle.records.specs.Amount.{amountIn}
 use Rattle.records.specs.Context.{headerOf}
 use Rattle.records.specs.Field.{field}
-use Rattle.records.specs.Kinds.{typeOf, hasType, opens}
+use Rattle.records.specs.Kinds.{isOpening, opens}
 use Rattle.records.specs.declared.kind.Kind.{Kind}
-use Rattle.records.specs.declared.kind.Kind.the-variants.{Im, R14, Ef}
+use Rattle.records.specs.declared.kind.Kind.the-variants.{Im, Ef}
 use Rattle.records.proofs.ByKind.{type-tested, opens-type}
 use Rattle.flow.specs.Find.{dispositionsIn, startsAt, find, bytesAt, partOf}
 use Rattle.flow.specs.Judge.{judge}
@@ -39,31 +40,31 @@ use Rattle.grammar.specs.Rules.{Digits, Says, Formed, MemberRules}
 use Rattle.grammar.proofs.Dispositions.{Detail, detail-opens, Opened, opened-by, opened-so, Member}
 use Rattle.grammar.proofs.Grammar.{grammar-records, grammar-whole, grammar-bytes, grammar-exact}
 
--- a type that is not 14
-not-opening : (k : Kind) (rec : List ℕ) → Formed k rec → opens k ≡ false → hasType R14 rec ≡ false
-not-opening k rec formed shut = sym (opens-type k rec (type-tested k rec (formed .type))) ∙ shut
+-- a record opens a disposition by its type where it does by its kind
+opening-so : (k : Kind) (rec : List ℕ) → Formed k rec → isOpening rec ≡ opens k
+opening-so k rec formed = sym (opens-type k rec (type-tested k rec (formed .type)))
 
 module _ (abi : List ℕ) where
-  details-shut : (n : ℕ) (rs : List Typed) → All Detail (kindsOf rs) → All (Member abi n) rs → All (λ (rec : List ℕ). hasType R14 rec ≡ false) (recordsIn rs)
+  details-shut : (n : ℕ) (rs : List Typed) → All Detail (kindsOf rs) → All (Member abi n) rs → All (λ (rec : List ℕ). isOpening rec ≡ false) (recordsIn rs)
   details-shut n [] details members = tt
   details-shut n (r ∷ rs) details members =
-      (not-opening (r .kind) (r .bytes) (members .0 .0) (detail-opens (r .kind) (details .0)), details-shut n rs (details .1) (members .1))
+      (opening-so (r .kind) (r .bytes) (members .0 .0) ∙ detail-opens (r .kind) (details .0), details-shut n rs (details .1) (members .1))
 
-  -- a disposition of the grammar opens with a 14, and has no other
-  opens-so : (n : ℕ) (d : List Typed) → RightDisposition abi n d → Opens (hasType R14) (recordsIn d)
+  -- a disposition of the grammar starts with a record that opens it, and has no other
+  opens-so : (n : ℕ) (d : List Typed) → RightDisposition abi n d → Opens isOpening (recordsIn d)
   opens-so n d r = go d (opened-so d (r .order)) (r .records)
     where
-      go : (d : List Typed) → Opened d → All (Member abi n) d → Opens (hasType R14) (recordsIn d)
+      go : (d : List Typed) → Opened d → All (Member abi n) d → Opens isOpening (recordsIn d)
       go d (opened-by x xs e details) members =
           record {
             first = x .bytes;
             others = recordsIn xs;
             whole = refl;
-            passes = type-tested R14 (x .bytes) (members .0 .0 .type ∙ ap typeOf e);
+            passes = opening-so (x .kind) (x .bytes) (members .0 .0) ∙ ap opens e;
             none = details-shut n xs details (members .1);
           }
 
-  pub all-open : (n : ℕ) (ds : List (List Typed)) → Numbered abi n ds → All (Opens (hasType R14)) (map recordsIn ds)
+  pub all-open : (n : ℕ) (ds : List (List Typed)) → Numbered abi n ds → All (Opens isOpening) (map recordsIn ds)
   all-open n [] each = tt
   all-open n (d ∷ ds) each = (opens-so n d (each .0), all-open (suc n) ds (each .1))
 
@@ -81,10 +82,10 @@ unfolding groups
 dispositions-exact f t g =
     let p = g .parts in
     let ds = map recordsIn (p .dispositions) in
-    let header-shut = not-opening Im (p .header) (g .right .header-formed) refl in
-    ap (λ (l : List (List ℕ)). groups (hasType R14) (dropLast l)) (between f t g)
-    ∙ ap (groups (hasType R14)) (dropLast-append (p .header ∷ flatten ds) (p .trailer))
-    ∙ rw header-shut (groups-joined (hasType R14) ds (all-open (headerOf (p .header) .abi) 1 (p .dispositions) (g .right .each)))
+    let header-shut : isOpening (p .header) ≡ false = opening-so Im (p .header) (g .right .header-formed) in
+    ap (λ (l : List (List ℕ)). groups isOpening (dropLast l)) (between f t g)
+    ∙ ap (groups isOpening) (dropLast-append (p .header ∷ flatten ds) (p .trailer))
+    ∙ rw header-shut (groups-joined isOpening ds (all-open (headerOf (p .header) .abi) 1 (p .dispositions) (g .right .each)))
 
 -- where disposition k + 1 of an accepted flow stands
 module _ (f : List ℕ) (t : Totals) (e : judge f ≡ accepted t) where
@@ -92,7 +93,7 @@ module _ (f : List ℕ) (t : Totals) (e : judge f ≡ accepted t) where
   g = grammar-exact f t .0 e
 
   pub stands-so : (k : ℕ) → k < t .dispositions
-      → find f (suc k) ≡ accepted (record { first = suc (suc (length (flatten (take k (dispositionsIn f))))); records = length (getD (dispositionsIn f) k []); cents = number (field 34 46 (getD (getD (dispositionsIn f) k []) 0 [])) })
+      → find f (suc k) ≡ accepted (record { first = suc (suc (length (flatten (take k (dispositionsIn f))))); records = length (getD (dispositionsIn f) k []); cents = number (amountIn (getD (getD (dispositionsIn f) k []) 0 [])) })
   stands-so k h =
       let one : suc k - 1 ≡ k = omega arith in
       find-so f k e h ∙ rw one
@@ -151,10 +152,10 @@ module _ (f : List ℕ) (t : Totals) (e : judge f ≡ accepted t) where
   sum-so : sum (map (λ (k : ℕ). centsAt (find f k)) (upTo (t .dispositions))) ≡ t .cents
   sum-so =
       let found = dispositionsIn f in
-      let numbered = by-number (λ (k : ℕ). centsAt (find f k)) (λ (x : List (List ℕ)). number (field 34 46 (getD x 0 []))) found [] (λ k h. ap centsAt (stands-so k (omega (arith, count-so)))) in
+      let numbered = by-number (λ (k : ℕ). centsAt (find f k)) (λ (x : List (List ℕ)). number (amountIn (getD x 0 []))) found [] (λ k h. ap centsAt (stands-so k (omega (arith, count-so)))) in
       ap (λ (m : ℕ). sum (map (λ (k : ℕ). centsAt (find f k)) (upTo m))) (sym count-so) ∙ ap sum numbered
-      ∙ ap (λ (l : List (List (List ℕ))). sum (map (λ (x : List (List ℕ)). number (field 34 46 (getD x 0 []))) l)) (dispositions-exact f t g)
-      ∙ ap sum (map-map (λ (x : List (List ℕ)). number (field 34 46 (getD x 0 []))) recordsIn (g .parts .dispositions)) ∙ ap (λ (u : Totals). u .cents) (g .totals)
+      ∙ ap (λ (l : List (List (List ℕ))). sum (map (λ (x : List (List ℕ)). number (amountIn (getD x 0 []))) l)) (dispositions-exact f t g)
+      ∙ ap sum (map-map (λ (x : List (List ℕ)). number (amountIn (getD x 0 []))) recordsIn (g .parts .dispositions)) ∙ ap (λ (u : Totals). u .cents) (g .totals)
 
   -- where each starts and ends, in records
   first-so : (k : ℕ) → k < t .dispositions → firstAt (find f (suc k)) ≡ 2 + length (flatten (take k (dispositionsIn f)))
@@ -195,7 +196,7 @@ some-bytes f t e k h none =
     let found = map recordsIn (g .parts .dispositions) in
     let same = dispositions-exact f t g in
     let less : k < length found = omega (arith, length-map (g .parts .dispositions) recordsIn, ap (λ (u : Totals). u .dispositions) (g .totals)) in
-    let opens-one = all-getD (Opens (hasType R14)) found k [] less (all-open (headerOf (g .parts .header) .abi) 1 (g .parts .dispositions) (g .right .each)) in
+    let opens-one = all-getD (Opens isOpening) found k [] less (all-open (headerOf (g .parts .header) .abi) 1 (g .parts .dispositions) (g .right .each)) in
     let here = part-so f t e k h in
     let size = flatten-length (getD (dispositionsIn f) k []) (here .0) in
     let empty : length (flatten (getD (dispositionsIn f) k [])) ≡ 0 = ap (λ (l : List ℕ). length l) (sym (here .1) ∙ none) in
@@ -222,13 +223,13 @@ numbered-at abi n (d ∷ ds) (suc k) h each =
     let same : suc n + k ≡ n + suc k = omega arith in
     subst (λ (m : ℕ). RightDisposition abi m (getD ds k [])) same (numbered-at abi (suc n) ds k (le-of-suc-le-suc h) (each .1))
 
-opening-says : (abi : List ℕ) (n : ℕ) (d : List Typed) → RightDisposition abi n d → (field 2 3 (opening d) ≡ typeOf R14) × Says n (field 4 10 (opening d)) × Digits (field 34 46 (opening d))
+opening-says : (abi : List ℕ) (n : ℕ) (d : List Typed) → RightDisposition abi n d → (isOpening (opening d) ≡ true) × Says n (field 4 10 (opening d)) × Digits (amountIn (opening d))
 opening-says abi n d r = go d (opened-so d (r .order)) (r .records)
   where
-    go : (d : List Typed) → Opened d → All (Member abi n) d → (field 2 3 (opening d) ≡ typeOf R14) × Says n (field 4 10 (opening d)) × Digits (field 34 46 (opening d))
+    go : (d : List Typed) → Opened d → All (Member abi n) d → (isOpening (opening d) ≡ true) × Says n (field 4 10 (opening d)) × Digits (amountIn (opening d))
     go d (opened-by x xs e details) members =
         let rules = subst (λ (k : Kind). MemberRules k abi n (x .bytes)) e (members .0 .1) in
-        (members .0 .0 .type ∙ ap typeOf e, rules .number-said, rules .others .amount)
+        (opening-so (x .kind) (x .bytes) (members .0 .0) ∙ ap opens e, rules .number-said, rules .others .amount)
 
 pub opening-exact : OpeningExact
 opening-exact f k place e =
@@ -247,7 +248,7 @@ opening-exact f k place e =
     let here : opening (getD ds (k - 1) []) ≡ recordAt (place .first - 1) f = sym own ∙ disposition-stands f k s .opening ∙ ap (λ (m : ℕ). recordAt m f) start in
     let one : 1 + (k - 1) ≡ k = omega arith in
     let says = opening-says abi (1 + (k - 1)) (getD ds (k - 1) []) (numbered-at abi 1 ds (k - 1) less (g .right .each)) in
-    let amount = ap (λ (r : List ℕ). number (field 34 46 r)) (sym here ∙ sym own) ∙ sym (ap (λ (x : Stand). x .cents) (found .1)) in
+    let amount = ap (λ (r : List ℕ). number (amountIn r)) (sym here ∙ sym own) ∙ sym (ap (λ (x : Stand). x .cents) (found .1)) in
     let number-said = subst (λ (r : List ℕ). Says (1 + (k - 1)) (field 4 10 r)) here (says .1) in
-    let digits = subst (λ (r : List ℕ). Digits (field 34 46 r)) here (says .2) in
-    (ap (field 2 3) (sym here) ∙ says .0, subst (λ (m : ℕ). Says m (field 4 10 (recordAt (place .first - 1) f))) one number-said, (digits, amount), ap (λ (l : Verdict Stand). bytesAt l f) e)
+    let digits = subst (λ (r : List ℕ). Digits (amountIn r)) here (says .2) in
+    (ap isOpening (sym here) ∙ says .0, subst (λ (m : ℕ). Says m (field 4 10 (recordAt (place .first - 1) f))) one number-said, (digits, amount), ap (λ (l : Verdict Stand). bytesAt l f) e)

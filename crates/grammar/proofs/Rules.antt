@@ -20,6 +20,7 @@ use Rattle.fields.specs.Digits.{isDigit, isDigits, number, digits}
 use Rattle.fields.proofs.Bytes.{equal-exact}
 use Rattle.fields.proofs.Decimal.{number-below, written-digits, written-read-fits, read-written}
 use Rattle.fields.proofs.Gregorian.{day-said, day-tested}
+use Rattle.records.specs.Amount.{amountIn}
 use Rattle.records.specs.Bytes.{isPrintable, badFrom, badByte}
 use Rattle.records.specs.Checks.{isPresent, isDate, isListed, agrees, numberChecks, dispositionChecks, coordinatesChecks, checks}
 use Rattle.records.specs.Constants.{causale, sign, currency}
@@ -189,7 +190,7 @@ disposition-rules abi company rec =
     (digits-exact (field 23 28 rec)
     then day-exact (field 23 28 rec)
     then equal-exact (field 29 33 rec) causale
-    then digits-exact (field 34 46 rec)
+    then digits-exact (amountIn rec)
     then equal-exact (field 47 47 rec) sign
     then digits-exact (field 48 52 rec)
     then equal-exact (field 48 52 rec) abi

@@ -8,12 +8,12 @@ use native.Mathlib.Omega.{arith}
 use lib.ListN.{length}
 use Rattle.sequences.specs.All.{All}
 use Rattle.fields.specs.Digits.{number}
+use Rattle.records.specs.Amount.{amountIn}
 use Rattle.records.specs.Checks.{isPresent}
 use Rattle.records.specs.Context.{Header}
 use Rattle.records.specs.Field.{field}
 use Rattle.records.specs.Judge.{asked}
-use Rattle.records.specs.Kinds.{hasType, opens, opened}
-use Rattle.records.specs.declared.kind.Kind.the-variants.{R14}
+use Rattle.records.specs.Kinds.{isOpening, opens, opened}
 use Rattle.records.proofs.ByKind.{type-tested, opens-type}
 use Rattle.flow.specs.Judge.{go}
 use Rattle.flow.specs.Steps.{step, latest}
@@ -142,9 +142,9 @@ state-counts w code [] formed = (omega arith, omega arith, refl)
 state-counts w code (r ∷ rs) formed =
     let k = r .kind in
     let rec = r .bytes in
-    let opens-so : opens k ≡ hasType R14 rec = opens-type k rec (type-tested k rec (formed .0 .type)) in
+    let opens-so : opens k ≡ isOpening rec = opens-type k rec (type-tested k rec (formed .0 .type)) in
     let rest = state-counts (step w k (asked k rec)) (latest k code rec) rs (formed .1) in
-    let count : opened k ≡ cond (hasType R14 rec) 1 0 = ap (λ (b : Bool). cond b 1 0) opens-so in
-    let cents : asked k rec ≡ cond (hasType R14 rec) (number (field 34 46 rec)) 0 = ap (λ (b : Bool). cond b (number (field 34 46 rec)) 0) opens-so in
-    let latest-code : latest k code rec ≡ cond (hasType R14 rec && isPresent (field 92 96 rec)) (field 92 96 rec) code = ap (λ (b : Bool). cond (b && isPresent (field 92 96 rec)) (field 92 96 rec) code) opens-so in
+    let count : opened k ≡ cond (isOpening rec) 1 0 = ap (λ (b : Bool). cond b 1 0) opens-so in
+    let cents : asked k rec ≡ cond (isOpening rec) (number (amountIn rec)) 0 = ap (λ (b : Bool). cond b (number (amountIn rec)) 0) opens-so in
+    let latest-code : latest k code rec ≡ cond (isOpening rec && isPresent (field 92 96 rec)) (field 92 96 rec) code = ap (λ (b : Bool). cond (b && isPresent (field 92 96 rec)) (field 92 96 rec) code) opens-so in
     (omega arith, omega arith, rest .2 ∙ ap (λ (c : List ℕ). latestCode c (recordsIn rs)) latest-code)

@@ -10,9 +10,8 @@ use Rattle.records.specs.Checks.{isPresent, checks}
 use Rattle.records.specs.Context.{Context, context, headerOf}
 use Rattle.records.specs.Field.{field}
 use Rattle.records.specs.Finding.{Hold, FirstBroken}
-use Rattle.records.specs.Kinds.{typeOf, hasType, opens}
+use Rattle.records.specs.Kinds.{typeOf, isOpening, opens}
 use Rattle.records.specs.declared.kind.Kind.{Kind}
-use Rattle.records.specs.declared.kind.Kind.the-variants.{R14}
 use Rattle.flow.specs.Records.{RightLength, recordsOf}
 use Rattle.flow.specs.Sums.{dispositionsOf, centsOf}
 use Rattle.flow.specs.Verdict.{refusal, ofCall}
@@ -34,7 +33,7 @@ pub record MayFollow (before : List (List ℕ)) (k : Kind) : Type 0 where
 -- the latest company code present in the records 14, or the one given where there is none
 unfoldable pub latestCode : List ℕ → List (List ℕ) → List ℕ
 latestCode code [] = code
-latestCode code (rec ∷ recs) = latestCode (cond (hasType R14 rec && isPresent (field 92 96 rec)) (field 92 96 rec) code) recs
+latestCode code (rec ∷ recs) = latestCode (cond (isOpening rec && isPresent (field 92 96 rec)) (field 92 96 rec) code) recs
 
 -- what the checks of a record of the kind are asked with, behind the records `before` of the flow f
 abbrev pub contextBehind : List ℕ → List (List ℕ) → Kind → Context

@@ -8,6 +8,7 @@ use Rattle.sequences.specs.All.{All}
 use Rattle.sequences.specs.Counted.{Counted}
 use Rattle.sequences.specs.Sum.{sum}
 use Rattle.fields.specs.Digits.{number}
+use Rattle.records.specs.Amount.{amountIn}
 use Rattle.records.specs.Context.{headerOf}
 use Rattle.records.specs.Field.{field}
 use Rattle.records.specs.declared.kind.Kind.{Kind}
@@ -38,7 +39,7 @@ abbrev pub opening : List Typed → List ℕ
 opening d = getD (recordsIn d) 0 []
 
 abbrev pub amountOf : List Typed → ℕ
-amountOf d = number (field 34 46 (opening d))
+amountOf d = number (amountIn (opening d))
 
 abbrev pub codeOf : List Typed → List ℕ
 codeOf d = field 92 96 (opening d)

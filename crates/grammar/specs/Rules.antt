@@ -9,6 +9,7 @@ use Rattle.sequences.specs.Text.{text}
 use Rattle.fields.specs.Calendar.{Gregorian}
 use Rattle.fields.specs.Date.{dayOf}
 use Rattle.fields.specs.Digits.{number}
+use Rattle.records.specs.Amount.{amountIn}
 use Rattle.records.specs.Constants.{causale, sign, currency}
 use Rattle.records.specs.Context.{Header}
 use Rattle.records.specs.Field.{field, byteAt}
@@ -59,7 +60,7 @@ pub record HeaderRules (rec : List ℕ) : Type 0 where
 pub record DispositionRules (abi rec : List ℕ) : Type 0 where
   pub payable : Date (field 23 28 rec)
   pub causale-code : field 29 33 rec ≡ causale
-  pub amount : Digits (field 34 46 rec)
+  pub amount : Digits (amountIn rec)
   pub sign-code : field 47 47 rec ≡ sign
   pub bank : Digits (field 48 52 rec) × (field 48 52 rec ≡ abi)
   pub branch : Blank (field 53 57 rec) ⊎ Digits (field 53 57 rec)

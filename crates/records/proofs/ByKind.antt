@@ -13,7 +13,7 @@ use Rattle.records.specs.Context.{Context}
 use Rattle.records.specs.Field.{field}
 use Rattle.records.specs.Finding.{right, refused, firstFault, finding}
 use Rattle.records.specs.Judge.{asked, judge}
-use Rattle.records.specs.Kinds.{typeOf, hasType, opens}
+use Rattle.records.specs.Kinds.{typeOf, hasType, isOpening, opens}
 use Rattle.records.specs.Laws.{TypesDiffer, RightAsked, JudgedDetermined}
 use Rattle.records.specs.declared.judged.Judged.the-variants.{Right, Refused}
 use Rattle.records.specs.declared.kind.Kind.{Kind}
@@ -86,7 +86,7 @@ opens-typeOf R51 = refl
 opens-typeOf R70 = refl
 opens-typeOf Ef = refl
 
-pub opens-type : (k : Kind) (rec : List ℕ) → hasType k rec ≡ true → opens k ≡ hasType R14 rec
+pub opens-type : (k : Kind) (rec : List ℕ) → hasType k rec ≡ true → opens k ≡ isOpening rec
 opens-type k rec e = rw (type-said k rec e) (opens-typeOf k)
 
 -- what an answer stands for determines it

@@ -2,14 +2,14 @@
 -- Assumes nothing.
 use Prim.Native.Nat.{ℕ, zero, suc}
 use mathlib.Core.Bool.{Bool, true, false, cond}
-use mathlib.Core.List.{List, [], _∷_}
+use mathlib.Core.List.{List, [], _∷_, _++_, append-assoc}
 use mathlib.Core.Path.{_≡_, refl, sym, _∙_, ap}
 use native.Mathlib.Omega.{arith}
 use lib.ListN.{drop}
 use Rattle.fields.specs.Answer.{accepted, notDigits}
 use Rattle.fields.specs.Answer.{refused as Answer·refused}
 use Rattle.fields.proofs.Answers.{accepted-not-refused, refused-same}
-use Rattle.records.specs.Finding.{Finding, right, refused, Check, check, firstFault}
+use Rattle.records.specs.Finding.{Finding, right, refused, Check, check, firstFault, Hold, FirstBroken}
 use Rattle.records.specs.declared.kind.Kind.{Kind}
 
 -- a place that the code has reached: all checks, those still to come, and what follows them
@@ -71,6 +71,26 @@ stop-row r false b y n p e x = ap (λ (k : ℕ). refused k p) (sym (refused-same
 stop-row r true false y n p e x = ap (λ (k : ℕ). refused k p) (sym (refused-same x)) ∙ sym (r .same ∙ rw e)
 stop-row r true true y n p e x = absurd (accepted-not-refused x)
 
+-- checks that hold leave it to what follows them
+pub held : (hs cs : List Check) (rest : Finding) → Hold hs → firstFault (hs ++ cs) rest ≡ firstFault cs rest
+unfolding firstFault
+held [] cs rest h = refl
+held (check b n p ∷ hs) cs rest h = rw (h .0) (held hs cs rest (h .1))
+
+-- checks that stand first and all hold
+abbrev pub pass-all : (r : Reached) (hs cs : List Check) → r .left ≡ hs ++ cs → Hold hs → Reached
+pass-all r hs cs e h = record { all = r .all; left = cs; rest = r .rest; same = r .same ∙ ap (λ (l : List Check). firstFault l (r .rest)) e ∙ held hs cs (r .rest) h }
+
+-- and where one of them fails
+pub broken-front : (hs cs : List Check) (rest : Finding) (n p : ℕ) → FirstBroken hs n p → firstFault (hs ++ cs) rest ≡ refused n p
+unfolding firstFault
+broken-front hs cs rest n p (kept, behind, parts, so) =
+    let split : hs ++ cs ≡ kept ++ (check false n p ∷ (behind ++ cs)) = ap (λ (l : List Check). l ++ cs) parts ∙ append-assoc kept (check false n p ∷ behind) cs in
+    ap (λ (l : List Check). firstFault l rest) split ∙ held kept (check false n p ∷ (behind ++ cs)) rest so
+
+pub stop-all : (r : Reached) (hs cs : List Check) (n p : ℕ) → r .left ≡ hs ++ cs → FirstBroken hs n p → refused n p ≡ firstFault (r .all) (r .rest)
+stop-all r hs cs n p e b = sym (r .same ∙ ap (λ (l : List Check). firstFault l (r .rest)) e ∙ broken-front hs cs (r .rest) n p b)
+
 -- a right record has kept every check
 pub right-not-refused : {k : Kind} {c n p : ℕ} → refused n p ≡ right k c → ⊥
 right-not-refused e = let z : _≡_ {A = ℕ} 0 1 = cc in omega arith
@@ -79,6 +99,13 @@ pub kept : (b : Bool) (n p : ℕ) (cs : List Check) (rest : Finding) {k : Kind} 
 unfolding firstFault
 kept true n p cs rest e = (refl, e)
 kept false n p cs rest e = absurd (right-not-refused e)
+
+-- also those of a list that stands first
+pub kept-front : (hs cs : List Check) (rest : Finding) {k : Kind} {c : ℕ} → firstFault (hs ++ cs) rest ≡ right k c → Hold hs
+kept-front [] cs rest e = tt
+kept-front (check b n p ∷ hs) cs rest e =
+    let both = kept b n p (hs ++ cs) rest e in
+    (both .0, kept-front hs cs rest (both .1))
 
 -- and what is left of them behind the first n
 pub behind : (n : ℕ) (cs : List Check) (rest : Finding) {k : Kind} {c : ℕ} → firstFault cs rest ≡ right k c → firstFault (drop n cs) rest ≡ right k c

@@ -4,28 +4,16 @@ use mathlib.Core.Bool.{true, false}
 use mathlib.Core.List.{List, [], _∷_, _++_, append-nil}
 use mathlib.Core.Path.{_≡_, refl, sym, _∙_, ap}
 use Rattle.records.specs.Checks.{checks}
-use Rattle.records.specs.Finding.{Finding, right, refused, Check, check, firstFault, Hold, FirstBroken, inOrder}
+use Rattle.records.specs.Finding.{right, refused, Check, check, firstFault, FirstBroken, inOrder}
 use Rattle.records.specs.Judge.{asked}
 use Rattle.records.specs.Laws.{RightExact, BrokenExact, ChecksInOrder}
 use Rattle.records.specs.declared.kind.Kind.{Kind}
 use Rattle.records.specs.declared.kind.Kind.the-variants.{Im, R14, R16, R20, R30, R40, R50, R59, R51, R70, Ef}
 use Rattle.records.proofs.ByKind.{of-kind}
-use Rattle.records.proofs.FirstFault.{right-not-refused, kept}
+use Rattle.records.proofs.FirstFault.{held, broken-front, right-not-refused, kept-front}
 
--- checks that hold leave it to what follows them
-held : (hs cs : List Check) (rest : Finding) → Hold hs → firstFault (hs ++ cs) rest ≡ firstFault cs rest
-unfolding firstFault
-held [] cs rest h = refl
-held (check b n p ∷ hs) cs rest h = rw (h .0) (held hs cs rest (h .1))
-
-each-held : (cs : List Check) (k : Kind) (c : ℕ) → firstFault cs (right k c) ≡ right k c → Hold cs
-each-held [] k c e = tt
-each-held (check b n p ∷ cs) k c e =
-    let both = kept b n p cs (right k c) e in
-    (both .0, each-held cs k c (both .1))
-
--- and the first that fails refuses
-broken : (cs : List Check) (k : Kind) (c n p : ℕ) → firstFault cs (right k c) ≡ refused n p → FirstBroken cs n p
+-- the first check that fails refuses
+pub broken : (cs : List Check) (k : Kind) (c n p : ℕ) → firstFault cs (right k c) ≡ refused n p → FirstBroken cs n p
 unfolding firstFault
 broken [] k c n p e = absurd (right-not-refused (sym e))
 broken (check true m q ∷ cs) k c n p e =
@@ -37,14 +25,16 @@ pub right-exact : RightExact
 unfolding firstFault
 right-exact k ctx rec whole =
     let found = of-kind ctx rec refl whole in
-    (λ e. each-held (checks k ctx rec) k (asked k rec) (found ∙ e), λ h. sym found ∙ rw append-nil at (held (checks k ctx rec) [] (right k (asked k rec)) h))
+    let rest = right k (asked k rec) in
+    let all : firstFault (checks k ctx rec ++ []) rest ≡ firstFault (checks k ctx rec) rest = ap (λ (l : List Check). firstFault l rest) (append-nil (checks k ctx rec)) in
+    (λ e. kept-front (checks k ctx rec) [] rest (all ∙ found ∙ e), λ h. sym found ∙ sym all ∙ held (checks k ctx rec) [] rest h)
 
 pub broken-exact : BrokenExact
 unfolding firstFault
 broken-exact k ctx rec n p whole =
     let found = of-kind ctx rec refl whole in (
       λ e. broken (checks k ctx rec) k (asked k rec) n p (found ∙ e),
-      λ t. sym found ∙ rw (t .2) (held (t .0) (check false n p ∷ t .1) (right k (asked k rec)) (t .3)),
+      λ t. sym found ∙ rw append-nil at (broken-front (checks k ctx rec) [] (right k (asked k rec)) n p t),
     )
 
 -- the lists of checks stand in order

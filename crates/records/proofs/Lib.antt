@@ -1,3 +1,4 @@
+pub mod Amounts
 pub mod ByKind
 pub mod Checked
 pub mod EachKind

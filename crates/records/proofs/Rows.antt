@@ -7,7 +7,6 @@ use native.Mathlib.Omega.{arith}
 use lib.ListN.{length}
 use borrow.Author.Tests.{eq-eqb}
 use Rattle.sequences.proofs.Part.{part-length}
-use Rattle.fields.specs.Amount.{amountField}
 use Rattle.fields.specs.Answer.{accepted, refused, notDigits, noSuchDay}
 use Rattle.fields.specs.Calendar.{Day}
 use Rattle.fields.specs.Date.{dayOf, dateField}
@@ -54,14 +53,6 @@ field-date a rec f =
     let starts = f .starts in
     let six : length (field a (a + 5) rec) ≡ 6 = field-length a (a + 5) rec starts (f .some) (f .within) ∙ omega arith in
     rw (eq-eqb (length (field a (a + 5) rec)) 6 six)
-
--- thirteen bytes are judged as an amount by their digits alone
-pub field-amount : (a : ℕ) (rec : List ℕ) → Fits a (a + 12) rec → amountField (field a (a + 12) rec) ≡ digitsFrom 0 (field a (a + 12) rec)
-unfolding amountField
-field-amount a rec f =
-    let starts = f .starts in
-    let thirteen : length (field a (a + 12) rec) ≡ 13 = field-length a (a + 12) rec starts (f .some) (f .within) ∙ omega arith in
-    rw (eq-eqb (length (field a (a + 12) rec)) 13 thirteen) (field-digits a (a + 12) rec f)
 
 -- what was accepted has passed both tests
 both : {A : Type 0} (a b : Bool) (y : A) (n : ℕ) {v : A} → cond a (cond b (accepted y) (refused n)) (refused notDigits) ≡ accepted v → (a ≡ true) × (b ≡ true)

@@ -55,21 +55,25 @@ numberChecks n rec =
     ∷ check (eqb (number (field 4 10 rec)) n) 9 4
     ∷ []
 
+-- 34-46 of row 14, the amount. `AmountRows` holds these rows against the rule of the field alone
+abbrev pub amountChecks : List ℕ → List Check
+amountChecks rec = check (isDigits (field 34 46 rec)) 5 34 ∷ []
+
 -- row 14, behind its number
 abbrev pub dispositionChecks : List ℕ → List ℕ → List ℕ → List Check
 dispositionChecks abi company rec =
     check (isDigits (field 23 28 rec)) 5 23
     ∷ check (isDate (field 23 28 rec)) 8 23
     ∷ check (isEqual (field 29 33 rec) causale) 6 29
-    ∷ check (isDigits (field 34 46 rec)) 5 34
-    ∷ check (isEqual (field 47 47 rec) sign) 6 47
+    ∷ (amountChecks rec
+    ++ (check (isEqual (field 47 47 rec) sign) 6 47
     ∷ check (isDigits (field 48 52 rec)) 5 48
     ∷ check (isEqual (field 48 52 rec) abi) 10 48
     ∷ check (isBlank (field 53 57 rec) || isDigits (field 53 57 rec)) 5 53
     ∷ check (agrees company (field 92 96 rec)) 11 92
     ∷ check (isListed (byteAt 97 rec) (text " 1234569")) 6 97
     ∷ check (isEqual (field 120 120 rec) currency) 6 120
-    ∷ []
+    ∷ []))
 
 -- row 16, behind its number
 abbrev pub coordinatesChecks : List ℕ → List ℕ → List Check

@@ -23,6 +23,10 @@ pub data Span : Type 0 where
 abbrev pub width : Span → ℕ
 width (a to e) = e - (a - 1)
 
+-- what stands there
+abbrev pub fieldAt : Span → List ℕ → List ℕ
+fieldAt (a to e) rec = field a e rec
+
 -- the byte at position p
 abbrev pub byteAt : ℕ → List ℕ → ℕ
 byteAt p rec = getD rec (p - 1) 0

@@ -5,16 +5,16 @@ use mathlib.Core.List.{List}
 use lib.Dec.{eqb}
 use lib.ListN.{length}
 use Rattle.fields.specs.Digits.{number}
+use Rattle.records.specs.Amount.{amountIn}
 use Rattle.records.specs.Checks.{checks}
 use Rattle.records.specs.Context.{Context}
-use Rattle.records.specs.Field.{field}
 use Rattle.records.specs.Finding.{Finding, right, refused, firstFault}
 use Rattle.records.specs.Kinds.{opens}
 use Rattle.records.specs.declared.kind.Kind.{Kind}
 
--- the cents that a record asks for: the amount of a 14, of another record none
+-- the cents that a record asks for: the amount where it opens a disposition, of another record none
 abbrev pub asked : Kind → List ℕ → ℕ
-asked k rec = cond (opens k) (number (field 34 46 rec)) 0
+asked k rec = cond (opens k) (number (amountIn rec)) 0
 
 -- the first check that fails refuses, and a record that is not 120 bytes long gets 1
 unfoldable pub judge : Kind → Context → List ℕ → Finding

@@ -25,6 +25,10 @@ typeOf Ef = text "EF"
 abbrev pub hasType : Kind → List ℕ → Bool
 hasType k rec = isEqual (field 2 3 rec) (typeOf k)
 
+-- the record opens a disposition, by its type alone
+abbrev pub isOpening : List ℕ → Bool
+isOpening = hasType R14
+
 -- what a record does in a flow: it heads the flow, opens a disposition, goes on with it, or closes the flow
 pub data Role : Type 0 where
   Heads : Role

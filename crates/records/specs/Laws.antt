@@ -5,10 +5,14 @@ use mathlib.Core.List.{List}
 use mathlib.Core.Logic.{_↔_}
 use mathlib.Core.Path.{_≡_}
 use lib.ListN.{length}
+use Rattle.fields.specs.Amount.{amountField}
+use Rattle.fields.specs.Answer.{accepted}
+use Rattle.fields.specs.Answer.{refused as Answer·refused}
 use Rattle.fields.specs.Digits.{isDigits, number}
+use Rattle.records.specs.Amount.{amountIn}
 use Rattle.records.specs.Bytes.{badByte}
 use Rattle.records.specs.Checked.{checked, Alike}
-use Rattle.records.specs.Checks.{checks}
+use Rattle.records.specs.Checks.{amountChecks, checks}
 use Rattle.records.specs.Context.{Context}
 use Rattle.records.specs.Field.{field}
 use Rattle.records.specs.Finding.{right, refused, Hold, FirstBroken, inOrder, finding}
@@ -43,6 +47,14 @@ RightExact = (k : Kind) (ctx : Context) (rec : List ℕ) → length rec ≡ 120 
 -- and refused exactly by the first that fails
 abbrev pub BrokenExact : Type 0
 BrokenExact = (k : Kind) (ctx : Context) (rec : List ℕ) (n p : ℕ) → length rec ≡ 120 → (judge k ctx rec ≡ refused n p) ↔ FirstBroken (checks k ctx rec) n p
+
+-- the rows of the amount are what the field's own rule says: it refuses by the number of the first row that fails, and where every row
+-- holds it gives the number that stands there
+abbrev pub AmountRows : Type 0
+AmountRows =
+    (rec : List ℕ) → length rec ≡ 120
+    → ((n : ℕ) → (amountField (amountIn rec) ≡ Answer·refused n) ↔ FirstBroken (amountChecks rec) n 34)
+    × ((v : ℕ) → (amountField (amountIn rec) ≡ accepted v) ↔ (Hold (amountChecks rec) × (v ≡ number (amountIn rec))))
 
 -- number 1 is given exactly to a record that is not 120 bytes long, at position 0
 abbrev pub OneForLength : Type 0

@@ -1,3 +1,4 @@
+pub mod Amount
 pub mod Bytes
 pub mod Checked
 pub mod Checks

@@ -30,6 +30,11 @@ pub const SIGN: [u8; 1] = *b"-";
 
 pub const CURRENCY: [u8; 1] = *b"E";
 
+// The positions of the amount, in the record that opens a disposition.
+pub const AMOUNT_FIRST: usize = 34;
+
+pub const AMOUNT_LAST: usize = 46;
+
 // Document 01, "Numbers a clerk may see".
 pub const WRONG_LENGTH: u64 = 1;
 

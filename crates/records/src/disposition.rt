@@ -3,9 +3,9 @@ ghost use mathlib.Core.Path.{_≡_};
 ghost use mathlib.Core.List.{_++_};
 ghost use lib.ListN.{length};
 ghost use Rattle.fields.specs.Digits.{number};
+ghost use Rattle.records.specs.Amount.{amountIn};
 ghost use Rattle.records.specs.Checks.{numberChecks, dispositionChecks};
 ghost use Rattle.records.specs.Context.{headerOf};
-ghost use Rattle.records.specs.Field.{field as Field·field};
 ghost use Rattle.records.specs.Finding.{right, firstFault, finding};
 ghost use Rattle.records.specs.declared.kind.Kind.the-variants.{R14};
 use crate::constants::CAUSALE;
@@ -35,7 +35,7 @@ pub(crate) fn judge_disposition(rec: &[u8], n: u64, header: &[u8], company: &[u8
     ensures { λ r. ⌜ finding r ≡ firstFault
         (numberChecks n (now (rec .entry))
         ++ dispositionChecks (headerOf (now (header .entry)) .abi) (now (company .entry)) (now (rec .entry)))
-        (right R14 (number (Field·field 34 46 (now (rec .entry))))) ⌝ }
+        (right R14 (number (amountIn (now (rec .entry))))) ⌝ }
 {
     if let Number::Refused(number) = digits_equal_to(rec, 4, 10, n, WRONG_NUMBER) {
         return Judged::Refused(number, 4);
@@ -46,8 +46,9 @@ pub(crate) fn judge_disposition(rec: &[u8], n: u64, header: &[u8], company: &[u8
     if !same(rec, 29, 33, &CAUSALE) {
         return Judged::Refused(NOT_PERMITTED, 29);
     }
-    let Number::Value(cents) = amount(rec, 34) else {
-        return Judged::Refused(NOT_DIGITS, 34);
+    let cents = match amount(rec) {
+        Number::Value(cents) => cents,
+        Number::Refused(number) => return Judged::Refused(number, 34),
     };
     if !same(rec, 47, 47, &SIGN) {
         return Judged::Refused(NOT_PERMITTED, 47);

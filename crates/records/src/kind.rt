@@ -1,6 +1,6 @@
 // The eleven record types of a request flow.
 ghost use mathlib.Core.Path.{_≡_};
-ghost use Rattle.records.specs.Kinds.{typeOf, hasType};
+ghost use Rattle.records.specs.Kinds.{typeOf, hasType, isOpening};
 ghost use Rattle.records.specs.Kinds.{heads as Kinds·heads, opens as Kinds·opens, closes as Kinds·closes};
 use crate::constants;
 use crate::position::field;
@@ -44,6 +44,13 @@ pub fn has_type(rec: &[u8], kind: Kind) -> bool
 {
     let code = type_of(kind);
     fields::equal(field(rec, 2, 3), &code)
+}
+
+// Whether the record opens a disposition, by its type alone.
+pub fn is_opening(rec: &[u8]) -> bool
+    ensures { λ r. ⌜ r ≡ isOpening (now (rec .entry)) ⌝ }
+{
+    has_type(rec, Kind::R14)
 }
 
 // Whether a record of the kind heads the flow.

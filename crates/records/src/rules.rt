@@ -3,15 +3,19 @@ ghost use Prim.Native.Nat.{_+_};
 ghost use mathlib.Core.Bool.{not, _||_};
 ghost use mathlib.Core.Path.{_≡_};
 ghost use lib.Dec.{eqb};
+ghost use Rattle.fields.specs.Amount.{amountField};
 ghost use Rattle.fields.specs.Answer.{numberAnswer, dateAnswer};
 ghost use Rattle.fields.specs.Bytes.{isBlank, isEqual};
 ghost use Rattle.fields.specs.Digits.{isDigits, digitsFrom};
 ghost use Rattle.fields.specs.Digits.{number as Digits·number};
+ghost use Rattle.records.specs.Amount.{amountIn};
 ghost use Rattle.records.specs.Field.{byteAt};
 ghost use Rattle.records.specs.Field.{field as Field·field};
 ghost use Rattle.records.specs.Context.{headerOf};
 ghost use Rattle.records.specs.Checks.{isListed, agrees};
 ghost use Rattle.records.specs.Rows.{Fits, digitsThen, digitsThenDay};
+use crate::constants::AMOUNT_FIRST;
+use crate::constants::AMOUNT_LAST;
 use crate::constants::NOT_PERMITTED;
 use crate::constants::NOT_THE_HEADERS;
 use crate::position::field;
@@ -112,12 +116,11 @@ pub(crate) fn date(rec: &[u8], first: usize) -> Date
     fields::read_date(field(rec, first, first + 5))
 }
 
-// The amount in the thirteen bytes from first on, or else the refusal: 5.
-pub(crate) fn amount(rec: &[u8], first: usize) -> Number
-    requires { ⌜ Fits first (first + 12) (now rec) ⌝ }
-    ensures { λ r. ⌜ numberAnswer r ≡ digitsFrom 0 (Field·field first (first + 12) (now (rec .entry))) ⌝ }
+// The amount of the disposition that the record opens, or else the refusal, by the rule of amounts.
+pub fn amount(rec: &[u8]) -> Number
+    ensures { λ r. ⌜ numberAnswer r ≡ amountField (amountIn (now (rec .entry))) ⌝ }
 {
-    fields::read_amount(field(rec, first, first + 12))
+    fields::read_amount(field(rec, AMOUNT_FIRST, AMOUNT_LAST))
 }
 
 // Digits that give the value due, or else the refusal: 5, then the number handed in.

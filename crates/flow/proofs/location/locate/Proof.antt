@@ -1,14 +1,13 @@
 -- `flow::locate` meets its contract. Assumes nothing.
-use Prim.Native.Nat.{ℕ, suc, _+_, _-_, _*_}
+use Prim.Native.Nat.{ℕ, suc, _+_, _-_}
 use mathlib.Core.List.{List, []}
 use mathlib.Core.Path.{_≡_, sym, _∙_, ap}
 use native.Mathlib.Numerals.{add-one}
 use native.Mathlib.Omega.{arith}
 use lib.ListN.{length, getD}
 use borrow.Author.Needs.{needs}
-use Rattle.sequences.proofs.Part.{part-length}
 use Rattle.fields.specs.Digits.{number}
-use Rattle.records.specs.Field.{field}
+use Rattle.records.specs.Amount.{amountIn}
 use Rattle.flow.specs.Find.{dispositionsIn, startsAt}
 use Rattle.flow.proofs.Dispositions.{Disposition, accepted-length, disposition-stands}
 use Rattle.flow.proofs.Cut.{record-part}
@@ -55,7 +54,7 @@ amount-requires c κs =
     let within = d .within in
     let f = c .before .before .before .before .args .flow .now in
     let at = c .before .before .start-of .result in
-    rw (record-part at f) (part-length (120 * at) 120 f (omega arith), d .digits)
+    rw (record-part at f) (d .amount)
 
 add-count : tie.Need-add-count
 add-count c = search needs
@@ -79,7 +78,7 @@ returns c =
     let first : c .before .count .result ≡ suc (startsAt (dispositionsIn f) (start .before .before .args .k)) = c .before .count .ensures ∙ add-one at ∙ ap suc (start .start-of .ensures) in
     let end : c .before .before .before .before .next-opening .result ≡ at + length records = c .before .before .before .before .next-opening .ensures ∙ d .next in
     let size : c .count2 .result ≡ length records = c .count2 .ensures ∙ omega arith in
-    let cents : c .before .before .amount .result ≡ number (field 34 46 (getD records 0 [])) = c .before .before .amount .ensures ∙ ap (λ (r : List ℕ). number (field 34 46 r)) (record-part at f ∙ sym (d .opening)) in
+    let cents : c .before .before .amount .result ≡ number (amountIn (getD records 0 [])) = c .before .before .amount .ensures ∙ ap (λ (r : List ℕ). number (amountIn r)) (record-part at f ∙ sym (d .opening)) in
     λ i. record { first = first i; records = size i; cents = cents i }
 
 pub locate-spec : {M : Type 1} → statement M

@@ -1,12 +1,11 @@
--- `flow::next_opening` meets its contract: behind each record that is no 14, the first one from there on is the first of all. Assumes nothing.
+-- `flow::next_opening` meets its contract: behind each record that opens no disposition, the first one from there on is the first of all. Assumes nothing.
 use Prim.Native.Nat.{_+_, _-_}
 use mathlib.Core.Bool.{cond}
 use mathlib.Core.Path.{_≡_, refl, sym, _∙_, ap}
 use native.Mathlib.Numerals.{add-one}
 use native.Mathlib.Omega.{arith}
 use borrow.Author.Needs.{needs}
-use Rattle.records.specs.Kinds.{hasType}
-use Rattle.records.specs.declared.kind.Kind.the-variants.{R14}
+use Rattle.records.specs.Kinds.{isOpening}
 use Rattle.flow.specs.Find.{openingFrom}
 use Rattle.flow.specs.Records.{recordAt}
 use Rattle.flow.proofs.Dispositions.{opening-next, opening-end}
@@ -44,18 +43,18 @@ part-rec-start c = omega arith
 part-rec-end : tie.Need-part-rec-end Inv-loop μ-loop
 part-rec-end c = omega arith
 
-has-type-requires : tie.Need-has-type-requires Inv-loop μ-loop
-has-type-requires c κs = search needs
+is-opening-requires : tie.Need-is-opening-requires Inv-loop μ-loop
+is-opening-requires c κs = search needs
 
 -- the record's type decides whether it is the one
 decides :
-    (c : tie.After-has-type Inv-loop μ-loop) → let at = c .before .before .before in let f = at .before .before .args .flow .now in
-    openingFrom f (at .before .before .args .from) ≡ cond (c .has-type .result) (at .loop .i) (openingFrom f (at .loop .i + 1))
+    (c : tie.After-is-opening Inv-loop μ-loop) → let at = c .before .before .before in let f = at .before .before .args .flow .now in
+    openingFrom f (at .before .before .args .from) ≡ cond (c .is-opening .result) (at .loop .i) (openingFrom f (at .loop .i + 1))
 decides c =
     let at = c .before .before .before in
     let f = at .before .before .args .flow .now in
     let i = at .loop .i in
-    let type : c .has-type .result ≡ hasType R14 (recordAt i f) = c .has-type .ensures ∙ ap (hasType R14) (record-part i f) in
+    let type : c .is-opening .result ≡ isOpening (recordAt i f) = c .is-opening .ensures ∙ ap isOpening (record-part i f) in
     sym (at .loop .inv) ∙ rw (type, add-one) (opening-next f i (omega arith))
 
 returns : tie.Need-returns Inv-loop μ-loop
@@ -87,7 +86,7 @@ next-opening-spec =
     sub-rec
     part-rec-start
     part-rec-end
-    has-type-requires
+    is-opening-requires
     returns
     add-i
     loop-less

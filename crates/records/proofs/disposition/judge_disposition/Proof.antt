@@ -1,19 +1,19 @@
 -- `records::judge_disposition` meets its contract: each return is the first check that fails, and `past-p` is the place behind the checks of position p. Assumes nothing.
-use mathlib.Core.Bool.{true}
-use mathlib.Core.List.{_++_}
+use Prim.Native.Nat.{ℕ}
+use mathlib.Core.List.{List, _++_}
 use mathlib.Core.Path.{_≡_, refl, sym, _∙_, ap}
 use native.Mathlib.Omega.{arith}
 use borrow.Author.Needs.{needs}
 use borrow.Author.Tests.{not-true, not-false}
-use Rattle.fields.specs.Answer.{accepted, numberAnswer, dateAnswer}
-use Rattle.fields.specs.Digits.{isDigits, number}
-use Rattle.fields.proofs.Answers.{passed, failed, accepted-same}
-use Rattle.records.specs.Checks.{agrees, numberChecks, dispositionChecks}
-use Rattle.records.specs.Field.{field}
+use Rattle.fields.specs.Answer.{accepted, refused, numberAnswer, dateAnswer}
+use Rattle.fields.specs.Digits.{number}
+use Rattle.records.specs.Amount.{amountIn}
+use Rattle.records.specs.Checks.{agrees, numberChecks, amountChecks, dispositionChecks}
 use Rattle.records.specs.Context.{headerOf}
-use Rattle.records.specs.Finding.{right}
+use Rattle.records.specs.Finding.{right, Hold, FirstBroken}
 use Rattle.records.specs.declared.kind.Kind.the-variants.{R14}
-use Rattle.records.proofs.FirstFault.{Reached, enter, pass, pass-row, stop, done}
+use Rattle.records.proofs.Amounts.{amount-rows}
+use Rattle.records.proofs.FirstFault.{Reached, enter, pass, pass-row, pass-all, stop, stop-all, done}
 use Rattle.records.proofs.Rows.{fits, digits-both, date-both, stop-digits, stop-date}
 use Rattle.records.proofs.disposition.judge_disposition.Statement.{statement}
 use Rattle.records.proofs.disposition.judge_disposition.Tie as tie
@@ -25,7 +25,7 @@ enum-known-number : tie.Need-enum-known-number
 enum-known-number c = search needs
 
 abbrev entered : tie.After-shared-slice-known → Reached
-entered c = enter (numberChecks (c .before .args .n) (c .before .args .rec .now) ++ dispositionChecks (headerOf (c .before .args .header .now) .abi) (c .before .args .company .now) (c .before .args .rec .now)) (right R14 (number (field 34 46 (c .before .args .rec .now))))
+entered c = enter (numberChecks (c .before .args .n) (c .before .args .rec .now) ++ dispositionChecks (headerOf (c .before .args .header .now) .abi) (c .before .args .company .now) (c .before .args .rec .now)) (right R14 (number (amountIn (c .before .args .rec .now))))
 
 returns : tie.Need-returns
 returns c = stop-digits (entered (c .before .before .before .before .before .before)) _ 4 _ _ refl (sym (c .before .before .before .digits-equal-to .ensures) ∙ ap numberAnswer (c .before .number .given .1))
@@ -66,14 +66,28 @@ amount-requires c κs = search needs
 enum-known-cents : tie.Need-enum-known-cents
 enum-known-cents c = search needs
 
-enum-told-3 : tie.Need-enum-told-3
-enum-told-3 c = search needs
+enum-known-number-3 : tie.Need-enum-known-number-3
+enum-known-number-3 c = search needs
 
 abbrev past-29 : tie.Else1 → Reached
 past-29 c = pass (past-23 (c .before .before .before)) (sym (c .before .same .ensures) ∙ not-false _ (c .if1 .left))
 
+-- what the rule of the amount says of its rows
+abbrev rec-of : tie.After-amount → List ℕ
+rec-of c = c .before .before .before .before .before .before .before .before .before .before .before .before .before .args .rec .now
+
+rows :
+    (c : tie.After-amount)
+    → ((n : ℕ) → (numberAnswer (c .amount .result) ≡ refused n) → FirstBroken (amountChecks (rec-of c)) n 34)
+    × ((v : ℕ) → (numberAnswer (c .amount .result) ≡ accepted v) → Hold (amountChecks (rec-of c)) × (v ≡ number (amountIn (rec-of c))))
+rows c =
+    let so = amount-rows (rec-of c) (c .before .before .before .before .before .before .before .before .before .before .before .before .before .pre) in
+    (λ n e. so .0 n .0 (sym (c .amount .ensures) ∙ e), λ v e. so .1 v .0 (sym (c .amount .ensures) ∙ e))
+
 returns-4 : tie.Need-returns-4
-returns-4 c = stop (past-29 (c .before .before .before)) (failed _ _ _ _ (sym (c .before .before .amount .ensures) ∙ ap numberAnswer (c .enum-told3 .given .1)))
+returns-4 c =
+    let told = c .before .before .before in
+    stop-all (past-29 (told .before)) (amountChecks (rec-of told)) _ _ 34 refl (rows told .0 _ (ap numberAnswer (c .before .number3 .given .1)))
 
 slice-aggregate-same-2 : tie.Need-slice-aggregate-same-2
 slice-aggregate-same-2 c = search needs
@@ -81,16 +95,12 @@ slice-aggregate-same-2 c = search needs
 same-requires-2 : tie.Need-same-requires-2
 same-requires-2 c κs = search needs
 
--- the amount, where its thirteen bytes are digits
-read :
-    (c : tie.After-known-told3) → let bs = field 34 46 (c .before .before .before .before .before .before .before .before .before .before .before .before .before .before .before .before .args .rec .now) in
-    (isDigits bs ≡ true) × (c .before .cents .given .0 .0 ≡ number bs)
-read c =
-    let amount = passed (isDigits _) (accepted (number _)) _ (sym (c .before .before .before .amount .ensures) ∙ ap numberAnswer (c .before .cents .given .1)) in
-    (amount .0, sym (accepted-same (amount .1)))
+-- the amount, where its rows hold
+read : (c : tie.After-known-told3) → let rec = rec-of (c .before .before .before) in Hold (amountChecks rec) × (c .before .cents .given .0 .0 ≡ number (amountIn rec))
+read c = rows (c .before .before .before) .1 _ (ap numberAnswer (c .before .cents .given .1))
 
 abbrev past-34 : tie.After-known-told3 → Reached
-past-34 c = pass (past-29 (c .before .before .before .before)) (read c .0)
+past-34 c = pass-all (past-29 (c .before .before .before .before)) (amountChecks (rec-of (c .before .before .before))) _ refl (read c .0)
 
 returns-5 : tie.Need-returns-5
 returns-5 c = stop (past-34 (c .before .before .before)) (sym (c .before .same2 .ensures) ∙ not-true _ (c .if2 .taken))
@@ -98,23 +108,23 @@ returns-5 c = stop (past-34 (c .before .before .before)) (sym (c .before .same2 
 equal-to-abi-requires : tie.Need-equal-to-abi-requires
 equal-to-abi-requires c κs = search needs
 
-enum-known-number-3 : tie.Need-enum-known-number-3
-enum-known-number-3 c = search needs
+enum-known-number-4 : tie.Need-enum-known-number-4
+enum-known-number-4 c = search needs
 
 abbrev past-47 : tie.Else2 → Reached
 past-47 c = pass (past-34 (c .before .before .before)) (sym (c .before .same2 .ensures) ∙ not-false _ (c .if2 .left))
 
 returns-6 : tie.Need-returns-6
-returns-6 c = stop-digits (past-47 (c .before .before .before .before)) _ 48 _ _ refl (sym (c .before .before .before .equal-to-abi .ensures) ∙ ap numberAnswer (c .before .number3 .given .1))
+returns-6 c = stop-digits (past-47 (c .before .before .before .before)) _ 48 _ _ refl (sym (c .before .before .before .equal-to-abi .ensures) ∙ ap numberAnswer (c .before .number4 .given .1))
 
-enum-told-4 : tie.Need-enum-told-4
-enum-told-4 c = search needs
+enum-told-3 : tie.Need-enum-told-3
+enum-told-3 c = search needs
 
 blank-or-digits-requires : tie.Need-blank-or-digits-requires
 blank-or-digits-requires c κs = search needs
 
-abbrev past-48 : tie.After-enum-told4 → Reached
-past-48 c = pass-row (past-47 (c .before .before .before)) (digits-both _ _ _ (sym (c .before .before .equal-to-abi .ensures) ∙ ap numberAnswer (c .enum-told4 .given .1)))
+abbrev past-48 : tie.After-enum-told3 → Reached
+past-48 c = pass-row (past-47 (c .before .before .before)) (digits-both _ _ _ (sym (c .before .before .equal-to-abi .ensures) ∙ ap numberAnswer (c .enum-told3 .given .1)))
 
 returns-7 : tie.Need-returns-7
 returns-7 c = stop (past-48 (c .before .before)) (sym (c .before .blank-or-digits .ensures) ∙ not-true _ (c .if3 .taken))
@@ -178,15 +188,15 @@ judge-disposition-spec =
     returns-3
     amount-requires
     enum-known-cents
-    enum-told-3
+    enum-known-number-3
     returns-4
     slice-aggregate-same-2
     same-requires-2
     returns-5
     equal-to-abi-requires
-    enum-known-number-3
+    enum-known-number-4
     returns-6
-    enum-told-4
+    enum-told-3
     blank-or-digits-requires
     returns-7
     field-requires

@@ -1,0 +1,92 @@
+-- The rows of an amount and the rule of its field. Assumes nothing.
+use Prim.Native.Nat.{ℕ}
+use mathlib.Core.Bool.{Bool, true, false, cond}
+use mathlib.Core.List.{List, []}
+use mathlib.Core.Path.{_≡_, refl, sym, _∙_, ap, subst}
+use native.Mathlib.Omega.{arith}
+use lib.Dec.{eqb}
+use lib.ListN.{length}
+use borrow.Author.Tests.{eq-eqb, eqb-true}
+use Rattle.fields.specs.Amount.{amountField}
+use Rattle.fields.specs.Answer.{Answer, accepted, refused, notDigits}
+use Rattle.fields.specs.Digits.{isDigits, number, digitsFrom}
+use Rattle.records.specs.Amount.{amountIn, HasAmount}
+use Rattle.records.specs.Checks.{amountChecks, checks}
+use Rattle.records.specs.Context.{Context}
+use Rattle.records.specs.Finding.{Finding, right, firstFault}
+use Rattle.records.specs.Finding.{refused as Finding·refused}
+use Rattle.records.specs.Judge.{asked, judge}
+use Rattle.records.specs.Kinds.{opens}
+use Rattle.records.specs.Laws.{AmountRows}
+use Rattle.records.specs.Rows.{Fits}
+use Rattle.records.specs.declared.kind.Kind.{Kind}
+use Rattle.records.specs.declared.kind.Kind.the-variants.{R14}
+use Rattle.records.proofs.EachKind.{opens-14}
+use Rattle.records.proofs.FirstFault.{held, broken-front, right-not-refused, kept-all, kept-front, behind}
+use Rattle.records.proofs.Found.{broken}
+use Rattle.records.proofs.Rows.{fits, field-length, field-digits}
+
+-- what a field's answer is of the record, at the amount's place
+abbrev asFinding : Answer ℕ → Finding
+asFinding (accepted v) = right R14 v
+asFinding (refused n) = Finding·refused n 34
+
+found-value : (x : Answer ℕ) (v : ℕ) → asFinding x ≡ right R14 v → x ≡ accepted v
+found-value (accepted w) v e = cc
+found-value (refused n) v e = absurd (right-not-refused e)
+
+found-refusal : (x : Answer ℕ) (n : ℕ) → asFinding x ≡ Finding·refused n 34 → x ≡ refused n
+found-refusal (accepted v) n e = absurd (right-not-refused (sym e))
+found-refusal (refused m) n e = cc
+
+-- thirteen bytes are an amount by their digits alone, and so by their rows
+amount-found : (rec : List ℕ) → length rec ≡ 120 → asFinding (amountField (amountIn rec)) ≡ firstFault (amountChecks rec) (right R14 (number (amountIn rec)))
+unfolding amountField firstFault
+amount-found rec whole = ap asFinding read ∙ by (isDigits bs)
+  where
+    bs : List ℕ
+    bs = amountIn rec
+
+    placed : Fits 34 46 rec
+    placed = fits 34 46 rec whole (omega arith) (omega arith) (omega arith) (omega arith)
+
+    thirteen : length bs ≡ 13
+    thirteen = field-length 34 46 rec (omega arith) (omega arith) (placed .within)
+
+    read : amountField bs ≡ digitsFrom 0 bs
+    read = rw (eq-eqb (length bs) 13 thirteen) (field-digits 34 46 rec placed)
+
+    by : (b : Bool) → asFinding (cond b (accepted (number bs)) (refused notDigits)) ≡ cond b (right R14 (number bs)) (Finding·refused notDigits 34)
+    by true = refl
+    by false = refl
+
+pub amount-rows : AmountRows
+unfolding firstFault
+amount-rows rec whole =
+    let x = amountField (amountIn rec) in
+    let so = amount-found rec whole in
+    let v = number (amountIn rec) in
+    let cs = amountChecks rec in
+    let rest = right R14 v in (
+      λ n. (λ e. broken cs R14 v n 34 (sym so ∙ ap asFinding e), λ b. found-refusal x n (so ∙ broken-front cs [] rest n 34 b)),
+      λ w. (
+        λ e. let kept = sym so ∙ ap asFinding e in (kept-front cs [] rest kept, same w (kept-all cs rest kept)),
+        λ h. found-value x w (so ∙ held cs [] rest (h .0) ∙ ap (right R14) (sym (h .1))),
+      ),
+    )
+  where
+    same : (w : ℕ) → right R14 (number (amountIn rec)) ≡ right R14 w → w ≡ number (amountIn rec)
+    same w e = cc
+
+-- a right record that opens a disposition has an amount
+pub right-amount : (k l : Kind) (ctx : Context) (rec : List ℕ) (c : ℕ) → opens k ≡ true → judge k ctx rec ≡ right l c → HasAmount rec
+unfolding judge checks
+right-amount k l ctx rec c o e = by (eqb (length rec) 120) refl (subst (λ (m : Kind). judge m ctx rec ≡ right l c) (opens-14 k o) e)
+  where
+    by :
+        (b : Bool) → eqb (length rec) 120 ≡ b → cond b (firstFault (checks R14 ctx rec) (right R14 (asked R14 rec))) (Finding·refused 1 0) ≡ right l c
+        → HasAmount rec
+    by true t x =
+        let rows = kept-front (amountChecks rec) _ (right R14 (asked R14 rec)) (behind 5 (checks R14 ctx rec) (right R14 (asked R14 rec)) x) in
+        amount-rows rec (eqb-true (length rec) 120 t) .1 (number (amountIn rec)) .1 (rows, refl)
+    by false t x = absurd (right-not-refused x)
