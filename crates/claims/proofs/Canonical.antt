@@ -1,6 +1,6 @@
 -- A flow is canonical exactly where each of its records is what its item encodes; so amendments keep it canonical. Assumes nothing.
 use Prim.Native.Nat.{ℕ, suc, _+_, _-_, _≤_, _<_}
-use mathlib.Core.Bool.{Bool, true, false, cond}
+use mathlib.Core.Bool.{Bool, cond}
 use mathlib.Core.List.{List, [], _∷_, _++_, map, map-map, flatten, head-eq-of-cons-eq, tail-eq-of-cons-eq}
 use mathlib.Core.Path.{_≡_, refl, sym, _∙_, ap, ap₂, subst}
 use native.Mathlib.Omega.{arith}
@@ -10,21 +10,20 @@ use Rattle.sequences.specs.Counted.{Counted}
 use Rattle.sequences.proofs.Append.{append-same}
 use Rattle.sequences.proofs.Counted.{counted-before, counted-behind, counted-append}
 use Rattle.records.specs.Context.{headerOf}
-use Rattle.records.specs.Kinds.{heads, opened}
+use Rattle.records.specs.Kinds.{heads, opens, opened}
 use Rattle.records.specs.declared.kind.Kind.{Kind}
-use Rattle.records.specs.declared.kind.Kind.the-variants.{Im}
 use Rattle.flow.specs.Records.{recordsOf}
 use Rattle.grammar.specs.Grammar.{Typed, kindsOf, recordsIn, Numbered, RightDisposition, Grammar}
-use Rattle.grammar.proofs.Dispositions.{Detail, each-detail, detail-opens, Opened, opened-by, opened-so, Member, InShape}
+use Rattle.grammar.proofs.Dispositions.{Detail, detail-opens, Opened, opened-by, opened-so, Member, InShape}
 use Rattle.grammar.proofs.Grammar.{grammar-shape}
 use Rattle.grammar.proofs.Parts.{between}
 use Rattle.list.specs.Encode.{encodeItem, encodeFrom, encodeTrailer, headerBehind, recordsFor, trailerFor, encode}
-use Rattle.list.specs.Items.{Item, Proper}
-use Rattle.list.specs.ReadBack.{gather, itemsOf, Canonical}
-use Rattle.list.specs.Table.{carried, hasItem}
+use Rattle.list.specs.Items.{Item, recordKind, Proper}
+use Rattle.list.specs.ReadBack.{itemsOf, Canonical}
+use Rattle.list.specs.Table.{recordOf}
 use Rattle.list.proofs.AllRecords.{encoded-count, encode-records}
 use Rattle.list.proofs.Gathering.{body-gathered}
-use Rattle.list.proofs.RecordsAgain.{ownItem}
+use Rattle.list.proofs.RecordsAgain.{kindFor, ownItem}
 use Rattle.list.proofs.Rewritten.{own-list-items, own-proper-all, trailer-so}
 use Rattle.flow.specs.declared.answer.Totals.{Totals}
 use Rattle.flow.specs.declared.location.Target.{Target}
@@ -35,14 +34,8 @@ use Rattle.amend.proofs.Answered.{withdrawn-grammar, changed-grammar}
 use Rattle.amend.proofs.Kept.{repriced as Kept·repriced}
 use Rattle.amend.proofs.Left.{totalsWith, left-bytes, retyped, typedFrom, retold, here, behind}
 use Rattle.claims.specs.Ledger.{firstRepriced}
-use Rattle.claims.proofs.Encoded.{trailer-recounted, detail-renumbered, opening-renumbered, opening-repriced}
-use Rattle.claims.proofs.Listed.{itemsBy, itemOfHeader, listed-so, items-retyped, items-retold}
-
-detail-heads : (k : Kind) → Detail k → heads k ≡ false
-detail-heads = each-detail (λ (k : Kind). heads k ≡ false) (refl, (refl, (refl, (refl, (refl, (refl, (refl, (refl, tt))))))))
-
-detail-listed : (k : Kind) → Detail k → hasItem k ≡ true
-detail-listed = each-detail (λ (k : Kind). hasItem k ≡ true) (refl, (refl, (refl, (refl, (refl, (refl, (refl, (refl, tt))))))))
+use Rattle.claims.proofs.Encoded.{detail-heads, trailer-recounted, detail-renumbered, opening-renumbered, opening-repriced}
+use Rattle.claims.proofs.Listed.{itemsBy, itemOfHeader, detail-record, listed-so, items-retyped, items-retold}
 
 -- a disposition behind i others, each record of which is what its item encodes; and dispositions
 abbrev pub AsItems : List ℕ → ℕ → List Typed → Type 0
@@ -57,18 +50,22 @@ module _ (header : List ℕ) where
   unfolding encodeFrom
   details-encoded i [] is details = refl
   details-encoded i (r ∷ rs) is details =
-      let shut : opened (r .kind) ≡ 0 = ap (λ (b : Bool). cond b 1 0) (detail-opens (r .kind) (details .0)) in
-      let number : i + opened (r .kind) ≡ i = omega arith in
-      let meant : headerBehind header (ownItem r) ≡ header = ap (λ (b : Bool). cond b (ownItem r .body) header) (detail-heads (r .kind) (details .0)) in
+      let k = recordKind (ownItem r) in
+      let same : k ≡ r .kind = detail-record (r .kind) (details .0) in
+      let shut : opened k ≡ 0 = ap (λ (b : Bool). cond b 1 0) (ap opens same ∙ detail-opens (r .kind) (details .0)) in
+      let number : i + opened k ≡ i = omega arith in
+      let meant : headerBehind header (ownItem r) ≡ header = ap (λ (b : Bool). cond b (ownItem r .body) header) (ap heads same ∙ detail-heads (r .kind) (details .0)) in
       (λ j. encodeItem (number j) header (ownItem r) ∷ encodeFrom (number j) (meant j) (map ownItem rs ++ is))
       ∙ ap (λ (l : List (List ℕ)). encodeItem i header (ownItem r) ∷ l) (details-encoded i rs is (details .1))
 
   disposition-encoded : (i : ℕ) (d : List Typed) (is : List Item) → Opened d → encodeFrom i header (map ownItem d ++ is) ≡ map (encodeItem (suc i) header) (map ownItem d) ++ encodeFrom (suc i) header is
   unfolding encodeFrom
   disposition-encoded i d is (opened-by r rs e details) =
-      let one : opened (r .kind) ≡ 1 = ap opened e in
-      let number : i + opened (r .kind) ≡ suc i = omega arith in
-      let meant : headerBehind header (ownItem r) ≡ header = ap (λ (k : Kind). cond (heads k) (ownItem r .body) header) e in
+      let k = recordKind (ownItem r) in
+      let same = ap (λ (l : Kind). recordOf (kindFor l)) e in
+      let one : opened k ≡ 1 = ap opened same in
+      let number : i + opened k ≡ suc i = omega arith in
+      let meant : headerBehind header (ownItem r) ≡ header = ap (λ (l : Kind). cond (heads l) (ownItem r .body) header) same in
       (λ j. encodeItem (number j) header (ownItem r) ∷ encodeFrom (number j) (meant j) (map ownItem rs ++ is))
       ∙ ap (λ (l : List (List ℕ)). encodeItem (suc i) header (ownItem r) ∷ l) (details-encoded (suc i) rs is details)
 
@@ -90,7 +87,7 @@ module _ (header : List ℕ) where
 
 -- what its header's item carries is what later records are encoded with
 abbrev pub bodyOf : List ℕ → List ℕ
-bodyOf im = gather (carried Im) im
+bodyOf im = itemOfHeader im .body
 
 -- the three parts of a canonical flow
 pub record AsEncoded (f : List ℕ) (t : Totals) (g : Grammar f t) : Type 0 where
@@ -141,9 +138,9 @@ module _ (f : List ℕ) (t : Totals) (g : Grammar f t) where
       let front : recordsFor own ≡ im ∷ flatten (map recordsIn ds) = records-so ∙ (λ i. sym (e .header) i ∷ sym (encoded-joined (bodyOf im) 0 ds (grammar-shape f t g) (e .dispositions)) i) in
       ap encode own-so ∙ (λ i. flatten (front i ++ ((trailer-meant ∙ sym (e .trailer)) i ∷ []))) ∙ sym (left-bytes (g .parts)) ∙ g .bytes
 
--- a record that has an item, and its item
-own-proper : (r : Typed) → length (r .bytes) ≡ 120 → hasItem (r .kind) ≡ true → Proper (ownItem r)
-own-proper r whole listed = record { listed = listed; sized = body-gathered (r .bytes) whole (r .kind) }
+-- the item of a record
+own-proper : (r : Typed) → length (r .bytes) ≡ 120 → Proper (ownItem r)
+own-proper r whole = record { sized = body-gathered (r .bytes) whole (kindFor (r .kind)) }
 
 -- dispositions with other numbers are what their items encode with these numbers
 module _ (header abi : List ℕ) where
@@ -152,8 +149,8 @@ module _ (header abi : List ℕ) where
       → map (renumbered j) (map (encodeItem i header) (map ownItem rs)) ≡ map (encodeItem j header) (map ownItem rs)
   details-numbered i j n [] details members = refl
   details-numbered i j n (r ∷ rs) details members =
-      let proper = own-proper r (members .0 .0 .whole) (detail-listed (r .kind) (details .0)) in
-      ap₂ (λ (x : List ℕ) (xs : List (List ℕ)). x ∷ xs) (detail-renumbered i j header (ownItem r) proper (details .0)) (details-numbered i j n rs (details .1) (members .1))
+      let proper = own-proper r (members .0 .0 .whole) in
+      ap₂ (λ (x : List ℕ) (xs : List (List ℕ)). x ∷ xs) (detail-renumbered i j header (ownItem r) proper (subst Detail (sym (detail-record (r .kind) (details .0))) (details .0))) (details-numbered i j n rs (details .1) (members .1))
 
   records-numbered :
       (i j n : ℕ) (d : List Typed) → RightDisposition abi n d → map (renumbered j) (map (encodeItem i header) (map ownItem d)) ≡ map (encodeItem j header) (map ownItem d)
@@ -161,8 +158,8 @@ module _ (header abi : List ℕ) where
     where
       go : (d : List Typed) → Opened d → All (Member abi n) d → map (renumbered j) (map (encodeItem i header) (map ownItem d)) ≡ map (encodeItem j header) (map ownItem d)
       go d (opened-by r rs e details) members =
-          let proper = own-proper r (members .0 .0 .whole) (ap hasItem e) in
-          ap₂ (λ (x : List ℕ) (xs : List (List ℕ)). x ∷ xs) (opening-renumbered i j header (ownItem r) proper e) (details-numbered i j n rs details (members .1))
+          let proper = own-proper r (members .0 .0 .whole) in
+          ap₂ (λ (x : List ℕ) (xs : List (List ℕ)). x ∷ xs) (opening-renumbered i j header (ownItem r) proper (ap (λ (k : Kind). recordOf (kindFor k)) e)) (details-numbered i j n rs details (members .1))
 
   pub typed-encoded : (i n : ℕ) (ds : List (List Typed)) → Numbered abi n ds → Encoded header (suc i) ds → Encoded header i (typedFrom (suc i) ds)
   typed-encoded i n [] each e = tt
@@ -180,8 +177,8 @@ module _ (header abi : List ℕ) where
     where
       go : (d : List Typed) → Opened d → All (Member abi n) d → recordsIn d ≡ map (encodeItem i header) (map ownItem d) → recordsIn (retold new d) ≡ map (encodeItem i header) (firstRepriced new (map ownItem d))
       go d (opened-by r rs kind details) members e =
-          let proper = own-proper r (members .0 .0 .whole) (ap hasItem kind) in
-          let opening = ap (Kept·repriced new) (head-eq-of-cons-eq e) ∙ opening-repriced i new header (ownItem r) proper kind in
+          let proper = own-proper r (members .0 .0 .whole) in
+          let opening = ap (Kept·repriced new) (head-eq-of-cons-eq e) ∙ opening-repriced i new header (ownItem r) proper (ap kindFor kind) in
           ap₂ (λ (x : List ℕ) (xs : List (List ℕ)). x ∷ xs) opening (tail-eq-of-cons-eq e)
 
 -- so an amendment of a canonical flow leaves a canonical one

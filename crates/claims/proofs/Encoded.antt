@@ -1,6 +1,7 @@
 -- Records that items encode, with another number, another amount or other counts written over: what the items encode then. Assumes
 -- nothing.
-use Prim.Native.Nat.{ℕ, _+_, _-_, _≤_}
+use Prim.Native.Nat.{ℕ, _+_, _≤_}
+use mathlib.Core.Bool.{false}
 use mathlib.Core.List.{List, [], _∷_, _++_}
 use mathlib.Core.Logic.{inl}
 use mathlib.Core.Path.{_≡_, refl, sym, _∙_, ap, subst}
@@ -14,19 +15,20 @@ use Rattle.sequences.proofs.Part.{part-at-most, part-put, take-put, drop-put}
 use Rattle.fields.specs.Digits.{digits}
 use Rattle.fields.proofs.Decimal.{written-length}
 use Rattle.records.specs.Constants.{causale, sign, currency}
-use Rattle.records.specs.Field.{Span, _to_}
-use Rattle.records.specs.Kinds.{typeOf}
+use Rattle.records.specs.Field.{_to_}
+use Rattle.records.specs.Kinds.{typeOf, heads}
 use Rattle.records.specs.declared.kind.Kind.{Kind}
-use Rattle.records.specs.declared.kind.Kind.the-variants.{Im, R14, Ef}
+use Rattle.records.specs.declared.kind.Kind.the-variants.{R14, Ef}
 use Rattle.records.proofs.EachKind.{each-kind}
 use Rattle.grammar.proofs.Dispositions.{Detail, each-detail}
-use Rattle.list.specs.Encode.{Placed, place, fill, blanks, carriedAt, supplied, bodyPlaced, encodeItem, encodeTrailer}
-use Rattle.list.specs.Items.{Item, Proper}
-use Rattle.list.specs.Table.{carried, bodyLength}
+use Rattle.list.specs.Encode.{Placed, place, fill, blanks, abiIn, copiedIn, supplied, bodyPlaced, encodeItem, encodeTrailer}
+use Rattle.list.specs.Items.{Item, recordKind, Proper}
+use Rattle.list.specs.Table.{recordOf, carried, bodyLength}
 use Rattle.list.proofs.Carried.{body-fits, body-outside}
 use Rattle.list.proofs.OneRecord.{abi-short}
 use Rattle.list.proofs.Placing.{Fits, Outside, fill-again}
-use Rattle.list.proofs.TableSpans.{first, carried-within}
+use Rattle.list.proofs.RecordsAgain.{kindFor}
+use Rattle.list.proofs.TableSpans.{carried-within, carried-behind-number}
 use Rattle.flow.specs.declared.answer.Totals.{Totals}
 use Rattle.amend.specs.Withdraw.{renumbered, recounted}
 use Rattle.claims.specs.Ledger.{repriced}
@@ -34,7 +36,7 @@ use Rattle.claims.specs.Ledger.{repriced}
 -- the trailer with other totals
 module _ (header : List ℕ) (t u : Totals) where
   abbrev copied : List ℕ
-  copied = carriedAt Im 4 45 header
+  copied = copiedIn header
 
   abbrev front : List Placed
   front = place 2 (typeOf Ef) ∷ place 4 copied ∷ []
@@ -78,15 +80,12 @@ module _ (header : List ℕ) (t u : Totals) where
       (inl (omega (arith, seven n′)), tt) in
       ap (λ (l : List ℕ). put 82 (digits 7 n′) (put 52 (digits 15 c′) l)) one ∙ ap (put 82 (digits 7 n′)) two ∙ three
 
+pub detail-heads : (k : Kind) → Detail k → heads k ≡ false
+detail-heads = each-detail (λ (k : Kind). heads k ≡ false) (refl, (refl, (refl, (refl, (refl, (refl, (refl, (refl, tt))))))))
+
 -- what a record that is neither a 14 nor header nor trailer has beside its type and its body
 detail-supplied : (k : Kind) (n : ℕ) (abi : List ℕ) → Detail k → supplied k n abi ≡ place 4 (digits 7 n) ∷ []
 detail-supplied k n abi = each-detail (λ (l : Kind). supplied l n abi ≡ place 4 (digits 7 n) ∷ []) (refl, (refl, (refl, (refl, (refl, (refl, (refl, (refl, tt)))))))) k
-
--- no record of a disposition carries a position of its number
-pub detail-behind : (k : Kind) → Detail k → All (λ (t : Span). 10 ≤ first t - 1) (carried k)
-detail-behind =
-    let one : All (λ (t : Span). 10 ≤ first t - 1) ((11 to 120) ∷ []) = (omega arith, tt) in
-    each-detail (λ (k : Kind). All (λ (t : Span). 10 ≤ first t - 1) (carried k)) (one, (one, (one, (one, (one, (one, (one, ((omega arith, (omega arith, tt)), tt))))))))
 
 type-fits : (k : Kind) → Fits (place 2 (typeOf k))
 type-fits = each-kind (λ (k : Kind). Fits (place 2 (typeOf k))) (omega arith, (omega arith, (omega arith, (omega arith, (omega arith, (omega arith, (omega arith, (omega arith, (omega arith, (omega arith, (omega arith, tt)))))))))))
@@ -100,16 +99,16 @@ number-again k i j qs fits outside =
     fill-again (place 2 (typeOf k) ∷ []) 4 (digits 7 i) (digits 7 j) qs blanks (type-fits k, tt) fits (omega (arith, size i)) refl (size j ∙ sym (size i))
     (subst (λ (w : ℕ). All (Outside 3 w) qs) (sym (size j)) outside)
 
--- the record of an item whose kind is known
-encoded-as :
-    (header : List ℕ) (it : Item) (k : Kind) → it .kind ≡ k → (n : ℕ)
-    → encodeItem n header it ≡ fill (place 2 (typeOf k) ∷ (supplied k n (carriedAt Im 9 13 header) ++ bodyPlaced (carried k) (it .body))) blanks
+-- the record of a D
+encoded-d :
+    (header : List ℕ) (it : Item) → it .kind ≡ kindFor R14 → (n : ℕ)
+    → encodeItem n header it ≡ fill (place 2 (typeOf R14) ∷ (supplied R14 n (abiIn header) ++ bodyPlaced (carried (kindFor R14)) (it .body))) blanks
 unfolding encodeItem
-encoded-as header it k e n = ap (λ (l : Kind). fill (place 2 (typeOf l) ∷ (supplied l n (carriedAt Im 9 13 header) ++ bodyPlaced (carried l) (it .body))) blanks) e
+encoded-d header it e n = λ i. fill (place 2 (typeOf (recordOf (e i))) ∷ (supplied (recordOf (e i)) n (abiIn header) ++ bodyPlaced (carried (e i)) (it .body))) blanks
 
 -- what a 14 has behind its number and before its body: the fixed values and the ABI
 abbrev fixed : List ℕ → List Placed
-fixed header = place 29 causale ∷ place 47 sign ∷ place 48 (carriedAt Im 9 13 header) ∷ place 120 currency ∷ []
+fixed header = place 29 causale ∷ place 47 sign ∷ place 48 (abiIn header) ∷ place 120 currency ∷ []
 
 fixed-fits : (header : List ℕ) → All Fits (fixed header)
 fixed-fits header =
@@ -118,26 +117,34 @@ fixed-fits header =
 
 -- the record of an item, with another number
 module _ (i j : ℕ) (header : List ℕ) (it : Item) (proper : Proper it) where
-  body-placed : (k : Kind) → it .kind ≡ k → All Fits (bodyPlaced (carried k) (it .body))
-  body-placed k e = body-fits (carried k) (it .body) (carried-within k) (ap bodyLength (sym e) ∙ sym (proper .sized))
+  abbrev placed : List Placed
+  placed = bodyPlaced (carried (it .kind)) (it .body)
 
-  pub detail-renumbered : Detail (it .kind) → renumbered j (encodeItem i header it) ≡ encodeItem j header it
+  placed-fits : All Fits placed
+  placed-fits = body-fits (carried (it .kind)) (it .body) (carried-within (it .kind)) (sym (proper .sized))
+
+  -- its body carries no position of the number
+  placed-outside : heads (recordKind it) ≡ false → All (Outside 3 7) placed
+  placed-outside member = body-outside 3 7 (carried (it .kind)) (it .body) (carried-behind-number (it .kind) member)
+
+  pub detail-renumbered : Detail (recordKind it) → renumbered j (encodeItem i header it) ≡ encodeItem j header it
+  unfolding encodeItem
   detail-renumbered detail =
-      let k = it .kind in
-      let qs = bodyPlaced (carried k) (it .body) in
-      let told : (n : ℕ) → encodeItem n header it ≡ fill (place 2 (typeOf k) ∷ place 4 (digits 7 n) ∷ qs) blanks = λ n. encoded-as header it k refl n ∙ ap (λ (ps : List Placed). fill (place 2 (typeOf k) ∷ (ps ++ qs)) blanks) (detail-supplied k n (carriedAt Im 9 13 header) detail) in
-      ap (renumbered j) (told i) ∙ number-again k i j qs (body-placed k refl) (body-outside 3 7 (carried k) (it .body) (detail-behind k detail)) ∙ sym (told j)
+      let k = recordKind it in
+      let told : (n : ℕ) → encodeItem n header it ≡ fill (place 2 (typeOf k) ∷ place 4 (digits 7 n) ∷ placed) blanks = λ n. ap (λ (ps : List Placed). fill (place 2 (typeOf k) ∷ (ps ++ placed)) blanks) (detail-supplied k n (abiIn header) detail) in
+      ap (renumbered j) (told i) ∙ number-again k i j placed placed-fits (placed-outside (detail-heads k detail)) ∙ sym (told j)
 
-  pub opening-renumbered : it .kind ≡ R14 → renumbered j (encodeItem i header it) ≡ encodeItem j header it
+  pub opening-renumbered : recordKind it ≡ R14 → renumbered j (encodeItem i header it) ≡ encodeItem j header it
+  unfolding encodeItem
   opening-renumbered e =
-      let body = bodyPlaced (carried R14) (it .body) in
+      let told : (n : ℕ) → encodeItem n header it ≡ fill (place 2 (typeOf R14) ∷ place 4 (digits 7 n) ∷ (fixed header ++ placed)) blanks = λ n. ap (λ (k : Kind). fill (place 2 (typeOf k) ∷ (supplied k n (abiIn header) ++ placed)) blanks) e in
       let outside : All (Outside 3 7) (fixed header) = (inl (omega arith), (inl (omega arith), (inl (omega arith), (inl (omega arith), tt)))) in
-      ap (renumbered j) (encoded-as header it R14 e i)
-      ∙ number-again R14 i j (fixed header ++ body) (all-append Fits (fixed header) body (fixed-fits header) (body-placed R14 e)) (all-append (Outside 3 7) (fixed header) body outside (body-outside 3 7 (carried R14) (it .body) (omega arith, (omega arith, (omega arith, (omega arith, tt))))))
-      ∙ sym (encoded-as header it R14 e j)
+      ap (renumbered j) (told i)
+      ∙ number-again R14 i j (fixed header ++ placed) (all-append Fits (fixed header) placed (fixed-fits header) placed-fits) (all-append (Outside 3 7) (fixed header) placed outside (placed-outside (ap heads e)))
+      ∙ sym (told j)
 
 -- the record of a D, with another amount
-module _ (n new : ℕ) (header : List ℕ) (it : Item) (proper : Proper it) (e : it .kind ≡ R14) where
+module _ (n new : ℕ) (header : List ℕ) (it : Item) (proper : Proper it) (e : it .kind ≡ kindFor R14) where
   abbrev body : List ℕ
   body = it .body
 
@@ -169,13 +176,13 @@ module _ (n new : ℕ) (header : List ℕ) (it : Item) (proper : Proper it) (e :
       let other = repriced new it in
       let thirteen : length (digits 13 new) ≡ 13 = written-length 13 new in
       let own : length amount ≡ 13 = length-take-le 13 (drop 6 body) (omega (arith, length-drop 6 body, body-length)) in
-      let spans = carried-within R14 in
+      let spans = carried-within (kindFor R14) in
       let fits : All Fits behind = body-fits ((53 to 69) ∷ (92 to 113) ∷ []) (drop 13 (drop 6 body)) (spans .1 .1) behind-sized in
       let outside : All (Outside 33 (length (digits 13 new))) behind = body-outside 33 (length (digits 13 new)) ((53 to 69) ∷ (92 to 113) ∷ []) (drop 13 (drop 6 body)) (omega arith, (omega arith, tt)) in
       let date : take 6 body ≡ take 6 (other .body) = sym (take-put 6 (digits 13 new) body within 6 (omega arith)) in
       let cents : digits 13 new ≡ take 13 (drop 6 (other .body)) = sym (ap (λ (w : ℕ). take w (drop 6 (other .body))) (sym thirteen) ∙ part-put 6 (digits 13 new) body within) in
       let rest : drop 13 (drop 6 body) ≡ drop 13 (drop 6 (other .body)) = drop-drop 13 6 body ∙ sym (drop-drop 13 6 (other .body) ∙ drop-put 6 (digits 13 new) body within (6 + 13) (omega arith)) in
-      ap (put 33 (digits 13 new)) (encoded-as header it R14 e n)
+      ap (put 33 (digits 13 new)) (encoded-d header it e n)
       ∙ fill-again before 34 amount (digits 13 new) behind blanks before-fits fits (omega arith) refl (thirteen ∙ sym own) outside
-      ∙ (λ i. fill (place 2 (typeOf R14) ∷ (supplied R14 n (carriedAt Im 9 13 header) ++ (place 23 (date i) ∷ place 34 (cents i) ∷ bodyPlaced ((53 to 69) ∷ (92 to 113) ∷ []) (rest i)))) blanks)
-      ∙ sym (encoded-as header other R14 e n)
+      ∙ (λ i. fill (place 2 (typeOf R14) ∷ (supplied R14 n (abiIn header) ++ (place 23 (date i) ∷ place 34 (cents i) ∷ bodyPlaced ((53 to 69) ∷ (92 to 113) ∷ []) (rest i)))) blanks)
+      ∙ sym (encoded-d header other e n)

@@ -21,7 +21,7 @@ use Rattle.flow.specs.Steps.{typed, judgeRecord}
 use Rattle.flow.proofs.Examples.{examples as flow}
 use Rattle.list.specs.Encode.{fill, bodyPlaced, encodeItem, encodeTrailer, encodeFrom, lastHeader, dispositionsOf, centsOf}
 use Rattle.list.specs.Items.{itemsFrom}
-use Rattle.list.specs.Table.{firstKind}
+use Rattle.list.specs.Table.{firstRow}
 use Rattle.list.proofs.Examples.{examples as list}
 use Rattle.amend.specs.Change.{change}
 use Rattle.amend.specs.Withdraw.{numberedFrom, withdraw}
@@ -29,7 +29,7 @@ use Rattle.claims.specs.Examples.{Examples, LedgerExample}
 use Rattle.claims.specs.Ledger.{withAmount, withoutDisposition, changeOn, withdrawOn, listAfter, repliesOn}
 
 pub examples : Examples
-unfolding judge go cut judgeRecord typed among Record·judge firstFault checks isListed badFrom isEqual numberFrom digits every isDay daysIn isLeap find groups lead flatten seek fill bodyPlaced encodeItem encodeTrailer encodeFrom lastHeader dispositionsOf centsOf itemsFrom firstKind change numberedFrom withdraw
+unfolding judge go cut judgeRecord typed among Record·judge firstFault checks isListed badFrom isEqual numberFrom digits every isDay daysIn isLeap find groups lead flatten seek fill bodyPlaced encodeItem encodeTrailer encodeFrom lastHeader dispositionsOf centsOf itemsFrom firstRow change numberedFrom withdraw
 examples =
     record {
       one = (list .trailer, list .two-rents);
@@ -45,5 +45,5 @@ examples =
     }
 
 pub ledger-example : LedgerExample
-unfolding numberFrom digits groups lead flatten dispositionsOf centsOf itemsFrom firstKind isEqual withAmount withoutDisposition changeOn withdrawOn listAfter repliesOn
+unfolding numberFrom digits groups lead flatten dispositionsOf centsOf itemsFrom firstRow isEqual withAmount withoutDisposition changeOn withdrawOn listAfter repliesOn
 ledger-example = record { answered = refl; left = refl }

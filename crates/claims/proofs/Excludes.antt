@@ -33,7 +33,7 @@ use Rattle.list.specs.Encode.{fill, bodyPlaced, encodeItem, encodeFrom, disposi
 use Rattle.list.specs.Examples.{headerItem, secondItems}
 use Rattle.list.specs.Items.{items, itemsFrom, parse, itemsIn}
 use Rattle.list.specs.ReadBack.{itemsOf}
-use Rattle.list.specs.Table.{firstKind}
+use Rattle.list.specs.Table.{firstRow}
 use Rattle.list.specs.Write.{judgeItems, judgeList}
 use Rattle.list.proofs.Answered.{write-leaves}
 use Rattle.list.proofs.Examples.{examples as list}
@@ -80,19 +80,19 @@ abbrev both : List Call
 both = first ∷ change 1 1 ∷ []
 
 first-total : centsOf (listAfter (first ∷ []) (itemsOf twoRents)) ≡ 85000
-unfolding cut flatten firstKind isEqual numberFrom digits groups lead dispositionsOf centsOf withAmount changeOn listAfter
+unfolding cut flatten firstRow isEqual numberFrom digits groups lead dispositionsOf centsOf withAmount changeOn listAfter
 first-total = refl
 
 both-total : centsOf (listAfter both (itemsOf twoRents)) ≡ 40001
-unfolding cut flatten firstKind isEqual numberFrom digits groups lead dispositionsOf centsOf withAmount changeOn listAfter
+unfolding cut flatten firstRow isEqual numberFrom digits groups lead dispositionsOf centsOf withAmount changeOn listAfter
 both-total = refl
 
 one-left : dispositionsOf (listAfter (withdraw 1 ∷ []) (itemsOf twoRents)) ≡ 1
-unfolding cut flatten firstKind isEqual numberFrom digits groups lead dispositionsOf withoutDisposition withdrawOn listAfter
+unfolding cut flatten firstRow isEqual numberFrom digits groups lead dispositionsOf withoutDisposition withdrawOn listAfter
 one-left = refl
 
 list-left : listAfter (withdraw 1 ∷ []) (itemsOf twoRents) ≡ itemsIn (flowOf (headerItem ++ secondItems))
-unfolding cut flatten firstKind isEqual numberFrom digits groups lead dispositionsOf withoutDisposition withdrawOn listAfter itemsFrom
+unfolding cut flatten firstRow isEqual numberFrom digits groups lead dispositionsOf withoutDisposition withdrawOn listAfter itemsFrom
 list-left = refl
 
 -- what a service that meets demand 3 leaves of the two-rent flow
@@ -156,15 +156,15 @@ mixed-judged = (refl, refl)
 
 -- with room the last record is refused, without it the call
 last-judged : judgeItems (itemsIn lastWrong) ≡ refused (refusal 6 15 94)
-unfolding judgeItems encodeFrom encodeItem fill bodyPlaced flatten itemsFrom firstKind digits go judgeRecord typed among Record·judge firstFault checks isListed badFrom isEqual numberFrom every isDay daysIn isLeap
+unfolding judgeItems encodeFrom encodeItem fill bodyPlaced flatten itemsFrom firstRow digits go judgeRecord typed among Record·judge firstFault checks isListed badFrom isEqual numberFrom every isDay daysIn isLeap
 last-judged = refl
 
 last-read : parse lastWrong ≡ items (itemsIn lastWrong)
-unfolding itemsFrom firstKind
+unfolding itemsFrom firstRow
 last-read = refl
 
 last-count : suc (length (itemsIn lastWrong)) ≡ 16
-unfolding itemsFrom firstKind
+unfolding itemsFrom firstRow
 last-count = refl
 
 last-refused : (room : ℕ) → Refuses (judgeList lastWrong room)

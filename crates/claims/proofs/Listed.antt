@@ -16,30 +16,30 @@ use Rattle.sequences.proofs.Part.{part-length, part-put, put-at}
 use Rattle.fields.specs.Digits.{digits, number}
 use Rattle.fields.proofs.Decimal.{written-length}
 use Rattle.records.specs.Field.{Span, _to_, field}
-use Rattle.records.specs.Kinds.{opens}
+use Rattle.records.specs.Kinds.{heads, opens}
 use Rattle.records.specs.declared.kind.Kind.{Kind}
 use Rattle.records.specs.declared.kind.Kind.the-variants.{Im, R14}
 use Rattle.flow.specs.declared.answer.Totals.{Totals}
 use Rattle.flow.specs.declared.location.Target.{Target}
 use Rattle.grammar.specs.Grammar.{Typed, kindsOf, Numbered, RightDisposition, Grammar}
 use Rattle.grammar.specs.Grammar.{amountOf as Grammar·amountOf}
-use Rattle.grammar.proofs.Dispositions.{Detail, detail-opens, Opened, opened-by, opened-so, Member, InShape}
+use Rattle.grammar.proofs.Dispositions.{Detail, each-detail, detail-opens, Opened, opened-by, opened-so, Member, InShape}
 use Rattle.grammar.proofs.Grammar.{grammar-shape}
-use Rattle.list.specs.Encode.{carriedAt, amountOf, centsOf}
-use Rattle.list.specs.Items.{Item, item}
+use Rattle.list.specs.Encode.{amountIndex, amountIn, amountOf, centsOf}
+use Rattle.list.specs.Items.{Item, item, recordKind, isD}
 use Rattle.list.specs.ReadBack.{gather, itemsOf}
-use Rattle.list.specs.Table.{carried}
+use Rattle.list.specs.Table.{recordOf, carried}
 use Rattle.list.proofs.Carried.{gather-at}
-use Rattle.list.proofs.RecordsAgain.{ownItem}
+use Rattle.list.proofs.RecordsAgain.{kindFor, ownItem}
 use Rattle.list.proofs.Rewritten.{own-list-items}
-use Rattle.list.proofs.TableSpans.{first, carried-within}
+use Rattle.list.proofs.TableSpans.{first, carried-within, carried-behind-number}
 use Rattle.amend.specs.Withdraw.{renumbered}
 use Rattle.amend.proofs.Among.{Among}
 use Rattle.amend.proofs.Kept.{over-kept}
 use Rattle.amend.proofs.Kept.{repriced as Kept·repriced}
 use Rattle.amend.proofs.Left.{amounts, retyped, typedFrom, retold}
-use Rattle.claims.specs.Ledger.{isD, leading, dispositions, repriced, firstRepriced, withAmount, withoutDisposition}
-use Rattle.claims.proofs.Encoded.{detail-behind}
+use Rattle.claims.specs.Ledger.{leading, dispositions, repriced, firstRepriced, withAmount, withoutDisposition}
+use Rattle.claims.proofs.Encoded.{detail-heads}
 
 -- the items of dispositions
 abbrev pub itemsBy : List (List Typed) → List (List Item)
@@ -49,17 +49,24 @@ itemsBy ds = map (map ownItem) ds
 abbrev pub itemOfHeader : List ℕ → Item
 itemOfHeader header = ownItem (record { kind = Im; bytes = header })
 
+-- a record of a disposition but the first is that of its own item
+pub detail-record : (k : Kind) → Detail k → recordOf (kindFor k) ≡ k
+detail-record = each-detail (λ (k : Kind). recordOf (kindFor k) ≡ k) (refl, (refl, (refl, (refl, (refl, (refl, (refl, (refl, tt))))))))
+
+detail-shut : (k : Kind) → Detail k → opens (recordOf (kindFor k)) ≡ false
+detail-shut k detail = ap opens (detail-record k detail) ∙ detail-opens k detail
+
 -- a disposition's items: a D, and others that are none
 details-shut : (rs : List Typed) → All Detail (kindsOf rs) → All (λ (it : Item). isD it ≡ false) (map ownItem rs)
 details-shut [] details = tt
-details-shut (r ∷ rs) details = (detail-opens (r .kind) (details .0), details-shut rs (details .1))
+details-shut (r ∷ rs) details = (detail-shut (r .kind) (details .0), details-shut rs (details .1))
 
 items-open : (ds : List (List Typed)) → InShape ds → All (Opens isD) (itemsBy ds)
 items-open [] shape = tt
 items-open (d ∷ ds) shape = (go d (opened-so d (shape .0)), items-open ds (shape .1))
   where
     go : (d : List Typed) → Opened d → Opens isD (map ownItem d)
-    go d (opened-by r rs e details) = record { first = ownItem r; others = map ownItem rs; whole = refl; passes = ap opens e; none = details-shut rs details }
+    go d (opened-by r rs e details) = record { first = ownItem r; others = map ownItem rs; whole = refl; passes = ap (λ (k : Kind). opens (recordOf (kindFor k))) e; none = details-shut rs details }
 
 -- so the list of a flow is its header's item and its dispositions', and the ledger finds them there
 module _ (f : List ℕ) (t : Totals) (g : Grammar f t) where
@@ -116,24 +123,21 @@ gather-kept [] rec other behind same = refl
 gather-kept ((a to e) ∷ ss) rec other behind same =
     ap₂ (λ (xs ys : List ℕ). xs ++ ys) (same (a - 1) (e - (a - 1)) (behind .0)) (gather-kept ss rec other (behind .1) same)
 
-carried-kept : (r : Typed) (j : ℕ) → length (r .bytes) ≡ 120 → All (λ (t : Span). 10 ≤ first t - 1) (carried (r .kind)) → ownItem (retyped j r) ≡ ownItem r
-carried-kept r j whole behind = ap (item (r .kind)) (gather-kept (carried (r .kind)) (r .bytes) (renumbered j (r .bytes)) behind (λ a n h. over-kept 3 7 j (r .bytes) whole (omega arith) a n (inr h)))
-
-opening-behind : (k : Kind) → k ≡ R14 → All (λ (t : Span). 10 ≤ first t - 1) (carried k)
-opening-behind k e = subst (λ (l : Kind). All (λ (t : Span). 10 ≤ first t - 1) (carried l)) (sym e) (omega arith, (omega arith, (omega arith, (omega arith, tt))))
+carried-kept : (r : Typed) (j : ℕ) → length (r .bytes) ≡ 120 → heads (recordKind (ownItem r)) ≡ false → ownItem (retyped j r) ≡ ownItem r
+carried-kept r j whole member = ap (item (kindFor (r .kind))) (gather-kept (carried (kindFor (r .kind))) (r .bytes) (renumbered j (r .bytes)) (carried-behind-number (kindFor (r .kind)) member) (λ a n h. over-kept 3 7 j (r .bytes) whole (omega arith) a n (inr h)))
 
 module _ (abi : List ℕ) where
   details-kept : (i j : ℕ) (rs : List Typed) → All Detail (kindsOf rs) → All (Member abi i) rs → map ownItem (map (retyped j) rs) ≡ map ownItem rs
   details-kept i j [] details members = refl
   details-kept i j (r ∷ rs) details members =
-      ap₂ (λ (x : Item) (xs : List Item). x ∷ xs) (carried-kept r j (members .0 .0 .whole) (detail-behind (r .kind) (details .0))) (details-kept i j rs (details .1) (members .1))
+      ap₂ (λ (x : Item) (xs : List Item). x ∷ xs) (carried-kept r j (members .0 .0 .whole) (ap heads (detail-record (r .kind) (details .0)) ∙ detail-heads (r .kind) (details .0))) (details-kept i j rs (details .1) (members .1))
 
   pub items-retyped : (i j : ℕ) (d : List Typed) → RightDisposition abi i d → map ownItem (map (retyped j) d) ≡ map ownItem d
   items-retyped i j d right = go d (opened-so d (right .order)) (right .records)
     where
       go : (d : List Typed) → Opened d → All (Member abi i) d → map ownItem (map (retyped j) d) ≡ map ownItem d
       go d (opened-by r rs e details) members =
-          ap₂ (λ (x : Item) (xs : List Item). x ∷ xs) (carried-kept r j (members .0 .0 .whole) (opening-behind (r .kind) e)) (details-kept i j rs details (members .1))
+          ap₂ (λ (x : Item) (xs : List Item). x ∷ xs) (carried-kept r j (members .0 .0 .whole) (ap (λ (k : Kind). heads (recordOf (kindFor k))) e)) (details-kept i j rs details (members .1))
 
   -- so dispositions that are numbered anew have the same items
   pub typed-items : (i j : ℕ) (ds : List (List Typed)) → Numbered abi i ds → itemsBy (typedFrom j ds) ≡ itemsBy ds
@@ -141,7 +145,7 @@ module _ (abi : List ℕ) where
   typed-items i j (d ∷ ds) each = ap₂ (λ (x : List Item) (xs : List (List Item)). x ∷ xs) (items-retyped i j d (each .0)) (typed-items (suc i) (suc j) ds (each .1))
 
 -- and another amount in a 14 is another amount in its D
-gather-repriced : (new : ℕ) (rec : List ℕ) → length rec ≡ 120 → gather (carried R14) (Kept·repriced new rec) ≡ put 6 (digits 13 new) (gather (carried R14) rec)
+gather-repriced : (new : ℕ) (rec : List ℕ) → length rec ≡ 120 → gather (carried (kindFor R14)) (Kept·repriced new rec) ≡ put amountIndex (digits 13 new) (gather (carried (kindFor R14)) rec)
 unfolding flatten
 gather-repriced new rec whole =
     let other = Kept·repriced new rec in
@@ -158,8 +162,8 @@ gather-repriced new rec whole =
 module _ (new : ℕ) where
   opening-item : (r : Typed) → r .kind ≡ R14 → length (r .bytes) ≡ 120 → ownItem (record { kind = r .kind; bytes = Kept·repriced new (r .bytes) }) ≡ repriced new (ownItem r)
   opening-item r e whole =
-      ap (item (r .kind))
-      (subst (λ (k : Kind). gather (carried k) (Kept·repriced new (r .bytes)) ≡ put 6 (digits 13 new) (gather (carried k) (r .bytes))) (sym e) (gather-repriced new (r .bytes) whole))
+      ap (item (kindFor (r .kind)))
+      (subst (λ (k : Kind). gather (carried (kindFor k)) (Kept·repriced new (r .bytes)) ≡ put amountIndex (digits 13 new) (gather (carried (kindFor k)) (r .bytes))) (sym e) (gather-repriced new (r .bytes) whole))
 
   pub items-retold : (abi : List ℕ) (i : ℕ) (d : List Typed) → RightDisposition abi i d → map ownItem (retold new d) ≡ firstRepriced new (map ownItem d)
   items-retold abi i d right = go d (opened-so d (right .order)) (right .records)
@@ -177,13 +181,13 @@ details-cents : (rs : List Typed) → All Detail (kindsOf rs) → centsOf (map o
 unfolding centsOf
 details-cents [] details = refl
 details-cents (r ∷ rs) details =
-    let none : amountOf (ownItem r) ≡ 0 = ap (λ (b : Bool). cond b (number (carriedAt R14 34 46 (ownItem r .body))) 0) (detail-opens (r .kind) (details .0)) in
+    let none : amountOf (ownItem r) ≡ 0 = ap (λ (b : Bool). cond b (number (amountIn (ownItem r .body))) 0) (detail-shut (r .kind) (details .0)) in
     omega (arith, details-cents rs (details .1))
 
 opening-cents : (r : Typed) → r .kind ≡ R14 → length (r .bytes) ≡ 120 → amountOf (ownItem r) ≡ number (field 34 46 (r .bytes))
 opening-cents r e whole =
-    subst (λ (k : Kind). amountOf (item k (gather (carried k) (r .bytes))) ≡ number (field 34 46 (r .bytes))) (sym e)
-    (ap number (gather-at (carried R14) 34 46 (r .bytes) (carried-within R14) whole refl))
+    subst (λ (k : Kind). amountOf (item (kindFor k) (gather (carried (kindFor k)) (r .bytes))) ≡ number (field 34 46 (r .bytes))) (sym e)
+    (ap number (gather-at (carried (kindFor R14)) 34 46 (r .bytes) (carried-within (kindFor R14)) whole refl))
 
 disposition-cents : (abi : List ℕ) (i : ℕ) (d : List Typed) → RightDisposition abi i d → centsOf (map ownItem d) ≡ Grammar·amountOf d
 unfolding centsOf

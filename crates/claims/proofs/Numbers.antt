@@ -19,6 +19,7 @@ use Rattle.records.specs.Finding.{Check, check, right, firstFault, FirstBroken}
 use Rattle.records.specs.Finding.{refused as Finding·refused}
 use Rattle.records.specs.Judge.{asked}
 use Rattle.records.specs.Judge.{judge as Record·judge}
+use Rattle.records.specs.Kinds.{closes}
 use Rattle.records.specs.declared.kind.Kind.{Kind}
 use Rattle.records.proofs.EachKind.{each-kind}
 use Rattle.records.proofs.FirstFault.{right-not-refused}
@@ -37,7 +38,6 @@ use Rattle.grammar.proofs.AtPlace.{FaultAt, place-fault-exact}
 use Rattle.grammar.proofs.FirstFault.{first-fault-exact}
 use Rattle.list.specs.Laws.{WriteFault}
 use Rattle.list.specs.ReadBack.{listOf}
-use Rattle.list.specs.Table.{hasItem}
 use Rattle.list.specs.Write.{judgeList}
 use Rattle.list.proofs.Answered.{read-back-refused}
 use Rattle.list.proofs.WriteNumbers.{numbers-supplied, write-refused-by}
@@ -138,16 +138,16 @@ finding f k x e = by (find-refused f k x .0 e)
 abbrev rowNumbers : List ℕ
 rowNumbers = 9 ∷ writingNumbers
 
-writing-row : (ctx : Context) (rec : List ℕ) (k : Kind) → hasItem k ≡ true → areAmong rowNumbers (numbersOf (checks k ctx rec)) ≡ true
+writing-row : (ctx : Context) (rec : List ℕ) (k : Kind) → closes k ≡ false → areAmong rowNumbers (numbersOf (checks k ctx rec)) ≡ true
 unfolding every isListed checks
 writing-row ctx rec =
-    each-kind (λ (k : Kind). hasItem k ≡ true → areAmong rowNumbers (numbersOf (checks k ctx rec)) ≡ true)
-    (λ h. refl, (λ h. refl, (λ h. refl, (λ h. refl, (λ h. refl, (λ h. refl, (λ h. refl, (λ h. refl, (λ h. refl, (λ h. refl, (λ h. absurd (true≢false (sym h)), tt)))))))))))
+    each-kind (λ (k : Kind). closes k ≡ false → areAmong rowNumbers (numbersOf (checks k ctx rec)) ≡ true)
+    (λ h. refl, (λ h. refl, (λ h. refl, (λ h. refl, (λ h. refl, (λ h. refl, (λ h. refl, (λ h. refl, (λ h. refl, (λ h. refl, (λ h. absurd (true≢false h), tt)))))))))))
 
 write-number : {list : List ℕ} {room : ℕ} {x : Refusal} → WriteFault list room x → OneOf rowNumbers (x .number)
 unfolding isListed
 write-number =
-    write-refused-by (OneOf rowNumbers) refl refl (λ k ctx rec so n p first. among rowNumbers (numbersOf (checks k ctx rec)) n (writing-row ctx rec k (so .listed)) (row-broken ctx rec k n p first)) refl refl refl refl
+    write-refused-by (OneOf rowNumbers) refl refl (λ k ctx rec so n p first. among rowNumbers (numbersOf (checks k ctx rec)) n (writing-row ctx rec k (so .not-ef)) (row-broken ctx rec k n p first)) refl refl refl refl
 
 writing : (list : List ℕ) (room : ℕ) (x : Refusal) → judgeList list room ≡ refused x → OneOf writingNumbers (x .number)
 writing list room x e = other-than 9 writingNumbers (x .number) (λ nine. numbers-supplied list room (x .«record») (x .position) (e ∙ ap (λ (m : ℕ). refused (refusal m (x .«record») (x .position))) nine)) (write-number (write-refused list room x .0 e))

@@ -8,14 +8,11 @@ use lib.ListN.{length, take, drop, getD}
 use Rattle.sequences.specs.Groups.{lead, groups}
 use Rattle.sequences.specs.Part.{put}
 use Rattle.fields.specs.Digits.{digits}
-use Rattle.records.specs.Kinds.{opens}
-use Rattle.records.specs.declared.kind.Kind.the-variants.{R14}
 use Rattle.flow.specs.Verdict.{ofCall}
 use Rattle.flow.specs.declared.answer.Refusal.{Refusal}
 use Rattle.flow.specs.declared.answer.Totals.{Totals}
-use Rattle.list.specs.Encode.{indexIn, dispositionsOf, centsOf, totalsOf}
-use Rattle.list.specs.Items.{Item, item}
-use Rattle.list.specs.Table.{carried}
+use Rattle.list.specs.Encode.{amountIndex, dispositionsOf, centsOf, totalsOf}
+use Rattle.list.specs.Items.{Item, item, isD}
 
 -- a call: which of the two amendments it is, its number k, and the new amount of a change
 pub data Call : Type 0 where
@@ -29,9 +26,6 @@ pub data Reply : Type 0 where
   refused : Refusal → Reply
 
 -- "disposition k is the k-th D with the items after it, up to the next D or the end"; before the first D stands the item of the header
-abbrev pub isD : Item → Bool
-isD it = opens (it .kind)
-
 abbrev pub leading : List Item → List Item
 leading is = lead isD is
 
@@ -40,7 +34,7 @@ dispositions is = groups isD is
 
 -- "34-46 of the k-th D become the new amount, zeros in front"
 abbrev pub repriced : ℕ → Item → Item
-repriced new it = item (it .kind) (put (indexIn (carried R14) 34) (digits 13 new) (it .body))
+repriced new it = item (it .kind) (put amountIndex (digits 13 new) (it .body))
 
 abbrev pub firstRepriced : ℕ → List Item → List Item
 firstRepriced new [] = []

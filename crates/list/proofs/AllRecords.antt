@@ -17,30 +17,44 @@ use Rattle.records.specs.Constants.{currency}
 use Rattle.records.specs.Field.{field}
 use Rattle.records.specs.Kinds.{typeOf, opened}
 use Rattle.records.specs.declared.kind.Kind.{Kind}
-use Rattle.records.specs.declared.kind.Kind.the-variants.{Im, Ef}
-use Rattle.records.proofs.EachKind.{each-kind}
+use Rattle.records.specs.declared.kind.Kind.the-variants.{Ef}
 use Rattle.flow.specs.Records.{recordsOf}
 use Rattle.flow.proofs.Cut.{Whole, flatten-length, joined-records}
 use Rattle.flow.specs.declared.answer.Totals.{Totals}
-use Rattle.list.specs.Encode.{blanks, carriedAt, headerBehind, lastHeader, totalsOf, encodeItem, trailerPlaced, encodeTrailer, encodeFrom, recordsFor, trailerFor, encode}
-use Rattle.list.specs.Items.{Item, Proper}
+use Rattle.list.specs.Encode.{blanks, copiedIn, headerBehind, lastHeader, totalsOf, encodeItem, trailerPlaced, encodeTrailer, encodeFrom, recordsFor, trailerFor, encode}
+use Rattle.list.specs.Items.{Item, recordKind, Proper}
 use Rattle.list.specs.ReadBack.{itemOf, itemsOf}
-use Rattle.list.specs.Table.{rows, firstKind, kindIn}
+use Rattle.list.specs.Table.{rows, recordOf, firstRow, rowIn}
+use Rattle.list.specs.declared.table.ItemKind.{ItemKind}
+use Rattle.list.specs.declared.table.Row.{Row}
+use Rattle.list.specs.declared.table.Row.the-variants.{Of, Missing}
+use Rattle.list.proofs.ItemKinds.{each-item, of-same}
 use Rattle.list.proofs.OneRecord.{encoded-length, encoded-type, encoded-body}
 use Rattle.list.proofs.Placing.{Fits, Matches, InRow, fill-length, row-stands}
 
--- a record's kind, by its type
-kind-typed : (k : Kind) → firstKind (λ (l : Kind). isEqual (typeOf k) (typeOf l)) rows ≡ k
-unfolding firstKind isEqual
-kind-typed = each-kind (λ (k : Kind). firstKind (λ (l : Kind). isEqual (typeOf k) (typeOf l)) rows ≡ k) (refl, (refl, (refl, (refl, (refl, (refl, (refl, (refl, (refl, (refl, (refl, tt)))))))))))
+-- the row of a record, by its type: that of an item's record is the item's, and EF has none
+abbrev rowFor : List ℕ → Row
+rowFor type = firstRow (λ (l : ItemKind). isEqual type (typeOf (recordOf l))) rows
 
-pub kind-in : (k : Kind) (rec : List ℕ) → field 2 3 rec ≡ typeOf k → kindIn rec ≡ k
-kind-in k rec e = ap (λ (t : List ℕ). firstKind (λ (l : Kind). isEqual t (typeOf l)) rows) e ∙ kind-typed k
+row-typed : (k : ItemKind) → rowFor (typeOf (recordOf k)) ≡ Of k
+unfolding firstRow isEqual
+row-typed = each-item (λ (k : ItemKind). rowFor (typeOf (recordOf k)) ≡ Of k) (refl, (refl, (refl, (refl, (refl, (refl, (refl, (refl, (refl, (refl, tt))))))))))
+
+pub row-in : (k : ItemKind) (rec : List ℕ) → field 2 3 rec ≡ typeOf (recordOf k) → rowIn rec ≡ Of k
+row-in k rec e = ap rowFor e ∙ row-typed k
+
+pub no-row-in : (rec : List ℕ) → field 2 3 rec ≡ typeOf Ef → rowIn rec ≡ Missing
+unfolding firstRow isEqual
+no-row-in rec e = ap rowFor e
+
+-- so no two kinds have one record
+pub records-differ : (k l : ItemKind) → recordOf k ≡ recordOf l → k ≡ l
+records-differ k l e = of-same (sym (row-typed k) ∙ ap (λ (m : Kind). rowFor (typeOf m)) e ∙ row-typed l)
 
 -- EF
 module _ (header : List ℕ) (t : Totals) where
   abbrev copied : List ℕ
-  copied = carriedAt Im 4 45 header
+  copied = copiedIn header
 
   copied-short : length copied ≤ 42
   copied-short = part-at-most 0 42 header
@@ -109,24 +123,24 @@ module _ (header : List ℕ) (t : Totals) where
 pub encoded-whole : (n : ℕ) (header : List ℕ) (is : List Item) → All Proper is → Whole (encodeFrom n header is)
 unfolding encodeFrom
 encoded-whole n header [] proper = tt
-encoded-whole n header (it ∷ is) proper = (encoded-length _ header it (proper .0), encoded-whole (n + opened (it .kind)) (headerBehind header it) is (proper .1))
+encoded-whole n header (it ∷ is) proper = (encoded-length _ header it (proper .0), encoded-whole (n + opened (recordKind it)) (headerBehind header it) is (proper .1))
 
 pub encoded-count : (n : ℕ) (header : List ℕ) (is : List Item) → length (encodeFrom n header is) ≡ length is
 unfolding encodeFrom
 encoded-count n header [] = refl
-encoded-count n header (it ∷ is) = ap suc (encoded-count (n + opened (it .kind)) (headerBehind header it) is)
+encoded-count n header (it ∷ is) = ap suc (encoded-count (n + opened (recordKind it)) (headerBehind header it) is)
 
 -- whose items are those that they were encoded from
 one-item : (n : ℕ) (header : List ℕ) (it : Item) → Proper it → itemOf (encodeItem n header it) ≡ it ∷ []
 one-item n header it proper =
-    let kind : kindIn (encodeItem n header it) ≡ it .kind = kind-in (it .kind) (encodeItem n header it) (encoded-type n header it proper) in
-    rw (kind, proper .listed, encoded-body n header it proper)
+    let row : rowIn (encodeItem n header it) ≡ Of (it .kind) = row-in (it .kind) (encodeItem n header it) (encoded-type n header it proper) in
+    rw (row, encoded-body n header it proper)
 
 pub items-encoded : (n : ℕ) (header : List ℕ) (is : List Item) → All Proper is → flatten (map itemOf (encodeFrom n header is)) ≡ is
 unfolding encodeFrom flatten
 items-encoded n header [] proper = refl
 items-encoded n header (it ∷ is) proper =
-    rw (one-item _ header it (proper .0)) (ap (λ (l : List Item). it ∷ l) (items-encoded (n + opened (it .kind)) (headerBehind header it) is (proper .1)))
+    rw (one-item _ header it (proper .0)) (ap (λ (l : List Item). it ∷ l) (items-encoded (n + opened (recordKind it)) (headerBehind header it) is (proper .1)))
 
 -- what a list encodes: its records, and its own list
 module _ (is : List Item) (proper : All Proper is) where
@@ -145,7 +159,7 @@ module _ (is : List Item) (proper : All Proper is) where
   pub encode-items : itemsOf (encode is) ≡ is
   unfolding flatten
   encode-items =
-      let none : itemOf (trailerFor is) ≡ [] = rw (kind-in Ef (trailerFor is) (trailer-type (lastHeader [] is) (totalsOf is))) in
+      let none : itemOf (trailerFor is) ≡ [] = rw (no-row-in (trailerFor is) (trailer-type (lastHeader [] is) (totalsOf is))) in
       ap (λ (recs : List (List ℕ)). flatten (map itemOf recs)) encode-records
       ∙ ap flatten (map-append itemOf (recordsFor is) (trailerFor is ∷ []))
       ∙ flatten-append (map itemOf (recordsFor is)) (itemOf (trailerFor is) ∷ [])

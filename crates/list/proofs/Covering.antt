@@ -1,4 +1,4 @@
--- The positions that are written in a record, by kind: they cover those that the table of checks names. Assumes nothing.
+-- The positions that are written in a record, by the kind of its item: they cover those that the table of checks names. Assumes nothing.
 use Prim.Native.Nat.{ℕ, suc, _+_, _-_, _<_}
 use mathlib.Core.Bool.{Bool, true, false, not, _&&_, _||_, and-eq-true-iff, true≢false}
 use mathlib.Core.List.{List, [], _∷_, _++_, map}
@@ -16,13 +16,14 @@ use Rattle.sequences.proofs.Part.{part-length, part-getD}
 use Rattle.fields.proofs.Decimal.{written-length}
 use Rattle.records.specs.Checked.{checked, Alike}
 use Rattle.records.specs.Field.{Span, _to_, width, field}
-use Rattle.records.specs.Kinds.{closes}
 use Rattle.records.specs.declared.kind.Kind.{Kind}
 use Rattle.records.specs.declared.kind.Kind.the-variants.{Im, R14, R16, R20, R30, R40, R50, R59, R51, R70, Ef}
 use Rattle.records.proofs.EachKind.{each-kind}
 use Rattle.list.specs.Encode.{Placed, place, supplied, bodyPlaced}
-use Rattle.list.specs.Table.{carried, hasItem}
+use Rattle.list.specs.Table.{recordOf, carried}
+use Rattle.list.specs.declared.table.ItemKind.{ItemKind}
 use Rattle.list.proofs.Carried.{split-first}
+use Rattle.list.proofs.ItemKinds.{each-item}
 use Rattle.list.proofs.Placing.{Fits, Covered}
 use Rattle.list.proofs.TableSpans.{Within, are-within, all-within}
 
@@ -102,27 +103,26 @@ supplied-spanned n abi =
     let number = written-length 7 n in
     each-kind (λ (k : Kind). (k ≡ R14 → length abi ≡ 5) → Spanned (supplied k n abi) (suppliedSpans k)) (λ five. ((refl, refl), tt), (λ five. ((refl, number), ((refl, refl), ((refl, refl), ((refl, five refl), ((refl, refl), tt))))), (λ five. ((refl, number), tt), (λ five. ((refl, number), tt), (λ five. ((refl, number), tt), (λ five. ((refl, number), tt), (λ five. ((refl, number), tt), (λ five. ((refl, number), tt), (λ five. ((refl, number), tt), (λ five. ((refl, number), tt), (λ five. tt, tt)))))))))))
 
--- all that is written
-abbrev pub writtenSpans : Kind → List Span
-writtenSpans k = (2 to 3) ∷ (suppliedSpans k ++ carried k)
+-- all that is written in the record of an item
+abbrev pub writtenSpans : ItemKind → List Span
+writtenSpans k = (2 to 3) ∷ (suppliedSpans (recordOf k) ++ carried k)
 
-pub written-within : (k : Kind) → All Within (writtenSpans k)
-written-within k = all-within (writtenSpans k) (each-kind (λ (k : Kind). are-within (writtenSpans k) ≡ true) (refl, (refl, (refl, (refl, (refl, (refl, (refl, (refl, (refl, (refl, (refl, tt))))))))))) k)
+pub written-within : (k : ItemKind) → All Within (writtenSpans k)
+written-within k = all-within (writtenSpans k) (each-item (λ (k : ItemKind). are-within (writtenSpans k) ≡ true) (refl, (refl, (refl, (refl, (refl, (refl, (refl, (refl, (refl, (refl, tt)))))))))) k)
 
 -- covers what is checked
-abbrev both-or-none : Kind → ℕ → Bool
-both-or-none k i = closes k || (not (inSpans (checked k) i) || inSpans (writtenSpans k) i)
+abbrev both-or-none : ItemKind → ℕ → Bool
+both-or-none k i = not (inSpans (checked (recordOf k)) i) || inSpans (writtenSpans k) i
 
-checked-covered : (k : Kind) → allBelow 120 (both-or-none k) ≡ true
-checked-covered = each-kind (λ (k : Kind). allBelow 120 (both-or-none k) ≡ true) (refl, (refl, (refl, (refl, (refl, (refl, (refl, (refl, (refl, (refl, (refl, tt)))))))))))
+checked-covered : (k : ItemKind) → allBelow 120 (both-or-none k) ≡ true
+checked-covered = each-item (λ (k : ItemKind). allBelow 120 (both-or-none k) ≡ true) (refl, (refl, (refl, (refl, (refl, (refl, (refl, (refl, (refl, (refl, tt))))))))))
 
-pub checked-written : (k : Kind) → hasItem k ≡ true → (i : ℕ) → i < 120 → inSpans (checked k) i ≡ true → inSpans (writtenSpans k) i ≡ true
-checked-written k listed i h t = by (closes k) (inSpans (checked k) i) listed t (below 120 (both-or-none k) (checked-covered k) i h)
+pub checked-written : (k : ItemKind) (i : ℕ) → i < 120 → inSpans (checked (recordOf k)) i ≡ true → inSpans (writtenSpans k) i ≡ true
+checked-written k i h t = by (inSpans (checked (recordOf k)) i) t (below 120 (both-or-none k) (checked-covered k) i h)
   where
-    by : (c b : Bool) → not c ≡ true → b ≡ true → (c || (not b || inSpans (writtenSpans k) i)) ≡ true → inSpans (writtenSpans k) i ≡ true
-    by true b l e u = absurd (true≢false (sym l))
-    by false true l e u = u
-    by false false l e u = absurd (true≢false (sym e))
+    by : (b : Bool) → b ≡ true → (not b || inSpans (writtenSpans k) i) ≡ true → inSpans (writtenSpans k) i ≡ true
+    by true e u = u
+    by false e u = absurd (true≢false (sym e))
 
 -- the positions that are checked lie within the record
 pub checked-within : (k : Kind) → All Within (checked k)

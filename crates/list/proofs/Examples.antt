@@ -17,11 +17,11 @@ use Rattle.list.specs.Encode.{fill, bodyPlaced, encodeItem, encodeTraile
 use Rattle.list.specs.Examples.{Examples}
 use Rattle.list.specs.Items.{itemsFrom}
 use Rattle.list.specs.ReadBack.{judgeRoom}
-use Rattle.list.specs.Table.{firstKind}
+use Rattle.list.specs.Table.{firstRow}
 use Rattle.list.specs.Write.{judgeItems, judgeList}
 
 pub examples : Examples
-unfolding judge go cut judgeRecord typed among Record·judge firstFault checks isListed badFrom isEqual numberFrom digits every isDay daysIn isLeap flatten fill bodyPlaced encodeItem encodeTrailer encodeFrom lastHeader dispositionsOf centsOf itemsFrom judgeRoom firstKind judgeItems judgeList
+unfolding judge go cut judgeRecord typed among Record·judge firstFault checks isListed badFrom isEqual numberFrom digits every isDay daysIn isLeap flatten fill bodyPlaced encodeItem encodeTrailer encodeFrom lastHeader dispositionsOf centsOf itemsFrom judgeRoom firstRow judgeItems judgeList
 examples =
     record {
       bodies = refl;

@@ -9,9 +9,9 @@ use Rattle.sequences.specs.Part.{part, put}
 use Rattle.sequences.specs.Sum.{sum}
 use Rattle.sequences.proofs.Part.{put-nothing}
 use Rattle.records.specs.Field.{Span, _to_, width}
-use Rattle.records.specs.declared.kind.Kind.{Kind}
 use Rattle.list.specs.Encode.{Placed, place, fill, bodyPlaced}
 use Rattle.list.specs.Table.{carried, fourOf}
+use Rattle.list.specs.declared.table.ItemKind.{ItemKind}
 use Rattle.list.proofs.Placing.{fill-append}
 use Rattle.list.proofs.TableSpans.{four-padded}
 
@@ -56,5 +56,5 @@ body-padded [] (suc n) body rec = ap (fill (bodyPlaced (replicate n (1 to 0)) bo
 body-padded ((a to e) ∷ ss) n body rec = body-padded ss n (drop (width (a to e)) body) (put (a - 1) (take (width (a to e)) body) rec)
 
 -- so the four spans that the code keeps place a body as the carried positions do
-pub body-four : (k : Kind) (body rec : List ℕ) → fill (bodyPlaced (fourOf (carried k)) body) rec ≡ fill (bodyPlaced (carried k) body) rec
+pub body-four : (k : ItemKind) (body rec : List ℕ) → fill (bodyPlaced (fourOf (carried k)) body) rec ≡ fill (bodyPlaced (carried k) body) rec
 body-four k body rec = ap (λ (ss : List Span). fill (bodyPlaced ss body) rec) (four-padded k) ∙ body-padded (carried k) (4 - length (carried k)) body rec

@@ -12,24 +12,24 @@ use Rattle.sequences.specs.Part.{put}
 use Rattle.sequences.specs.Sum.{sum}
 use Rattle.sequences.proofs.Part.{put-append, put-length, put-nothing}
 use Rattle.records.specs.Field.{Span, _to_, field, width}
-use Rattle.records.specs.declared.kind.Kind.{Kind}
-use Rattle.records.proofs.EachKind.{each-kind}
 use Rattle.list.specs.ReadBack.{gather}
 use Rattle.list.specs.Table.{carried, bodyLength, fourOf, boundsOf}
+use Rattle.list.specs.declared.table.ItemKind.{ItemKind}
 use Rattle.list.proofs.Carried.{span-length, gather-length}
+use Rattle.list.proofs.ItemKinds.{each-item}
 use Rattle.list.proofs.TableSpans.{Within, spanAt, carried-within, four-within, four-widths, four-next}
 
 -- no body is longer than the positions behind a record's number
-pub body-at-most : (k : Kind) → bodyLength k ≤ 110
-body-at-most k = leb-true (bodyLength k) 110 (each-kind (λ (k : Kind). leb (bodyLength k) 110 ≡ true) (refl, (refl, (refl, (refl, (refl, (refl, (refl, (refl, (refl, (refl, (refl, tt))))))))))) k)
+pub body-at-most : (k : ItemKind) → bodyLength k ≤ 110
+body-at-most k = leb-true (bodyLength k) 110 (each-item (λ (k : ItemKind). leb (bodyLength k) 110 ≡ true) (refl, (refl, (refl, (refl, (refl, (refl, (refl, (refl, (refl, (refl, tt)))))))))) k)
 
 -- a span that is no position gathers nothing
-pub four-gathered : (k : Kind) (rec : List ℕ) → gather (fourOf (carried k)) rec ≡ gather (carried k) rec
+pub four-gathered : (k : ItemKind) (rec : List ℕ) → gather (fourOf (carried k)) rec ≡ gather (carried k) rec
 unfolding flatten
-four-gathered k rec = each-kind (λ (k : Kind). gather (fourOf (carried k)) rec ≡ gather (carried k) rec) (refl, (refl, (refl, (refl, (refl, (refl, (refl, (refl, (refl, (refl, (refl, tt))))))))))) k
+four-gathered k rec = each-item (λ (k : ItemKind). gather (fourOf (carried k)) rec ≡ gather (carried k) rec) (refl, (refl, (refl, (refl, (refl, (refl, (refl, (refl, (refl, (refl, tt)))))))))) k
 
 -- the carried bytes are a body
-pub body-gathered : (rec : List ℕ) → length rec ≡ 120 → (k : Kind) → length (gather (carried k) rec) ≡ bodyLength k
+pub body-gathered : (rec : List ℕ) → length rec ≡ 120 → (k : ItemKind) → length (gather (carried k) rec) ≡ bodyLength k
 body-gathered rec whole k = sym (gather-length (carried k) rec (carried-within k) whole)
 
 -- a turn of the code that stores the bytes at spans: those at the spans that are left find room from an index on, and make `all` of the output
@@ -39,7 +39,7 @@ pub record Storing (ss : List Span) (from : ℕ) (rec out all : List ℕ) : Type
   pub left : put from (gather ss rec) out ≡ all
 
 -- at first all of a kind's are left
-pub storing : (k : Kind) (rec out : List ℕ) → length rec ≡ 120 → length out ≡ bodyLength k → Storing (fourOf (carried k)) 0 rec out (gather (carried k) rec)
+pub storing : (k : ItemKind) (rec out : List ℕ) → length rec ≡ 120 → length out ≡ bodyLength k → Storing (fourOf (carried k)) 0 rec out (gather (carried k) rec)
 storing k rec out whole fits =
     let body = gather (fourOf (carried k)) rec in
     let size : length body ≡ bodyLength k = ap length (four-gathered k rec) ∙ body-gathered rec whole k in
@@ -48,7 +48,7 @@ storing k rec out whole fits =
 
 -- in a turn the span is the one that the code has read
 pub storing-turn :
-    (k : Kind) (spans : List ℕ) (i from : ℕ) (rec out all : List ℕ) → spans ≡ boundsOf k → i < 4 → Storing (drop i (fourOf (carried k))) from rec out all
+    (k : ItemKind) (spans : List ℕ) (i from : ℕ) (rec out all : List ℕ) → spans ≡ boundsOf k → i < 4 → Storing (drop i (fourOf (carried k))) from rec out all
     → Storing (spanAt spans i ∷ drop (i + 1) (fourOf (carried k))) from rec out all
 storing-turn k spans i from rec out all kept few s =
     let next : drop i (fourOf (carried k)) ≡ spanAt spans i ∷ drop (i + 1) (fourOf (carried k)) = rw kept (four-next k i few) in

@@ -6,10 +6,10 @@ use Rattle.fields.specs.Digits.{digits}
 use Rattle.list.specs.Encode.{fill, bodyPlaced, encodeItem, encodeTrailer}
 use Rattle.list.specs.ItemExamples.{ItemExamples}
 use Rattle.list.specs.Items.{itemsFrom}
-use Rattle.list.specs.Table.{firstKind}
+use Rattle.list.specs.Table.{firstRow}
 
 pub item-examples : ItemExamples
-unfolding isEqual digits flatten fill bodyPlaced encodeItem encodeTrailer itemsFrom firstKind
+unfolding isEqual digits flatten fill bodyPlaced encodeItem encodeTrailer itemsFrom firstRow
 item-examples =
     record {
       header = (refl, refl);

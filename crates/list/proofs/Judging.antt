@@ -11,11 +11,11 @@ use Rattle.sequences.proofs.All.{all-at}
 use Rattle.fields.specs.Digits.{number}
 use Rattle.records.specs.Context.{headerOf}
 use Rattle.records.specs.Field.{field}
-use Rattle.records.specs.Kinds.{hasType, heads, opens, opened, closes}
+use Rattle.records.specs.Kinds.{hasType, heads, opened, closes}
 use Rattle.records.specs.declared.kind.Kind.{Kind}
 use Rattle.records.specs.declared.kind.Kind.the-variants.{R14, Ef}
 use Rattle.records.proofs.ByKind.{type-tested, opens-type}
-use Rattle.records.proofs.EachKind.{opens-14, closes-ef}
+use Rattle.records.proofs.EachKind.{closes-ef}
 use Rattle.flow.specs.Judge.{go}
 use Rattle.flow.specs.Order.{In, mayClose}
 use Rattle.flow.specs.Steps.{start}
@@ -27,11 +27,13 @@ use Rattle.grammar.specs.Grammar.{Typed, kindsOf, recordsIn}
 use Rattle.grammar.proofs.Behind.{FromStart, FaultNext, formed-so, same-kinds}
 use Rattle.grammar.proofs.FirstFault.{ends-so, stops-so}
 use Rattle.grammar.proofs.Walked.{stateBehind, state-counts, Outcome, all-right, stops, outcome}
-use Rattle.list.specs.Encode.{carriedAt, headerBehind, lastHeader, dispositionsOf, amountOf, centsOf, encodeItem, encodeFrom, recordsFor}
-use Rattle.list.specs.Items.{Item, Proper}
+use Rattle.list.specs.Encode.{carriedAt, headerBehind, lastHeader, amountIn, dispositionsOf, amountOf, centsOf, encodeItem, encodeFrom, recordsFor}
+use Rattle.list.specs.Items.{Item, recordKind, isD, Proper}
 use Rattle.list.specs.Table.{carried}
 use Rattle.list.specs.Write.{closed, judgeItems}
+use Rattle.list.specs.declared.table.ItemKind.{ItemKind}
 use Rattle.list.proofs.Carried.{inOne}
+use Rattle.list.proofs.ItemKinds.{opens-d}
 use Rattle.list.proofs.OneRecord.{encoded-type, encoded-at}
 use Rattle.list.proofs.AllRecords.{encoded-whole, encoded-count}
 
@@ -78,34 +80,34 @@ module _ (is : List Item) (proper : All Proper is) where
   unfolding judgeItems
   faulty-judged r = ap (λ (recs : List (List ℕ)). go closed (headerOf (take 120 (front is))) start [] 0 recs) (r .same) ∙ stops-so closed (front is) (r .typed) (r .walked) (r .rec) (r .rest) (r .number) (r .position) (r .whole) (r .fault)
 
--- the kinds of the records are those of the items
+-- the kinds of the records are those that the items' kinds have in the table
 abbrev pub kindsIn : List Item → List Kind
-kindsIn is = map (λ (it : Item). it .kind) is
+kindsIn is = map recordKind is
 
 kinds-had : (n : ℕ) (header : List ℕ) (is : List Item) → All Proper is → HaveKinds (kindsIn is) (encodeFrom n header is)
 unfolding encodeFrom
 kinds-had n header [] proper = refl
 kinds-had n header (it ∷ is) proper =
-    ap₂ _∷_ (sym (encoded-type _ header it (proper .0))) (kinds-had (n + opened (it .kind)) (headerBehind header it) is (proper .1))
+    ap₂ _∷_ (sym (encoded-type _ header it (proper .0))) (kinds-had (n + opened (recordKind it)) (headerBehind header it) is (proper .1))
 
 pub right-kinds : (is : List Item) → All Proper is → (r : RightItems is) → kindsIn is ≡ kindsOf (r .typed)
 right-kinds is proper r = same-kinds (front is) (r .typed) (r .walked) (kindsIn is) (subst (HaveKinds (kindsIn is)) (sym (r .same)) (kinds-had 0 [] is proper))
 
 -- their sums are those of the items
-pub encoded-amount : (n : ℕ) (header : List ℕ) (it : Item) → Proper it → cond (opens (it .kind)) (number (field 34 46 (encodeItem n header it))) 0 ≡ amountOf it
-encoded-amount n header it proper = by (opens (it .kind)) refl
+pub encoded-amount : (n : ℕ) (header : List ℕ) (it : Item) → Proper it → cond (isD it) (number (field 34 46 (encodeItem n header it))) 0 ≡ amountOf it
+encoded-amount n header it proper = by (isD it) refl
   where
-    by : (b : Bool) → opens (it .kind) ≡ b → cond b (number (field 34 46 (encodeItem n header it))) 0 ≡ cond b (number (carriedAt R14 34 46 (it .body))) 0
+    by : (b : Bool) → isD it ≡ b → cond b (number (field 34 46 (encodeItem n header it))) 0 ≡ cond b (number (amountIn (it .body))) 0
     by true e =
-        let kind = opens-14 (it .kind) e in
+        let kind = opens-d (it .kind) e in
         let inside : inOne (carried (it .kind)) 34 46 ≡ true = rw kind refl in
-        let stands : carriedAt (it .kind) 34 46 (it .body) ≡ carriedAt R14 34 46 (it .body) = ap (λ (k : Kind). carriedAt k 34 46 (it .body)) kind in
+        let stands : carriedAt (it .kind) 34 46 (it .body) ≡ amountIn (it .body) = ap (λ (k : ItemKind). carriedAt k 34 46 (it .body)) kind in
         ap number (encoded-at n header it proper 34 46 inside ∙ stands)
     by false e = refl
 
-pub encoded-opens : (n : ℕ) (header : List ℕ) (it : Item) → Proper it → hasType R14 (encodeItem n header it) ≡ opens (it .kind)
+pub encoded-opens : (n : ℕ) (header : List ℕ) (it : Item) → Proper it → hasType R14 (encodeItem n header it) ≡ isD it
 encoded-opens n header it proper =
-    sym (opens-type (it .kind) (encodeItem n header it) (type-tested (it .kind) (encodeItem n header it) (encoded-type n header it proper)))
+    sym (opens-type (recordKind it) (encodeItem n header it) (type-tested (recordKind it) (encodeItem n header it) (encoded-type n header it proper)))
 
 sums-encoded :
     (n : ℕ) (header : List ℕ) (is : List Item) → All Proper is
@@ -113,7 +115,7 @@ sums-encoded :
 unfolding encodeFrom Sums·dispositionsOf Sums·centsOf dispositionsOf centsOf
 sums-encoded n header [] proper = (refl, refl)
 sums-encoded n header (it ∷ is) proper =
-    let rest = sums-encoded (n + opened (it .kind)) (headerBehind header it) is (proper .1) in
+    let rest = sums-encoded (n + opened (recordKind it)) (headerBehind header it) is (proper .1) in
     (rw (encoded-opens _ header it (proper .0), rest .0), rw (encoded-opens _ header it (proper .0), encoded-amount _ header it (proper .0), rest .1))
 
 pub right-sums : (is : List Item) → All Proper is → (r : RightItems is) → (stateBehind start (r .typed) .dispositions ≡ dispositionsOf is) × (stateBehind start (r .typed) .cents ≡ centsOf is)

@@ -6,6 +6,7 @@ pub mod Examples
 pub mod Filling
 pub mod Gathering
 pub mod ItemExamples
+pub mod ItemKinds
 pub mod Judging
 pub mod ListItems
 pub mod Loops

@@ -15,13 +15,14 @@ use Rattle.fields.proofs.Decimal.{written-length}
 use Rattle.records.specs.Field.{field}
 use Rattle.records.specs.Kinds.{typeOf, heads}
 use Rattle.records.specs.declared.kind.Kind.{Kind}
-use Rattle.records.specs.declared.kind.Kind.the-variants.{Im}
 use Rattle.records.proofs.EachKind.{each-kind}
-use Rattle.list.specs.Encode.{Placed, place, fill, blanks, carriedAt, supplied, bodyPlaced, encodeItem}
-use Rattle.list.specs.Items.{Item, Proper}
+use Rattle.list.specs.Encode.{Placed, place, fill, blanks, carriedAt, abiIn, supplied, bodyPlaced, encodeItem}
+use Rattle.list.specs.Items.{Item, recordKind, Proper}
 use Rattle.list.specs.ReadBack.{gather}
-use Rattle.list.specs.Table.{carried, bodyLength, hasItem}
+use Rattle.list.specs.Table.{recordOf, carried, bodyLength}
+use Rattle.list.specs.declared.table.ItemKind.{ItemKind}
 use Rattle.list.proofs.Carried.{body-fits, body-outside, gather-placed, inOne, gather-at}
+use Rattle.list.proofs.ItemKinds.{each-item}
 use Rattle.list.proofs.Placing.{Fits, Outside, fill-length, fill-outside, fill-append}
 use Rattle.list.proofs.TableSpans.{carried-within, carried-rising, carried-behind, carried-behind-number}
 
@@ -49,40 +50,44 @@ record NumberFirst (n : ℕ) (ps : List Placed) : Type 0 where
   first : ps ≡ place 4 (digits 7 n) ∷ others
   outside : All (Outside 3 7) others
 
-supplied-number : (n : ℕ) (abi : List ℕ) (k : Kind) → heads k ≡ false → hasItem k ≡ true → NumberFirst n (supplied k n abi)
+supplied-number : (n : ℕ) (abi : List ℕ) (k : ItemKind) → heads (recordOf k) ≡ false → NumberFirst n (supplied (recordOf k) n abi)
 supplied-number n abi =
     let alone : NumberFirst n (place 4 (digits 7 n) ∷ []) = record { others = []; first = refl; outside = tt } in
-    each-kind (λ (k : Kind). heads k ≡ false → hasItem k ≡ true → NumberFirst n (supplied k n abi)) (λ e l. absurd (true≢false e), (λ e l. record { others = _; first = refl; outside = (inl (omega arith), (inl (omega arith), (inl (omega arith), (inl (omega arith), tt)))) }, (λ e l. alone, (λ e l. alone, (λ e l. alone, (λ e l. alone, (λ e l. alone, (λ e l. alone, (λ e l. alone, (λ e l. alone, (λ e l. absurd (true≢false (sym l)), tt)))))))))))
+    each-item (λ (k : ItemKind). heads (recordOf k) ≡ false → NumberFirst n (supplied (recordOf k) n abi)) (λ e. absurd (true≢false e), (λ e. record { others = _; first = refl; outside = (inl (omega arith), (inl (omega arith), (inl (omega arith), (inl (omega arith), tt)))) }, (λ e. alone, (λ e. alone, (λ e. alone, (λ e. alone, (λ e. alone, (λ e. alone, (λ e. alone, (λ e. alone, tt))))))))))
 
 -- the ABI that is copied has five bytes, or none
-pub abi-short : (header : List ℕ) → length (carriedAt Im 9 13 header) ≤ 5
+pub abi-short : (header : List ℕ) → length (abiIn header) ≤ 5
 abi-short header = part-at-most 5 5 header
 
 module _ (n : ℕ) (header : List ℕ) (it : Item) (proper : Proper it) where
-  abbrev kind : Kind
+  abbrev kind : ItemKind
   kind = it .kind
+
+  -- that of its record
+  abbrev own-kind : Kind
+  own-kind = recordKind it
 
   -- what is placed behind the type
   abbrev own : List Placed
-  own = supplied kind n (carriedAt Im 9 13 header)
+  own = supplied own-kind n (abiIn header)
 
   abbrev body : List Placed
   body = bodyPlaced (carried kind) (it .body)
 
   abbrev withType : List ℕ
-  withType = put 1 (typeOf kind) blanks
+  withType = put 1 (typeOf own-kind) blanks
 
-  type-within : 1 + length (typeOf kind) ≤ length blanks
+  type-within : 1 + length (typeOf own-kind) ≤ length blanks
   type-within = rw type-length (omega arith)
 
   type-size : length withType ≡ 120
-  type-size = put-length 1 (typeOf kind) blanks type-within
+  type-size = put-length 1 (typeOf own-kind) blanks type-within
 
   body-size : bodyLength kind ≡ length (it .body)
   body-size = sym (proper .sized)
 
   own-fits : All Fits own
-  own-fits = supplied-fits n (carriedAt Im 9 13 header) (abi-short header) kind
+  own-fits = supplied-fits n (abiIn header) (abi-short header) own-kind
 
   all-fit : All Fits (own ++ body)
   all-fit = all-append Fits own body own-fits (body-fits (carried kind) (it .body) (carried-within kind) body-size)
@@ -91,19 +96,19 @@ module _ (n : ℕ) (header : List ℕ) (it : Item) (proper : Proper it) where
   unfolding encodeItem fill
   encoded-length = fill-length (own ++ body) withType all-fit type-size
 
-  pub encoded-type : field 2 3 (encodeItem n header it) ≡ typeOf kind
+  pub encoded-type : field 2 3 (encodeItem n header it) ≡ typeOf own-kind
   unfolding encodeItem fill
   encoded-type =
-      let outside : All (Outside 1 2) (own ++ body) = all-append (Outside 1 2) own body (supplied-outside n (carriedAt Im 9 13 header) kind) (body-outside 1 2 (carried kind) (it .body) (carried-behind kind)) in
+      let outside : All (Outside 1 2) (own ++ body) = all-append (Outside 1 2) own body (supplied-outside n (abiIn header) own-kind) (body-outside 1 2 (carried kind) (it .body) (carried-behind kind)) in
       fill-outside 1 2 (own ++ body) withType all-fit type-size outside
-      ∙ ap (λ (m : ℕ). part 1 m withType) (sym (type-length kind))
-      ∙ part-put 1 (typeOf kind) blanks type-within
+      ∙ ap (λ (m : ℕ). part 1 m withType) (sym (type-length own-kind))
+      ∙ part-put 1 (typeOf own-kind) blanks type-within
 
   -- a record of a disposition has its number at 4-10
-  pub encoded-number : heads kind ≡ false → field 4 10 (encodeItem n header it) ≡ digits 7 n
+  pub encoded-number : heads own-kind ≡ false → field 4 10 (encodeItem n header it) ≡ digits 7 n
   unfolding encodeItem fill
   encoded-number member =
-      let numbered = supplied-number n (carriedAt Im 9 13 header) kind member (proper .listed) in
+      let numbered = supplied-number n (abiIn header) kind member in
       let qs = numbered .others in
       let fits : All Fits (qs ++ body) = all-append Fits qs body (subst (All Fits) (numbered .first) own-fits .1) (body-fits (carried kind) (it .body) (carried-within kind) body-size) in
       let outside : All (Outside 3 7) (qs ++ body) = all-append (Outside 3 7) qs body (numbered .outside) (body-outside 3 7 (carried kind) (it .body) (carried-behind-number kind member)) in

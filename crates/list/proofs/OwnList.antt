@@ -1,6 +1,5 @@
 -- A flow's own list, record by record, and a loop that stores it. Assumes nothing.
 use Prim.Native.Nat.{ℕ, suc, _+_, _-_, _*_, _/_, _≤_, _<_}
-use mathlib.Core.Bool.{Bool, true, false, cond, not}
 use mathlib.Core.List.{List, [], _∷_, _++_, map, flatten, append-nil, map-append}
 use mathlib.Core.Path.{_≡_, refl, sym, _∙_, ap}
 use native.Mathlib.Numerals.{add-one}
@@ -10,49 +9,46 @@ use lib.Seq.{set-split}
 use Rattle.sequences.specs.Part.{put}
 use Rattle.sequences.proofs.Flatten.{flatten-append}
 use Rattle.sequences.proofs.Part.{put-append, put-length, put-nothing}
-use Rattle.records.specs.Kinds.{closes}
-use Rattle.records.specs.declared.kind.Kind.{Kind}
 use Rattle.flow.specs.Records.{cut, recordAt}
 use Rattle.flow.proofs.Cut.{cut-next, cut-end, record-whole}
 use Rattle.list.specs.Items.{itemBytes, listBytes}
 use Rattle.list.specs.ReadBack.{gather, itemOf, itemLength, listOf}
-use Rattle.list.specs.Table.{letter, carried, bodyLength, kindIn}
+use Rattle.list.specs.Table.{letter, carried, bodyLength, rowIn}
+use Rattle.list.specs.declared.table.ItemKind.{ItemKind}
+use Rattle.list.specs.declared.table.Row.{Row}
+use Rattle.list.specs.declared.table.Row.the-variants.{Of, Missing}
 use Rattle.list.proofs.Gathering.{body-at-most, body-gathered}
 
 -- the item of a record as bytes: none, or its kind byte and its carried bytes
-pub no-item : (rec : List ℕ) → closes (kindIn rec) ≡ true → listBytes (itemOf rec) ≡ []
+pub no-item : (rec : List ℕ) → rowIn rec ≡ Missing → listBytes (itemOf rec) ≡ []
 unfolding flatten
 no-item rec none = rw none
 
-pub item-bytes : (rec : List ℕ) → closes (kindIn rec) ≡ false → listBytes (itemOf rec) ≡ letter (kindIn rec) ∷ gather (carried (kindIn rec)) rec
+pub item-bytes : (rec : List ℕ) (k : ItemKind) → rowIn rec ≡ Of k → listBytes (itemOf rec) ≡ letter k ∷ gather (carried k) rec
 unfolding flatten
-item-bytes rec listed = rw listed (append-nil (letter (kindIn rec) ∷ gather (carried (kindIn rec)) rec))
+item-bytes rec k row = rw row (append-nil (letter k ∷ gather (carried k) rec))
 
--- as many as its kind says, and no more than 111
-pub item-count : (rec : List ℕ) → length rec ≡ 120 → length (listBytes (itemOf rec)) ≡ itemLength (kindIn rec)
-item-count rec whole = by (closes (kindIn rec)) refl
+-- as many as its row says, and no more than 111
+pub item-count : (rec : List ℕ) → length rec ≡ 120 → length (listBytes (itemOf rec)) ≡ itemLength (rowIn rec)
+item-count rec whole = by (rowIn rec) refl
   where
-    by : (b : Bool) → closes (kindIn rec) ≡ b → length (listBytes (itemOf rec)) ≡ itemLength (kindIn rec)
-    by true e = ap length (no-item rec e) ∙ rw e
-    by false e = ap length (item-bytes rec e) ∙ rw e (ap suc (body-gathered rec whole (kindIn rec)))
+    by : (row : Row) → rowIn rec ≡ row → length (listBytes (itemOf rec)) ≡ itemLength (rowIn rec)
+    by (Of k) e = ap length (item-bytes rec k e) ∙ rw e (ap suc (body-gathered rec whole k))
+    by Missing e = ap length (no-item rec e) ∙ rw e
 
-pub item-at-most : (k : Kind) → itemLength k ≤ 111
-item-at-most k = by (closes k)
-  where
-    by : (b : Bool) → cond (not b) (suc (bodyLength k)) 0 ≤ 111
-    by true = omega arith
-    by false = omega (arith, body-at-most k)
+pub item-at-most : (row : Row) → itemLength row ≤ 111
+item-at-most (Of k) = omega (arith, body-at-most k)
+item-at-most Missing = omega arith
 
 -- its kind byte stored, and then the carried bytes behind it
 pub item-stored :
-    (rec : List ℕ) → length rec ≡ 120 → closes (kindIn rec) ≡ false → (from : ℕ) (out : List ℕ) → from + 1 + bodyLength (kindIn rec) ≤ length out
-    → put (from + 1) (gather (carried (kindIn rec)) rec) (set out from (letter (kindIn rec))) ≡ put from (listBytes (itemOf rec)) out
-item-stored rec whole listed from out fits =
-    let k = kindIn rec in
+    (rec : List ℕ) → length rec ≡ 120 → (k : ItemKind) → rowIn rec ≡ Of k → (from : ℕ) (out : List ℕ) → from + 1 + bodyLength k ≤ length out
+    → put (from + 1) (gather (carried k) rec) (set out from (letter k)) ≡ put from (listBytes (itemOf rec)) out
+item-stored rec whole k row from out fits =
     let body = gather (carried k) rec in
     let one : set out from (letter k) ≡ put from (letter k ∷ []) out = rw add-one (set-split out from (letter k) (omega arith)) in
     let size : length body ≡ bodyLength k = body-gathered rec whole k in
-    rw (item-bytes rec listed, one) (sym (put-append from (letter k ∷ []) body out (omega arith)))
+    rw (item-bytes rec k row, one) (sym (put-append from (letter k ∷ []) body out (omega arith)))
 
 -- the items of the records from index i on
 abbrev pub listFrom : List ℕ → ℕ → List ℕ
@@ -69,7 +65,7 @@ list-next f i h =
     rw (cut-next (length f / 120) i f h)
     (ap flatten (map-append itemBytes (itemOf (recordAt i f)) rest) ∙ flatten-append (map itemBytes (itemOf (recordAt i f))) (map itemBytes rest))
 
-pub length-next : (f : List ℕ) (i : ℕ) → i < length f / 120 → length (listFrom f i) ≡ itemLength (kindIn (recordAt i f)) + length (listFrom f (suc i))
+pub length-next : (f : List ℕ) (i : ℕ) → i < length f / 120 → length (listFrom f i) ≡ itemLength (rowIn (recordAt i f)) + length (listFrom f (suc i))
 length-next f i h =
     let bytes = listBytes (itemOf (recordAt i f)) in
     ap length (list-next f i h) ∙ length-append bytes (listFrom f (suc i)) ∙ ap (λ (n : ℕ). n + length (listFrom f (suc i))) (item-count (recordAt i f) (record-whole f i h))
@@ -90,15 +86,15 @@ listing f out fits = record { same = refl; room = rw list-all (omega arith); lef
 module _ {f out₀ out : List ℕ} {from i : ℕ} (l : Listing f out₀ out from i) where
   -- one more, written behind the others
   module _ (more : i < length f / 120) where
-    pub item-fits : from + itemLength (kindIn (recordAt i f)) ≤ length out
+    pub item-fits : from + itemLength (rowIn (recordAt i f)) ≤ length out
     item-fits = let room = l .room in omega (arith, length-next f i more)
 
-    pub listed-next : Listing f out₀ (put from (listBytes (itemOf (recordAt i f))) out) (from + itemLength (kindIn (recordAt i f))) (suc i)
+    pub listed-next : Listing f out₀ (put from (listBytes (itemOf (recordAt i f))) out) (from + itemLength (rowIn (recordAt i f))) (suc i)
     listed-next =
         let bytes = listBytes (itemOf (recordAt i f)) in
         let rest = listFrom f (suc i) in
         let room = l .room in
-        let size : length bytes ≡ itemLength (kindIn (recordAt i f)) = item-count (recordAt i f) (record-whole f i more) in
+        let size : length bytes ≡ itemLength (rowIn (recordAt i f)) = item-count (recordAt i f) (record-whole f i more) in
         let fits : from + length bytes + length rest ≤ length out = omega (arith, length-next f i more) in
         let kept : length (put from bytes out) ≡ length out = put-length from bytes out (omega arith) in
         record {

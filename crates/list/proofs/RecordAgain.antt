@@ -21,7 +21,7 @@ use Rattle.records.specs.Context.{Header}
 use Rattle.records.specs.Field.{field}
 use Rattle.records.specs.Finding.{Hold}
 use Rattle.records.specs.Judge.{asked}
-use Rattle.records.specs.Kinds.{typeOf, heads}
+use Rattle.records.specs.Kinds.{typeOf, heads, closes}
 use Rattle.records.specs.declared.kind.Kind.{Kind}
 use Rattle.records.specs.declared.kind.Kind.the-variants.{Im, R14, R16, R20, R30, R40, R50, R59, R51, R70, Ef}
 use Rattle.records.proofs.Checked.{checks-by-position}
@@ -31,11 +31,13 @@ use Rattle.flow.specs.declared.walk.Walk.{Walk}
 use Rattle.grammar.specs.Rules.{Says, Printable, Formed, MemberRules}
 use Rattle.grammar.proofs.AtPlace.{asks, RightAt}
 use Rattle.grammar.proofs.Rules.{printable-exact, header-rules, member-rules, says-digits}
-use Rattle.list.specs.Encode.{Placed, place, blanks, carriedAt, supplied, bodyPlaced, encodeItem}
+use Rattle.list.specs.Encode.{Placed, place, blanks, abiIn, supplied, bodyPlaced, encodeItem}
 use Rattle.list.specs.Items.{Item, item, Proper}
 use Rattle.list.specs.ReadBack.{gather}
-use Rattle.list.specs.Table.{carried, hasItem}
+use Rattle.list.specs.Table.{recordOf, carried}
+use Rattle.list.specs.declared.table.ItemKind.{ItemKind}
 use Rattle.list.proofs.Carried.{gather-length, gather-matches}
+use Rattle.list.proofs.ItemKinds.{item-open}
 use Rattle.list.proofs.OneRecord.{type-length, encoded-length, encoded-type}
 use Rattle.list.proofs.Placing.{Matches, Agrees, AllPlaced, matches-agrees, fill-agrees, fill-all, all-part}
 use Rattle.list.proofs.Covering.{Spanned, spanned-append, spanned-covers, body-spanned, supplied-spanned, spanned-fits, writtenSpans, written-within, checked-written, checked-within, alike-by-bytes}
@@ -88,66 +90,69 @@ header-supplied k n abi rec e code =
     im-not-14 : Im ≡ R14 → ⊥
     im-not-14 e = true≢false (ap heads e)
 
--- a record of kind k that is right at its place; `header` is the body of the header meant, whose ABI is the header's
+-- a record that an item of kind k encodes, right at its place; `header` is the body of the header meant, whose ABI is the header's
 module _
-    (h : Header) (w : Walk) (company : List ℕ) (i : ℕ) (k : Kind) (rec header : List ℕ) (right-at : RightAt h w company i k rec) (listed : hasItem k ≡ true)
-    (meant : heads k ≡ false → h .abi ≡ carriedAt Im 9 13 header)
+    (h : Header) (w : Walk) (company : List ℕ) (i : ℕ) (k : ItemKind) (rec header : List ℕ) (right-at : RightAt h w company i (recordOf k) rec)
+    (meant : heads (recordOf k) ≡ false → h .abi ≡ abiIn header)
   where
     abbrev abi : List ℕ
-    abi = carriedAt Im 9 13 header
+    abi = abiIn header
+
+    abbrev kind : Kind
+    kind = recordOf k
 
     abbrev own : Item
     own = item k (gather (carried k) rec)
 
     -- the record that its item encodes
     abbrev pub again : List ℕ
-    again = encodeItem (counted w k) header own
+    again = encodeItem (counted w kind) header own
 
     whole : length rec ≡ 120
     whole = right-at .formed .whole
 
     pub own-proper : Proper own
-    own-proper = record { listed = listed; sized = sym (gather-length (carried k) rec (carried-within k) whole) }
+    own-proper = record { sized = sym (gather-length (carried k) rec (carried-within k) whole) }
 
-    supplied-so : Supplied k (counted w k) abi rec
-    supplied-so = by (heads k) refl
+    supplied-so : Supplied kind (counted w kind) abi rec
+    supplied-so = by (heads kind) refl
       where
-        by : (b : Bool) → heads k ≡ b → Supplied k (counted w k) abi rec
+        by : (b : Bool) → heads kind ≡ b → Supplied kind (counted w kind) abi rec
         by true e =
-            let kind : k ≡ Im = heads-im k e in
-            let keeps : Hold (checks Im (asks h w company i Im) rec) = subst (λ (l : Kind). Hold (checks l (asks h w company i l) rec)) kind (right-at .keeps) in
-            header-supplied k (counted w k) abi rec kind (header-rules (asks h w company i Im) rec .0 keeps .currency-code)
+            let head : kind ≡ Im = heads-im kind e in
+            let keeps : Hold (checks Im (asks h w company i Im) rec) = subst (λ (l : Kind). Hold (checks l (asks h w company i l) rec)) head (right-at .keeps) in
+            header-supplied kind (counted w kind) abi rec head (header-rules (asks h w company i Im) rec .0 keeps .currency-code)
         by false e =
-            let not-im : k ≡ Im → ⊥ = λ f. true≢false (sym (ap heads f) ∙ e) in
-            let not-ef : k ≡ Ef → ⊥ = λ f. true≢false (sym listed ∙ ap hasItem f) in
-            let m = member-rules k (asks h w company i k) rec not-im not-ef .0 (right-at .keeps) .0 in
+            let not-im : kind ≡ Im → ⊥ = λ f. true≢false (sym (ap heads f) ∙ e) in
+            let not-ef : kind ≡ Ef → ⊥ = λ f. true≢false (sym (ap closes f) ∙ item-open k) in
+            let m = member-rules kind (asks h w company i kind) rec not-im not-ef .0 (right-at .keeps) .0 in
             record {
-              places = member-stands (counted w k) (h .abi) abi rec (meant e) whole k (λ t. true≢false (sym t ∙ e)) m;
-              bank = λ f. member-abi (counted w k) (h .abi) abi rec (meant e) whole k f m;
+              places = member-stands (counted w kind) (h .abi) abi rec (meant e) whole kind (λ t. true≢false (sym t ∙ e)) m;
+              bank = λ f. member-abi (counted w kind) (h .abi) abi rec (meant e) whole kind f m;
             }
 
     abbrev placed : List Placed
-    placed = place 2 (typeOf k) ∷ (supplied k (counted w k) abi ++ bodyPlaced (carried k) (gather (carried k) rec))
+    placed = place 2 (typeOf kind) ∷ (supplied kind (counted w kind) abi ++ bodyPlaced (carried k) (gather (carried k) rec))
 
     all-stand : All (Matches rec) placed
     all-stand =
-        let type : part 1 (length (typeOf k)) rec ≡ typeOf k = ap (λ (n : ℕ). part 1 n rec) (type-length k) ∙ right-at .formed .type in
-        (type, all-append (Matches rec) (supplied k (counted w k) abi) (bodyPlaced (carried k) (gather (carried k) rec)) (supplied-so .places) (gather-matches (carried k) rec (carried-within k) whole))
+        let type : part 1 (length (typeOf kind)) rec ≡ typeOf kind = ap (λ (n : ℕ). part 1 n rec) (type-length kind) ∙ right-at .formed .type in
+        (type, all-append (Matches rec) (supplied kind (counted w kind) abi) (bodyPlaced (carried k) (gather (carried k) rec)) (supplied-so .places) (gather-matches (carried k) rec (carried-within k) whole))
 
     all-spanned : Spanned placed (writtenSpans k)
-    all-spanned = ((refl, type-length k), spanned-append (supplied k (counted w k) abi) (bodyPlaced (carried k) (gather (carried k) rec)) _ (carried k) (supplied-spanned (counted w k) abi k (supplied-so .bank)) (body-spanned (carried k) (gather (carried k) rec) (gather-length (carried k) rec (carried-within k) whole)))
+    all-spanned = ((refl, type-length kind), spanned-append (supplied kind (counted w kind) abi) (bodyPlaced (carried k) (gather (carried k) rec)) _ (carried k) (supplied-spanned (counted w kind) abi kind (supplied-so .bank)) (body-spanned (carried k) (gather (carried k) rec) (gather-length (carried k) rec (carried-within k) whole)))
 
     all-agree : (j : ℕ) (ps : List Placed) → All (Matches rec) ps → All (Agrees j rec) ps
     all-agree j [] stand = tt
     all-agree j (q ∷ ps) stand = (matches-agrees j rec q (stand .0), all-agree j ps (stand .1))
 
     pub again-whole : length again ≡ 120
-    again-whole = encoded-length (counted w k) header own own-proper
+    again-whole = encoded-length (counted w kind) header own own-proper
 
-    pub again-alike : Alike (checked k) rec again
+    pub again-alike : Alike (checked kind) rec again
     unfolding encodeItem
-    again-alike = alike-by-bytes (checked k) rec again whole again-whole (checked-within k) (λ j small t.
-        let covered = spanned-covers placed (writtenSpans k) j all-spanned (checked-written k listed j small t) in
+    again-alike = alike-by-bytes (checked kind) rec again whole again-whole (checked-within kind) (λ j small t.
+        let covered = spanned-covers placed (writtenSpans k) j all-spanned (checked-written k j small t) in
         sym (fill-agrees j rec placed blanks (spanned-fits placed (writtenSpans k) all-spanned (written-within k)) refl (all-agree j placed all-stand) (inl covered)))
 
     -- its bytes are the record's, and blanks
@@ -156,21 +161,21 @@ module _
     all-printable (place p bs ∷ ps) stand =
         (subst (All Printable) (stand .0) (all-part Printable (p - 1) (length bs) rec (right-at .formed .printable)), all-printable ps (stand .1))
 
-    pub again-formed : Formed k again
+    pub again-formed : Formed kind again
     unfolding encodeItem badFrom
     again-formed =
         record {
           whole = again-whole;
           printable = fill-all Printable placed blanks (all-printable placed all-stand) (printable-exact blanks .0 refl);
-          type = encoded-type (counted w k) header own own-proper;
+          type = encoded-type (counted w kind) header own own-proper;
         }
 
-    pub again-right : RightAt h w company i k again
+    pub again-right : RightAt h w company i kind again
     again-right =
         record {
           may = right-at .may;
           formed = again-formed;
-          keeps = subst Hold (checks-by-position k (asks h w company i k) rec again again-alike) (right-at .keeps);
+          keeps = subst Hold (checks-by-position kind (asks h w company i kind) rec again again-alike) (right-at .keeps);
         }
 
 -- alike records ask for the same cents, and leave the same company code

@@ -1,9 +1,9 @@
 -- An accepted flow's own list, written again: it is accepted with the same numbers, and its records are like the flow's at every position
 -- that is checked. Assumes nothing.
 use Prim.Native.Nat.{ℕ, zero, suc, _+_, _<_}
-use mathlib.Core.Bool.{Bool, true, false, cond}
+use mathlib.Core.Bool.{Bool, false, cond, true≢false}
 use mathlib.Core.List.{List, [], _∷_, _++_, map}
-use mathlib.Core.Path.{_≡_, refl, sym, _∙_, ap, subst}
+use mathlib.Core.Path.{_≡_, refl, sym, _∙_, ap, ap₂, subst}
 use native.Mathlib.Nat.{le-of-suc-le-suc, not-suc-le-zero}
 use lib.ListN.{length, getD}
 use Rattle.sequences.specs.All.{All}
@@ -11,23 +11,52 @@ use Rattle.records.specs.Checked.{checked, Alike}
 use Rattle.records.specs.Context.{Header}
 use Rattle.records.specs.Field.{field}
 use Rattle.records.specs.Judge.{asked}
-use Rattle.records.specs.Kinds.{typeOf, heads, opened}
+use Rattle.records.specs.Kinds.{typeOf, heads, opened, closes}
 use Rattle.records.specs.declared.kind.Kind.{Kind}
-use Rattle.records.specs.declared.kind.Kind.the-variants.{Im}
+use Rattle.records.specs.declared.kind.Kind.the-variants.{Im, R14, R16, R20, R30, R40, R50, R59, R51, R70, Ef}
 use Rattle.records.proofs.ByKind.{types-differ}
+use Rattle.records.proofs.EachKind.{each-kind}
 use Rattle.flow.specs.Steps.{counted, step, latest}
 use Rattle.flow.specs.declared.walk.Walk.{Walk}
 use Rattle.grammar.specs.Grammar.{Typed, kindsOf, recordsIn}
+use Rattle.grammar.proofs.AtPlace.{RightAt}
 use Rattle.grammar.proofs.Walked.{stateBehind, Walked, AllFormed}
-use Rattle.list.specs.Encode.{carriedAt, encodeItem, encodeFrom}
-use Rattle.list.specs.Items.{Item, item, Proper}
+use Rattle.list.specs.Encode.{abiIn, encodeItem, headerBehind, encodeFrom}
+use Rattle.list.specs.Items.{Item, item, recordKind, Proper}
 use Rattle.list.specs.ReadBack.{gather}
-use Rattle.list.specs.Table.{carried, hasItem}
+use Rattle.list.specs.Table.{recordOf, carried}
+use Rattle.list.specs.declared.table.ItemKind.{ItemKind}
+use Rattle.list.specs.declared.table.ItemKind.the-variants.{H, D, S, C, B, A, R, X, K, Z}
 use Rattle.list.proofs.RecordAgain.{again-alike, again-right, own-proper, alike-asked, alike-latest}
+
+-- the kind of item of a record's kind; EF has none, and nothing is said of what stands here for it
+abbrev pub kindFor : Kind → ItemKind
+kindFor Im = H
+kindFor R14 = D
+kindFor R16 = S
+kindFor R20 = C
+kindFor R30 = B
+kindFor R40 = A
+kindFor R50 = R
+kindFor R59 = X
+kindFor R51 = K
+kindFor R70 = Z
+kindFor Ef = Z
+
+pub record-for : (k : Kind) → closes k ≡ false → recordOf (kindFor k) ≡ k
+record-for = each-kind (λ (k : Kind). closes k ≡ false → recordOf (kindFor k) ≡ k) (λ e. refl, (λ e. refl, (λ e. refl, (λ e. refl, (λ e. refl, (λ e. refl, (λ e. refl, (λ e. refl, (λ e. refl, (λ e. refl, (λ e. absurd (true≢false e), tt)))))))))))
 
 -- the item of a record of a known kind
 abbrev pub ownItem : Typed → Item
-ownItem r = item (r .kind) (gather (carried (r .kind)) (r .bytes))
+ownItem r = item (kindFor (r .kind)) (gather (carried (kindFor (r .kind))) (r .bytes))
+
+-- records that are none of EF
+abbrev pub AllOpen : List Typed → Type 0
+AllOpen rs = All (λ (r : Typed). closes (r .kind) ≡ false) rs
+
+pub own-kinds : (rs : List Typed) → AllOpen rs → map recordKind (map ownItem rs) ≡ kindsOf rs
+own-kinds [] not-last = refl
+own-kinds (r ∷ rs) not-last = ap₂ (λ (k : Kind) (ks : List Kind). k ∷ ks) (record-for (r .kind) (not-last .0)) (own-kinds rs (not-last .1))
 
 -- records encoded again, behind n dispositions and with one header meant
 abbrev pub againFrom : ℕ → List ℕ → List Typed → List Typed
@@ -48,28 +77,44 @@ pub record Again (h : Header) (w : Walk) (code : List ℕ) (i : ℕ) (header : L
   pub proper : All Proper (map ownItem rs)
   pub same : recordsIn (againFrom (w .dispositions) header rs) ≡ encodeFrom (w .dispositions) header (map ownItem rs)
 
-module _ (h : Header) (header : List ℕ) (meant : h .abi ≡ carriedAt Im 9 13 header) where
+-- one record, encoded again from its item
+record OneAgain (h : Header) (w : Walk) (code : List ℕ) (i : ℕ) (k : Kind) (rec enc : List ℕ) (it : Item) : Type 0 where
+  alike : Alike (checked k) rec enc
+  right : RightAt h w code i k enc
+  proper : Proper it
+
+one-again :
+    (h : Header) (w : Walk) (code : List ℕ) (i : ℕ) (rec header : List ℕ) (l : ItemKind) (k : Kind) → recordOf l ≡ k → RightAt h w code i k rec
+    → (heads k ≡ false → h .abi ≡ abiIn header) → let it = item l (gather (carried l) rec) in
+    OneAgain h w code i k rec (encodeItem (counted w k) header it) it
+one-again h w code i rec header l k same =
+    subst (λ (k : Kind). RightAt h w code i k rec → (heads k ≡ false → h .abi ≡ abiIn header) → let it = item l (gather (carried l) rec) in OneAgain h w code i k rec (encodeItem (counted w k) header it) it) same
+    (λ right meant. record { alike = again-alike h w code i l rec header right meant; right = again-right h w code i l rec header right meant; proper = own-proper h w code i l rec header right meant })
+
+module _ (h : Header) (header : List ℕ) (meant : h .abi ≡ abiIn header) where
   pub again-walked :
-      (w : Walk) (code : List ℕ) (i : ℕ) (rs : List Typed) → Walked h w code i rs → All (λ (r : Typed). hasItem (r .kind) ≡ true) rs → All (λ (r : Typed). heads (r .kind) ≡ false) rs
+      (w : Walk) (code : List ℕ) (i : ℕ) (rs : List Typed) → Walked h w code i rs → AllOpen rs → All (λ (r : Typed). heads (r .kind) ≡ false) rs
       → Again h w code i header rs
   unfolding encodeFrom
-  again-walked w code i [] walked listed later = record { walked = tt; state = refl; like = tt; proper = tt; same = refl }
-  again-walked w code i (r ∷ rs) walked listed later =
+  again-walked w code i [] walked not-last later = record { walked = tt; state = refl; like = tt; proper = tt; same = refl }
+  again-walked w code i (r ∷ rs) walked not-last later =
       let k = r .kind in
       let rec = r .bytes in
-      let abi : heads k ≡ false → h .abi ≡ carriedAt Im 9 13 header = λ e. meant in
-      let enc = encodeItem (counted w k) header (ownItem r) in
-      let alike = again-alike h w code (suc i) k rec header (walked .0) (listed .0) abi in
-      let cents : asked k rec ≡ asked k enc = alike-asked k rec enc alike in
-      let company : latest k code rec ≡ latest k code enc = alike-latest k code rec enc alike in
-      let rest = again-walked (step w k (asked k rec)) (latest k code rec) (suc i) rs (walked .1) (listed .1) (later .1) in
+      let it = ownItem r in
+      let same : k ≡ recordKind it = sym (record-for k (not-last .0)) in
+      let one = one-again h w code (suc i) rec header (kindFor k) k (record-for k (not-last .0)) (walked .0) (λ e. meant) in
+      let enc = encodeItem (counted w k) header it in
+      let cents : asked k rec ≡ asked k enc = alike-asked k rec enc (one .alike) in
+      let company : latest k code rec ≡ latest k code enc = alike-latest k code rec enc (one .alike) in
+      let rest = again-walked (step w k (asked k rec)) (latest k code rec) (suc i) rs (walked .1) (not-last .1) (later .1) in
       let behind = againFrom (counted w k) header rs in
+      let stays : header ≡ headerBehind header it = ap (λ (b : Bool). cond b (it .body) header) (sym (later .0) ∙ ap heads same) in
       record {
-        walked = (again-right h w code (suc i) k rec header (walked .0) (listed .0) abi, subst (λ (A : Type 0). A) (λ j. Walked h (step w k (cents j)) (company j) (suc i) behind) (rest .walked));
+        walked = (one .right, subst (λ (A : Type 0). A) (λ j. Walked h (step w k (cents j)) (company j) (suc i) behind) (rest .walked));
         state = ap (λ (c : ℕ). stateBehind (step w k c) behind) (sym cents) ∙ rest .state;
-        like = (alike, rest .like);
-        proper = (own-proper h w code (suc i) k rec header (walked .0) (listed .0) abi, rest .proper);
-        same = ap (λ (l : List (List ℕ)). enc ∷ l) (rest .same ∙ ap (λ (b : Bool). encodeFrom (counted w k) (cond b (gather (carried k) rec) header) (map ownItem rs)) (sym (later .0)));
+        like = (one .alike, rest .like);
+        proper = (one .proper, rest .proper);
+        same = ap (λ (l : List (List ℕ)). enc ∷ l) (rest .same) ∙ (λ j. encodeItem (counted w (same j)) header it ∷ encodeFrom (counted w (same j)) (stays j) (map ownItem rs));
       }
 
 -- of records and of their kinds

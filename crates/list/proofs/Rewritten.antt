@@ -1,8 +1,8 @@
 -- An accepted flow and its own list: written again the list is accepted with the same numbers, and what it encodes is like the flow at
 -- every position that is checked. Assumes nothing.
 use Prim.Native.Nat.{ℕ, suc, _+_, _*_, _/_, _≤_, _<_}
-use mathlib.Core.Bool.{true, false, not, true≢false}
-use mathlib.Core.List.{List, [], _∷_, _++_, append-nil, map, map-append, map-map, dropLast, flatten}
+use mathlib.Core.Bool.{true, false, true≢false}
+use mathlib.Core.List.{List, [], _∷_, _++_, append-nil, map, map-append, dropLast, flatten}
 use mathlib.Core.Path.{_≡_, refl, sym, _∙_, ap, subst}
 use native.Mathlib.Omega.{arith}
 use lib.Dec.{leb}
@@ -10,6 +10,7 @@ use lib.ListN.{length, take, getD, length-map, length-append}
 use lib.Seq.{take-at}
 use borrow.Author.Tests.{le-leb}
 use Rattle.sequences.specs.All.{All}
+use Rattle.sequences.specs.Pairs.{Pairs}
 use Rattle.sequences.specs.Part.{part}
 use Rattle.sequences.proofs.All.{all-before}
 use Rattle.sequences.proofs.DropLast.{dropLast-append}
@@ -41,18 +42,20 @@ use Rattle.grammar.proofs.Grammar.{grammar-exact, header-first, grammar-records
 use Rattle.grammar.proofs.Order.{Allowed, header-only-first, all-open}
 use Rattle.grammar.proofs.Rules.{header-rules, trailer-rules, says-digits, said-below, countsTold}
 use Rattle.grammar.proofs.Walked.{stateBehind, codeBehind, Walked, walked-append, walked-allowed, walked-formed, AllFormed}
-use Rattle.list.specs.Encode.{carriedAt, encodeItem, encodeFrom, encodeTrailer, lastHeader, totalsOf, recordsFor, trailerFor, encode}
-use Rattle.list.specs.Items.{Item, item, Proper, listBytes, items, parse, itemsOr, itemsIn}
-use Rattle.list.specs.Laws.{OwnList, OwnItems, RewrittenExact, RewrittenSame, UncheckedOnly}
+use Rattle.list.specs.Encode.{abiIn, encodeItem, encodeFrom, encodeTrailer, lastHeader, totalsOf, recordsFor, trailerFor, encode}
+use Rattle.list.specs.Items.{Item, Proper, listBytes, items, parse, itemsOr, itemsIn}
+use Rattle.list.specs.Laws.{OwnItem, OwnList, OwnItems, RewrittenExact, RewrittenSame, UncheckedOnly}
 use Rattle.list.specs.ReadBack.{gather, itemOf, itemsOf, listOf}
-use Rattle.list.specs.Table.{carried, hasItem, kindIn}
+use Rattle.list.specs.Table.{carried, rowIn}
 use Rattle.list.specs.Write.{closed, judgeItems, judgeList, write}
+use Rattle.list.specs.declared.table.ItemKind.the-variants.{H}
+use Rattle.list.specs.declared.table.Row.the-variants.{Of}
 use Rattle.list.proofs.RecordAgain.{again-alike, again-right, own-proper}
 use Rattle.list.proofs.Carried.{gather-length, gather-at}
-use Rattle.list.proofs.AllRecords.{kind-in, encode-records, encode-length, encode-items}
+use Rattle.list.proofs.AllRecords.{row-in, no-row-in, encode-records, encode-length, encode-items}
 use Rattle.list.proofs.Judging.{front, RightItems, right-judged, right-sums, kindsIn, close-tested, header-stays}
 use Rattle.list.proofs.ListItems.{read-items}
-use Rattle.list.proofs.RecordsAgain.{ownItem, againFrom, Like, Again, again-walked, all-kinds, like-at, like-append}
+use Rattle.list.proofs.RecordsAgain.{kindFor, record-for, ownItem, AllOpen, own-kinds, againFrom, Like, Again, again-walked, all-kinds, like-at, like-append}
 use Rattle.list.proofs.TableSpans.{carried-within}
 use Rattle.list.proofs.Trailer.{Meant, Counted, trailer-formed, trailer-keeps}
 use Rattle.list.proofs.WriteRefused.{fitting-judged}
@@ -90,18 +93,16 @@ trailers-alike h t rec other f g a b =
       ),
     )
 
--- a record that does not close the flow has an item
-open-listed : (rs : List Typed) → All (λ (r : Typed). closes (r .kind) ≡ false) rs → All (λ (r : Typed). hasItem (r .kind) ≡ true) rs
-open-listed [] not-last = tt
-open-listed (r ∷ rs) not-last = (ap not (not-last .0), open-listed rs (not-last .1))
+-- the row of a record of a known kind
+own-row : (r : Typed) → Formed (r .kind) (r .bytes) → closes (r .kind) ≡ false → rowIn (r .bytes) ≡ Of (kindFor (r .kind))
+own-row r formed not-last = row-in (kindFor (r .kind)) (r .bytes) (formed .type ∙ ap typeOf (sym (record-for (r .kind) not-last)))
 
 -- the items of records
-single-items : (rs : List Typed) → AllFormed rs → All (λ (r : Typed). hasItem (r .kind) ≡ true) rs → flatten (map itemOf (recordsIn rs)) ≡ map ownItem rs
+single-items : (rs : List Typed) → AllFormed rs → AllOpen rs → flatten (map itemOf (recordsIn rs)) ≡ map ownItem rs
 unfolding flatten
-single-items [] formed listed = refl
-single-items (r ∷ rs) formed listed =
-    let kind : kindIn (r .bytes) ≡ r .kind = kind-in (r .kind) (r .bytes) (formed .0 .type) in
-    rw (kind, listed .0) (ap (λ (l : List Item). ownItem r ∷ l) (single-items rs (formed .1) (listed .1)))
+single-items [] formed not-last = refl
+single-items (r ∷ rs) formed not-last =
+    rw (own-row r (formed .0) (not-last .0)) (ap (λ (l : List Item). ownItem r ∷ l) (single-items rs (formed .1) (not-last .1)))
 
 module _ (f : List ℕ) (t : Totals) (g : Grammar f t) where
   abbrev im : List ℕ
@@ -141,11 +142,11 @@ module _ (f : List ℕ) (t : Totals) (g : Grammar f t) where
   formed : AllFormed (before ++ last)
   formed = walked-formed h start [] 0 (before ++ last) all-walked
 
-  -- each but the last has an item, and none but the first is an IM
-  listed : All (λ (r : Typed). hasItem (r .kind) ≡ true) before
-  listed =
+  -- none but the last is an EF, and none but the first an IM
+  not-last : AllOpen before
+  not-last =
       let allowed = subst (Allowed (place OnlyIm)) (map-append (λ (r : Typed). r .kind) before last) (walked-allowed h start [] 0 (before ++ last) all-walked) in
-      open-listed before (all-kinds (λ (k : Kind). closes k ≡ false) before (all-open (place OnlyIm) (kindsOf before) Ef allowed))
+      all-kinds (λ (k : Kind). closes k ≡ false) before (all-open (place OnlyIm) (kindsOf before) Ef allowed)
 
   later : All (λ (k : Kind). heads k ≡ false) (kindsOf members)
   later = header-only-first Im (kindsOf members) (walked-allowed h start [] 0 before walked) .1
@@ -160,15 +161,15 @@ module _ (f : List ℕ) (t : Totals) (g : Grammar f t) where
   pub own-list-items : itemsOf f ≡ own
   unfolding flatten
   own-list-items =
-      let none : itemOf ef ≡ [] = rw (kind-in Ef ef (closing .formed .type)) in
+      let none : itemOf ef ≡ [] = rw (no-row-in ef (closing .formed .type)) in
       ap (λ (recs : List (List ℕ)). flatten (map itemOf recs)) records
       ∙ ap flatten (map-append itemOf (recordsIn before) (ef ∷ []))
       ∙ flatten-append (map itemOf (recordsIn before)) (itemOf ef ∷ [])
-      ∙ cc (single-items before (walked-formed h start [] 0 before walked) listed, none, append-nil own)
+      ∙ cc (single-items before (walked-formed h start [] 0 before walked) not-last, none, append-nil own)
 
   -- the header as its item carries it
   abbrev header : List ℕ
-  header = gather (carried Im) im
+  header = gather (carried H) im
 
   im-right : RightAt h start [] 1 Im im
   im-right = walked .0
@@ -176,36 +177,36 @@ module _ (f : List ℕ) (t : Totals) (g : Grammar f t) where
   meant : Meant im header
   meant =
       record {
-        sized = sym (gather-length (carried Im) im (carried-within Im) (im-right .formed .whole));
-        carries = λ a e t. sym (gather-at (carried Im) a e im (carried-within Im) (im-right .formed .whole) t);
+        sized = sym (gather-length (carried H) im (carried-within H) (im-right .formed .whole));
+        carries = λ a e t. sym (gather-at (carried H) a e im (carried-within H) (im-right .formed .whole) t);
         printable = im-right .formed .printable;
         code = header-rules (asks h start [] 1 Im) im .0 (im-right .keeps) .currency-code;
       }
 
-  abi-meant : h .abi ≡ carriedAt Im 9 13 header
+  abi-meant : h .abi ≡ abiIn header
   abi-meant = ap (field 9 13) im-first ∙ meant .carries 9 13 refl
 
   -- its records, encoded again
-  no-abi : heads Im ≡ false → h .abi ≡ carriedAt Im 9 13 []
+  no-abi : heads Im ≡ false → h .abi ≡ abiIn []
   no-abi e = absurd (true≢false e)
 
   abbrev im-again : List ℕ
   im-again = encodeItem (counted start Im) [] (ownItem (record { kind = Im; bytes = im }))
 
   im-alike : Alike (checked Im) im im-again
-  im-alike = again-alike h start [] 1 Im im [] im-right refl no-abi
+  im-alike = again-alike h start [] 1 H im [] im-right no-abi
 
   members-again : Again h (step start Im 0) [] 1 header members
-  members-again = again-walked h header abi-meant (step start Im 0) [] 1 members (walked .1) (listed .1) (all-kinds (λ (k : Kind). heads k ≡ false) members later)
+  members-again = again-walked h header abi-meant (step start Im 0) [] 1 members (walked .1) (not-last .1) (all-kinds (λ (k : Kind). heads k ≡ false) members later)
 
   abbrev again : List Typed
   again = record { kind = Im; bytes = im-again } ∷ againFrom 0 header members
 
   again-walked-all : Walked h start [] 0 again
-  again-walked-all = (again-right h start [] 1 Im im [] im-right refl no-abi, members-again .walked)
+  again-walked-all = (again-right h start [] 1 H im [] im-right no-abi, members-again .walked)
 
   pub own-proper-all : All Proper own
-  own-proper-all = (own-proper h start [] 1 Im im [] im-right refl no-abi, members-again .proper)
+  own-proper-all = (own-proper h start [] 1 H im [] im-right no-abi, members-again .proper)
 
   again-records : recordsIn again ≡ recordsFor own
   unfolding encodeFrom
@@ -285,7 +286,7 @@ module _ (f : List ℕ) (t : Totals) (g : Grammar f t) where
   pub trailer-so : trailerFor own ≡ encodeTrailer header t
   unfolding lastHeader
   trailer-so =
-      let kinds : kindsIn (map ownItem members) ≡ kindsOf members = map-map (λ (it : Item). it .kind) ownItem members in
+      let kinds : kindsIn (map ownItem members) ≡ kindsOf members = own-kinds members (not-last .1) in
       let stays : lastHeader header (map ownItem members) ≡ header = header-stays header (map ownItem members) (subst (All (λ (k : Kind). heads k ≡ false)) (sym kinds) later) in
       λ i. encodeTrailer (stays i) (own-sums i)
 
@@ -310,18 +311,17 @@ module _ (f : List ℕ) (t : Totals) (g : Grammar f t) where
 records-length : (f : List ℕ) (t : Totals) → judge f ≡ accepted t → length f ≡ 120 * t .records
 records-length f t e = omega (arith, accepted-exact f t e .2)
 
-own-by-type : (rs : List Typed) → AllFormed rs → map ownItem rs ≡ map (λ (rec : List ℕ). item (kindIn rec) (gather (carried (kindIn rec)) rec)) (recordsIn rs)
-own-by-type [] formed = refl
-own-by-type (r ∷ rs) formed =
-    let kind = kind-in (r .kind) (r .bytes) (formed .0 .type) in
-    λ i. item (sym kind i) (gather (carried (sym kind i)) (r .bytes)) ∷ own-by-type rs (formed .1) i
+own-pairs : (rs : List Typed) → AllFormed rs → AllOpen rs → Pairs OwnItem (recordsIn rs) (map ownItem rs)
+own-pairs [] formed not-last = tt
+own-pairs (r ∷ rs) formed not-last = ((own-row r (formed .0) (not-last .0), refl), own-pairs rs (formed .1) (not-last .1))
 
 pub own-list : OwnList
 own-list f t e =
     let g = grammar-exact f t .0 e in
-    own-list-items f t g
-    ∙ own-by-type (before f t g) (all-before (λ (r : Typed). Formed (r .kind) (r .bytes)) (before f t g) (last f t g) (formed f t g))
-    ∙ ap (map (λ (rec : List ℕ). item (kindIn rec) (gather (carried (kindIn rec)) rec))) (sym (ap dropLast (records f t g) ∙ dropLast-append (recordsIn (before f t g)) (ef f t g)))
+    let rs = before f t g in
+    let formed-so = all-before (λ (r : Typed). Formed (r .kind) (r .bytes)) rs (last f t g) (formed f t g) in
+    let same : dropLast (recordsOf f) ≡ recordsIn rs = ap dropLast (records f t g) ∙ dropLast-append (recordsIn rs) (ef f t g) in
+    subst (λ (A : Type 0). A) (λ i. Pairs OwnItem (sym same i) (sym (own-list-items f t g) i)) (own-pairs rs formed-so (not-last f t g))
 
 pub own-items : OwnItems
 own-items f t e = own-read f t (grammar-exact f t .0 e)

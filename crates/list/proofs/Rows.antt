@@ -5,26 +5,27 @@ use mathlib.Core.Path.{_≡_, sym, _∙_}
 use native.Mathlib.Numerals.{add-one}
 use lib.ListN.{drop, getD, drop-of-length-le}
 use lib.Seq.{drop-cons}
-use Rattle.records.specs.declared.kind.Kind.{Kind}
-use Rattle.records.specs.declared.kind.Kind.the-variants.{Ef}
-use Rattle.list.specs.Table.{rows, firstKind}
+use Rattle.list.specs.Table.{rows, firstRow}
+use Rattle.list.specs.declared.table.ItemKind.{ItemKind}
+use Rattle.list.specs.declared.table.ItemKind.the-variants.{Z}
+use Rattle.list.specs.declared.table.Row.the-variants.{Of, Missing}
 
-module _ (p : Kind → Bool) where
+module _ (p : ItemKind → Bool) where
   -- what is left behind i decides as the whole does
   abbrev pub Decides : ℕ → Type 0
-  Decides i = firstKind p rows ≡ firstKind p (drop i rows)
+  Decides i = firstRow p rows ≡ firstRow p (drop i rows)
 
   -- in a turn the row at i is tested, and the rest decides where it fails
-  turn : (i : ℕ) {k : Kind} → i < 10 → k ≡ getD rows i Ef → Decides i → firstKind p rows ≡ cond (p k) k (firstKind p (drop (i + 1) rows))
-  unfolding firstKind
-  turn i h e left = left ∙ rw (e, add-one, drop-cons rows i Ef h)
+  turn : (i : ℕ) {k : ItemKind} → i < 10 → k ≡ getD rows i Z → Decides i → firstRow p rows ≡ cond (p k) (Of k) (firstRow p (drop (i + 1) rows))
+  unfolding firstRow
+  turn i h e left = left ∙ rw (e, add-one, drop-cons rows i Z h)
 
-  pub found : (i : ℕ) {k : Kind} → i < 10 → k ≡ getD rows i Ef → Decides i → p k ≡ true → k ≡ firstKind p rows
+  pub found : (i : ℕ) {k : ItemKind} → i < 10 → k ≡ getD rows i Z → Decides i → p k ≡ true → Of k ≡ firstRow p rows
   found i h e left t = sym (turn i h e left ∙ rw t)
 
-  pub next : (i : ℕ) {k : Kind} → i < 10 → k ≡ getD rows i Ef → Decides i → p k ≡ false → Decides (i + 1)
+  pub next : (i : ℕ) {k : ItemKind} → i < 10 → k ≡ getD rows i Z → Decides i → p k ≡ false → Decides (i + 1)
   next i h e left t = turn i h e left ∙ rw t
 
-  pub ended : (i : ℕ) → 10 ≤ i → Decides i → Ef ≡ firstKind p rows
-  unfolding firstKind
+  pub ended : (i : ℕ) → 10 ≤ i → Decides i → Missing ≡ firstRow p rows
+  unfolding firstRow
   ended i h left = sym (left ∙ rw (drop-of-length-le rows h))

@@ -15,9 +15,9 @@ use Rattle.sequences.specs.Sum.{sum}
 use Rattle.sequences.proofs.All.{all-getD}
 use Rattle.records.specs.Field.{Span, _to_, width}
 use Rattle.records.specs.Kinds.{heads}
-use Rattle.records.specs.declared.kind.Kind.{Kind}
-use Rattle.records.proofs.EachKind.{each-kind}
-use Rattle.list.specs.Table.{carried, bodyLength, fourOf, bounds, boundsOf}
+use Rattle.list.specs.Table.{recordOf, carried, bodyLength, fourOf, bounds, boundsOf}
+use Rattle.list.specs.declared.table.ItemKind.{ItemKind}
+use Rattle.list.proofs.ItemKinds.{each-item}
 
 -- the first and the last position
 abbrev pub first : Span → ℕ
@@ -51,19 +51,19 @@ all-within (s ∷ ss) t =
     let both = and-eq-true-iff (is-within s) (are-within ss) .0 t in
     (within-so s (both .0), all-within ss (both .1))
 
-pub carried-within : (k : Kind) → All Within (carried k)
-carried-within k = all-within (carried k) (each-kind (λ (k : Kind). are-within (carried k) ≡ true) (refl, (refl, (refl, (refl, (refl, (refl, (refl, (refl, (refl, (refl, (refl, tt))))))))))) k)
+pub carried-within : (k : ItemKind) → All Within (carried k)
+carried-within k = all-within (carried k) (each-item (λ (k : ItemKind). are-within (carried k) ≡ true) (refl, (refl, (refl, (refl, (refl, (refl, (refl, (refl, (refl, (refl, tt)))))))))) k)
 
 -- each of the four spans of a kind
-pub four-within : (k : Kind) → All Within (fourOf (carried k))
-four-within k = all-within (fourOf (carried k)) (each-kind (λ (k : Kind). are-within (fourOf (carried k)) ≡ true) (refl, (refl, (refl, (refl, (refl, (refl, (refl, (refl, (refl, (refl, (refl, tt))))))))))) k)
+pub four-within : (k : ItemKind) → All Within (fourOf (carried k))
+four-within k = all-within (fourOf (carried k)) (each-item (λ (k : ItemKind). are-within (fourOf (carried k)) ≡ true) (refl, (refl, (refl, (refl, (refl, (refl, (refl, (refl, (refl, (refl, tt)))))))))) k)
 
-pub four-count : (k : Kind) → length (fourOf (carried k)) ≡ 4
-four-count = each-kind (λ (k : Kind). length (fourOf (carried k)) ≡ 4) (refl, (refl, (refl, (refl, (refl, (refl, (refl, (refl, (refl, (refl, (refl, tt)))))))))))
+pub four-count : (k : ItemKind) → length (fourOf (carried k)) ≡ 4
+four-count = each-item (λ (k : ItemKind). length (fourOf (carried k)) ≡ 4) (refl, (refl, (refl, (refl, (refl, (refl, (refl, (refl, (refl, (refl, tt))))))))))
 
 -- the widths of the four are the body's length
-pub four-widths : (k : Kind) → sum (map width (fourOf (carried k))) ≡ bodyLength k
-four-widths = each-kind (λ (k : Kind). sum (map width (fourOf (carried k))) ≡ bodyLength k) (refl, (refl, (refl, (refl, (refl, (refl, (refl, (refl, (refl, (refl, (refl, tt)))))))))))
+pub four-widths : (k : ItemKind) → sum (map width (fourOf (carried k))) ≡ bodyLength k
+four-widths = each-item (λ (k : ItemKind). sum (map width (fourOf (carried k))) ≡ bodyLength k) (refl, (refl, (refl, (refl, (refl, (refl, (refl, (refl, (refl, (refl, tt))))))))))
 
 -- the span at index i by its two numbers
 pub bounds-first : (ss : List Span) (i : ℕ) → i < length ss → getD (bounds ss) (2 * i) 0 ≡ first (getD ss i (1 to 0))
@@ -81,7 +81,7 @@ abbrev pub spanAt : List ℕ → ℕ → Span
 spanAt bs i = getD bs (2 * i) 0 to getD bs (2 * i + 1) 0
 
 -- is the one of the kind, and lies within the record
-span-at : (k : Kind) (i : ℕ) → i < 4 → getD (fourOf (carried k)) i (1 to 0) ≡ spanAt (boundsOf k) i
+span-at : (k : ItemKind) (i : ℕ) → i < 4 → getD (fourOf (carried k)) i (1 to 0) ≡ spanAt (boundsOf k) i
 span-at k i h =
     let ss = fourOf (carried k) in
     let counted : i < length ss = rw four-count h in
@@ -90,23 +90,23 @@ span-at k i h =
     whole : (s : Span) → s ≡ (first s to last s)
     whole (a to e) = refl
 
-pub span-within : (k : Kind) (i : ℕ) → i < 4 → Within (spanAt (boundsOf k) i)
+pub span-within : (k : ItemKind) (i : ℕ) → i < 4 → Within (spanAt (boundsOf k) i)
 span-within k i h =
     let counted : i < length (fourOf (carried k)) = rw four-count h in
     subst (λ (s : Span). Within s) (span-at k i h) (all-getD Within (fourOf (carried k)) i (1 to 0) counted (four-within k))
 
 -- the spans that are left behind i: this one and then the others, and none behind the fourth
-pub four-next : (k : Kind) (i : ℕ) → i < 4 → drop i (fourOf (carried k)) ≡ spanAt (boundsOf k) i ∷ drop (i + 1) (fourOf (carried k))
+pub four-next : (k : ItemKind) (i : ℕ) → i < 4 → drop i (fourOf (carried k)) ≡ spanAt (boundsOf k) i ∷ drop (i + 1) (fourOf (carried k))
 four-next k i h =
     let counted : i < length (fourOf (carried k)) = rw four-count h in
     drop-cons (fourOf (carried k)) i (1 to 0) counted ∙ (λ j. span-at k i h j ∷ drop (sym (add-one i) j) (fourOf (carried k)))
 
-pub four-end : (k : Kind) (i : ℕ) → 4 ≤ i → drop i (fourOf (carried k)) ≡ []
+pub four-end : (k : ItemKind) (i : ℕ) → 4 ≤ i → drop i (fourOf (carried k)) ≡ []
 four-end k i h = let counted : length (fourOf (carried k)) ≤ i = rw four-count h in drop-of-length-le (fourOf (carried k)) counted
 
 -- the four are the carried positions, and then spans of none
-pub four-padded : (k : Kind) → fourOf (carried k) ≡ carried k ++ replicate (4 - length (carried k)) (1 to 0)
-four-padded = each-kind (λ (k : Kind). fourOf (carried k) ≡ carried k ++ replicate (4 - length (carried k)) (1 to 0)) (refl, (refl, (refl, (refl, (refl, (refl, (refl, (refl, (refl, (refl, (refl, tt)))))))))))
+pub four-padded : (k : ItemKind) → fourOf (carried k) ≡ carried k ++ replicate (4 - length (carried k)) (1 to 0)
+four-padded = each-item (λ (k : ItemKind). fourOf (carried k) ≡ carried k ++ replicate (4 - length (carried k)) (1 to 0)) (refl, (refl, (refl, (refl, (refl, (refl, (refl, (refl, (refl, (refl, tt))))))))))
 
 -- spans one behind the other
 abbrev pub Rising : List Span → Type 0
@@ -133,13 +133,13 @@ rising-so (s ∷ ss) t =
     let both = and-eq-true-iff (all-from (last s) ss) (is-rising ss) .0 t in
     (from-so (last s) ss (both .0), rising-so ss (both .1))
 
-pub carried-rising : (k : Kind) → Rising (carried k)
-carried-rising k = rising-so (carried k) (each-kind (λ (k : Kind). is-rising (carried k) ≡ true) (refl, (refl, (refl, (refl, (refl, (refl, (refl, (refl, (refl, (refl, (refl, tt))))))))))) k)
+pub carried-rising : (k : ItemKind) → Rising (carried k)
+carried-rising k = rising-so (carried k) (each-item (λ (k : ItemKind). is-rising (carried k) ≡ true) (refl, (refl, (refl, (refl, (refl, (refl, (refl, (refl, (refl, (refl, tt)))))))))) k)
 
 -- no kind carries position 3 or one before it
-pub carried-behind : (k : Kind) → All (λ (t : Span). 3 ≤ first t - 1) (carried k)
-carried-behind k = from-so 3 (carried k) (each-kind (λ (k : Kind). all-from 3 (carried k) ≡ true) (refl, (refl, (refl, (refl, (refl, (refl, (refl, (refl, (refl, (refl, (refl, tt))))))))))) k)
+pub carried-behind : (k : ItemKind) → All (λ (t : Span). 3 ≤ first t - 1) (carried k)
+carried-behind k = from-so 3 (carried k) (each-item (λ (k : ItemKind). all-from 3 (carried k) ≡ true) (refl, (refl, (refl, (refl, (refl, (refl, (refl, (refl, (refl, (refl, tt)))))))))) k)
 
--- nor does one but IM carry a position of the number
-pub carried-behind-number : (k : Kind) → heads k ≡ false → All (λ (t : Span). 10 ≤ first t - 1) (carried k)
-carried-behind-number k member = from-so 10 (carried k) (each-kind (λ (k : Kind). heads k ≡ false → all-from 10 (carried k) ≡ true) (λ e. absurd (true≢false e), (λ e. refl, (λ e. refl, (λ e. refl, (λ e. refl, (λ e. refl, (λ e. refl, (λ e. refl, (λ e. refl, (λ e. refl, (λ e. refl, tt))))))))))) k member)
+-- nor does one but H carry a position of the number
+pub carried-behind-number : (k : ItemKind) → heads (recordOf k) ≡ false → All (λ (t : Span). 10 ≤ first t - 1) (carried k)
+carried-behind-number k member = from-so 10 (carried k) (each-item (λ (k : ItemKind). heads (recordOf k) ≡ false → all-from 10 (carried k) ≡ true) (λ e. absurd (true≢false e), (λ e. refl, (λ e. refl, (λ e. refl, (λ e. refl, (λ e. refl, (λ e. refl, (λ e. refl, (λ e. refl, (λ e. refl, tt)))))))))) k member)

@@ -15,7 +15,7 @@ use Rattle.records.specs.Constants.{currency}
 use Rattle.records.specs.Context.{headerOf}
 use Rattle.records.specs.Field.{_to_, width, field}
 use Rattle.records.specs.Kinds.{typeOf, opened}
-use Rattle.records.specs.declared.kind.Kind.the-variants.{Im, Ef}
+use Rattle.records.specs.declared.kind.Kind.the-variants.{Ef}
 use Rattle.records.proofs.Checked.{field-within}
 use Rattle.flow.specs.Judge.{totals}
 use Rattle.flow.specs.Steps.{countsAt}
@@ -25,7 +25,8 @@ use Rattle.grammar.specs.Rules.{Says, Printable, Formed, TrailerRules}
 use Rattle.grammar.proofs.AtPlace.{asks, May, RightAt}
 use Rattle.grammar.proofs.Rules.{digits-exact, digits-printable, printable-exact, says-written, countsTold, trailer-rules}
 use Rattle.list.specs.Table.{carried}
-use Rattle.list.specs.Encode.{blanks, carriedAt, trailerPlaced, encodeTrailer}
+use Rattle.list.specs.Encode.{blanks, carriedAt, copiedIn, trailerPlaced, encodeTrailer}
+use Rattle.list.specs.declared.table.ItemKind.the-variants.{H}
 use Rattle.list.proofs.Carried.{inOne}
 use Rattle.list.proofs.AllRecords.{trailer-length, trailer-type, trailer-copied, trailer-dispositions, trailer-cents, trailer-zeros, trailer-records, trailer-currency}
 use Rattle.list.proofs.Placing.{all-part, AllPlaced, fill-all}
@@ -39,7 +40,7 @@ pub record Counted (t : Totals) : Type 0 where
 -- `header` is a body of H that carries what the record `im` has
 pub record Meant (im header : List ℕ) : Type 0 where
   pub sized : length header ≡ 49
-  pub carries : (a e : ℕ) → inOne (carried Im) a e ≡ true → field a e im ≡ carriedAt Im a e header
+  pub carries : (a e : ℕ) → inOne (carried H) a e ≡ true → field a e im ≡ carriedAt H a e header
   pub printable : All Printable im
   pub code : field 114 114 im ≡ currency
 
@@ -63,11 +64,11 @@ module _ (im header : List ℕ) (meant : Meant im header) (t : Totals) where
   trailer-formed =
       let fixed : (bs : List ℕ) → badByte bs ≡ 0 → All Printable bs = λ bs. printable-exact bs .0 in
       let number : (w v : ℕ) → All Printable (digits w v) = λ w v. digits-printable (digits w v) (digits-exact (digits w v) .0 (written-digits w v)) in
-      let copied : All Printable (carriedAt Im 4 45 header) = subst (All Printable) (meant .carries 4 45 refl) (all-part Printable 3 42 im (meant .printable)) in
-      let placed : All (AllPlaced Printable) (trailerPlaced (carriedAt Im 4 45 header) t) = (fixed (typeOf Ef) refl, (copied, (number 7 (t .dispositions), (number 15 (t .cents), (number 15 0, (number 7 (t .records), (fixed currency refl, tt))))))) in
+      let copied : All Printable (copiedIn header) = subst (All Printable) (meant .carries 4 45 refl) (all-part Printable 3 42 im (meant .printable)) in
+      let placed : All (AllPlaced Printable) (trailerPlaced (copiedIn header) t) = (fixed (typeOf Ef) refl, (copied, (number 7 (t .dispositions), (number 15 (t .cents), (number 15 0, (number 7 (t .records), (fixed currency refl, tt))))))) in
       record {
         whole = trailer-length header t;
-        printable = fill-all Printable (trailerPlaced (carriedAt Im 4 45 header) t) blanks placed (fixed blanks refl);
+        printable = fill-all Printable (trailerPlaced (copiedIn header) t) blanks placed (fixed blanks refl);
         type = trailer-type header t;
       }
 

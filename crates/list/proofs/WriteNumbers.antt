@@ -15,7 +15,7 @@ use Rattle.records.specs.Checks.{checks}
 use Rattle.records.specs.Context.{Context}
 use Rattle.records.specs.Field.{field}
 use Rattle.records.specs.Finding.{Check, check, FirstBroken}
-use Rattle.records.specs.Kinds.{typeOf, hasType, heads, opened}
+use Rattle.records.specs.Kinds.{typeOf, hasType, heads, opened, closes}
 use Rattle.records.specs.declared.kind.Kind.{Kind}
 use Rattle.records.specs.declared.kind.Kind.the-variants.{R14}
 use Rattle.records.proofs.ByKind.{types-differ}
@@ -29,20 +29,20 @@ use Rattle.flow.proofs.Reading.{one-at-most}
 use Rattle.grammar.specs.Fault.{contextBehind, bad-byte, wrong-type, broken, FaultBehind, FirstFault, wrong-length, in-record, still-due}
 use Rattle.grammar.proofs.FirstFault.{first-fault-exact}
 use Rattle.list.specs.Encode.{headerBehind, encodeItem, encodeFrom, recordsFor}
-use Rattle.list.specs.Items.{Item, Proper}
+use Rattle.list.specs.Items.{Item, recordKind, Proper}
 use Rattle.list.specs.Laws.{WriteFault, no-item, too-many, no-room, no-trailer, too-much, NumbersSupplied}
 use Rattle.list.specs.Laws.{in-record as Write·in-record}
-use Rattle.list.specs.Table.{hasItem}
 use Rattle.list.proofs.AllRecords.{encoded-whole, encoded-count}
+use Rattle.list.proofs.ItemKinds.{item-open}
 use Rattle.list.proofs.Judging.{front, encoded-opens}
 use Rattle.list.proofs.ListItems.{items-exact}
 use Rattle.list.proofs.OneRecord.{encoded-type, encoded-number}
 use Rattle.list.proofs.WriteRefused.{write-refused}
 
--- what the writer supplies to a record, where so many dispositions are counted up to and with it: a kind that has an item and, in a
+-- what the writer supplies to a record, where so many dispositions are counted up to and with it: a kind other than EF's and, in a
 -- disposition, their number
 pub record Supplied (rec : List ℕ) (k : Kind) (count : ℕ) : Type 0 where
-  pub listed : hasItem k ≡ true
+  pub not-ef : closes k ≡ false
   pub numbered : heads k ≡ false → number (field 4 10 rec) ≡ count
 
 encoded-supplied :
@@ -52,23 +52,23 @@ unfolding encodeFrom dispositionsOf
 encoded-supplied n header [] proper few [] rec behind same k type = absurd (nil≢cons same)
 encoded-supplied n header [] proper few (b ∷ before) rec behind same k type = absurd (nil≢cons same)
 encoded-supplied n header (it ∷ is) proper few [] rec behind same k type =
-    let own : encodeItem (n + opened (it .kind)) header it ≡ rec = head-eq-of-cons-eq same in
-    let kind : it .kind ≡ k = types-differ (it .kind) k (sym (encoded-type _ header it (proper .0)) ∙ ap (field 2 3) own ∙ type) in
-    let small : n + opened (it .kind) < 10 ^ 7 = omega (arith, one-at-most (it .kind)) in
-    let count : n + opened (it .kind) ≡ n + (0 + opened k) = ap (λ (l : Kind). n + opened l) kind ∙ omega arith in
+    let own : encodeItem (n + opened (recordKind it)) header it ≡ rec = head-eq-of-cons-eq same in
+    let kind : recordKind it ≡ k = types-differ (recordKind it) k (sym (encoded-type _ header it (proper .0)) ∙ ap (field 2 3) own ∙ type) in
+    let small : n + opened (recordKind it) < 10 ^ 7 = omega (arith, one-at-most (recordKind it)) in
+    let count : n + opened (recordKind it) ≡ n + (0 + opened k) = ap (λ (l : Kind). n + opened l) kind ∙ omega arith in
     record {
-      listed = sym (ap hasItem kind) ∙ proper .0 .listed;
+      not-ef = sym (ap closes kind) ∙ item-open (it .kind);
       numbered = λ member. ap (λ (l : List ℕ). number (field 4 10 l)) (sym own)
-          ∙ ap number (encoded-number (n + opened (it .kind)) header it (proper .0) (ap heads kind ∙ member))
-          ∙ written-read-fits 7 (n + opened (it .kind)) small
+          ∙ ap number (encoded-number (n + opened (recordKind it)) header it (proper .0) (ap heads kind ∙ member))
+          ∙ written-read-fits 7 (n + opened (recordKind it)) small
           ∙ count;
     }
 encoded-supplied n header (it ∷ is) proper few (b ∷ before) rec behind same k type =
-    let m = n + opened (it .kind) in
+    let m = n + opened (recordKind it) in
     let own : encodeItem m header it ≡ b = head-eq-of-cons-eq same in
-    let opens-so : cond (hasType R14 b) 1 0 ≡ opened (it .kind) = ap (λ (l : List ℕ). cond (hasType R14 l) 1 0) (sym own) ∙ ap (λ (t : Bool). cond t 1 0) (encoded-opens m header it (proper .0)) in
-    let rest = encoded-supplied m (headerBehind header it) is (proper .1) (omega (arith, one-at-most (it .kind))) before rec behind (tail-eq-of-cons-eq same) k type in
-    record { listed = rest .listed; numbered = λ member. rest .numbered member ∙ omega arith }
+    let opens-so : cond (hasType R14 b) 1 0 ≡ opened (recordKind it) = ap (λ (l : List ℕ). cond (hasType R14 l) 1 0) (sym own) ∙ ap (λ (t : Bool). cond t 1 0) (encoded-opens m header it (proper .0)) in
+    let rest = encoded-supplied m (headerBehind header it) is (proper .1) (omega (arith, one-at-most (recordKind it))) before rec behind (tail-eq-of-cons-eq same) k type in
+    record { not-ef = rest .not-ef; numbered = λ member. rest .numbered member ∙ omega arith }
 
 -- what holds of the numbers of writing itself, of 2 and 3, and of whatever the first check of such a record that fails gives, holds of every
 -- number that a list is refused by
@@ -88,7 +88,7 @@ module _
         by (broken k n p printable of-type permitted first) =
             let ctx = contextBehind (front is) before k in
             let so = encoded-supplied 0 [] is proper (omega arith) before rec behind own k of-type in
-            rows k ctx rec (record { listed = so .listed; numbered = λ member. so .numbered member ∙ omega arith }) n p first
+            rows k ctx rec (record { not-ef = so .not-ef; numbered = λ member. so .numbered member ∙ omega arith }) n p first
     in-records is proper few (still-due sized each none) some within =
         let count : length (recordsOf (front is)) ≡ length is = ap (λ (l : List (List ℕ)). length l) (joined-records (recordsFor is) (encoded-whole 0 [] is proper)) ∙ encoded-count 0 [] is in
         absurd (omega arith)

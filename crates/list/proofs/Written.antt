@@ -38,14 +38,16 @@ use Rattle.grammar.proofs.Order.{Allowed, header-only-first}
 use Rattle.grammar.proofs.Rules.{header-rules}
 use Rattle.grammar.proofs.Walked.{Walked, stateBehind, codeBehind, walked-append, walked-allowed, state-append}
 use Rattle.list.specs.Encode.{carriedAt, lastHeader, dispositionsOf, centsOf, totalsOf, encodeItem, encodeFrom, recordsFor, trailerFor, encode}
-use Rattle.list.specs.Items.{Item, Proper, listBytes, Parsed, items, faulty, parse, itemsOr, itemsIn}
+use Rattle.list.specs.Items.{Item, recordKind, Proper, listBytes, Parsed, items, faulty, parse, itemsOr, itemsIn}
 use Rattle.list.specs.Laws.{Fitting, WrittenExact}
 use Rattle.list.specs.ReadBack.{listOf, Canonical}
 use Rattle.list.specs.Table.{carried, bodyLength}
 use Rattle.list.specs.Write.{closed, judgeItems, judgeParsed, judgeList}
+use Rattle.list.specs.declared.table.ItemKind.{ItemKind}
+use Rattle.list.specs.declared.table.ItemKind.the-variants.{H}
 use Rattle.list.proofs.Carried.{inOne}
 use Rattle.list.proofs.OneRecord.{encoded-length, encoded-at}
-use Rattle.list.proofs.AllRecords.{encode-records, encode-length, encode-items}
+use Rattle.list.proofs.AllRecords.{records-differ, encode-records, encode-length, encode-items}
 use Rattle.list.proofs.Judging.{front, RightItems, FaultyItems, view-items, typed-count, right-judged, faulty-judged, kindsIn, right-kinds, right-sums, close-said, header-stays}
 use Rattle.list.proofs.ListItems.{items-exact}
 use Rattle.list.proofs.Trailer.{Meant, Counted, trailer-right}
@@ -66,7 +68,7 @@ closed-so w i {t} = by (mayClose (permitted (w .place .due))) (leb (w .cents) 99
 pub few-dispositions : (is : List Item) → dispositionsOf is ≤ length is
 unfolding dispositionsOf
 few-dispositions [] = omega arith
-few-dispositions (it ∷ is) = omega (arith, one-at-most (it .kind), few-dispositions is)
+few-dispositions (it ∷ is) = omega (arith, one-at-most (recordKind it), few-dispositions is)
 
 -- a list with a first item, whose records are right
 module _ (it : Item) (others : List Item) (proper : All Proper (it ∷ others)) (r : RightItems (it ∷ others)) where
@@ -74,13 +76,13 @@ module _ (it : Item) (others : List Item) (proper : All Proper (it ∷ others)) 
   all = it ∷ others
 
   abbrev im : List ℕ
-  im = encodeItem (0 + opened (it .kind)) [] it
+  im = encodeItem (0 + opened (recordKind it)) [] it
 
   abbrev behind : Walk
   behind = stateBehind start (r .typed)
 
   im-whole : length im ≡ 120
-  im-whole = encoded-length (0 + opened (it .kind)) [] it (proper .0)
+  im-whole = encoded-length (0 + opened (recordKind it)) [] it (proper .0)
 
   first-of-front : take 120 (front all) ≡ im
   unfolding encodeFrom flatten
@@ -91,8 +93,8 @@ module _ (it : Item) (others : List Item) (proper : All Proper (it ∷ others)) 
   first-of-all = take-at im _ 120 im-whole
 
   -- the first item is the only H
-  kinds : (it .kind ≡ Im) × All (λ (k : Kind). heads k ≡ false) (kindsIn others)
-  kinds = header-only-first (it .kind) (kindsIn others) (subst (Allowed (place OnlyIm)) (sym (right-kinds all proper r)) (walked-allowed (headerOf (take 120 (front all))) start [] 0 (r .typed) (r .walked)))
+  kinds : (recordKind it ≡ Im) × All (λ (k : Kind). heads k ≡ false) (kindsIn others)
+  kinds = header-only-first (recordKind it) (kindsIn others) (subst (Allowed (place OnlyIm)) (sym (right-kinds all proper r)) (walked-allowed (headerOf (take 120 (front all))) start [] 0 (r .typed) (r .walked)))
 
   pub header-meant : lastHeader [] all ≡ it .body
   unfolding lastHeader
@@ -110,10 +112,10 @@ module _ (it : Item) (others : List Item) (proper : All Proper (it ∷ others)) 
 
   meant : Meant im (lastHeader [] all)
   meant =
-      let kind = kinds .0 in
+      let kind : it .kind ≡ H = records-differ (it .kind) H (kinds .0) in
       let first = first-right (r .typed) (r .same) (r .walked) in
-      let carries : (a e : ℕ) → inOne (carried Im) a e ≡ true → field a e im ≡ carriedAt Im a e (it .body) = λ a e inside.
-      encoded-at (0 + opened (it .kind)) [] it (proper .0) a e (subst (λ (k : Kind). inOne (carried k) a e ≡ true) (sym kind) inside) ∙ ap (λ (k : Kind). carriedAt k a e (it .body)) kind in
+      let carries : (a e : ℕ) → inOne (carried H) a e ≡ true → field a e im ≡ carriedAt H a e (it .body) = λ a e inside.
+      encoded-at (0 + opened (recordKind it)) [] it (proper .0) a e (subst (λ (k : ItemKind). inOne (carried k) a e ≡ true) (sym kind) inside) ∙ ap (λ (k : ItemKind). carriedAt k a e (it .body)) kind in
       subst (Meant im) (sym header-meant) (record { sized = proper .0 .sized ∙ ap bodyLength kind; carries = carries; printable = first .0; code = first .1 })
 
   -- with EF behind them they are a flow

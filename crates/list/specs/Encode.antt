@@ -8,12 +8,14 @@ use Rattle.sequences.specs.Part.{part, put}
 use Rattle.fields.specs.Digits.{number, digits}
 use Rattle.records.specs.Constants.{causale, sign, currency}
 use Rattle.records.specs.Field.{Span, _to_, width}
-use Rattle.records.specs.Kinds.{typeOf, heads, opens, opened}
+use Rattle.records.specs.Kinds.{typeOf, heads, opened}
 use Rattle.records.specs.declared.kind.Kind.{Kind}
 use Rattle.records.specs.declared.kind.Kind.the-variants.{Im, R14, R16, R20, R30, R40, R50, R59, R51, R70, Ef}
 use Rattle.flow.specs.declared.answer.Totals.{Totals}
-use Rattle.list.specs.Items.{Item}
+use Rattle.list.specs.Items.{Item, recordKind, isD}
 use Rattle.list.specs.Table.{carried}
+use Rattle.list.specs.declared.table.ItemKind.{ItemKind}
+use Rattle.list.specs.declared.table.ItemKind.the-variants.{H, D}
 
 -- bytes that stand in a record from a position on
 pub data Placed : Type 0 where
@@ -33,9 +35,16 @@ abbrev pub indexIn : List Span → ℕ → ℕ
 indexIn [] p = 0
 indexIn ((a to e) ∷ ss) p = cond (leb a p && leb p e) (p - a) (width (a to e) + indexIn ss p)
 
--- positions a to e of a record of the kind, as its item's body carries them
-abbrev pub carriedAt : Kind → ℕ → ℕ → List ℕ → List ℕ
+-- positions a to e of its record, as a body of the kind carries them
+abbrev pub carriedAt : ItemKind → ℕ → ℕ → List ℕ → List ℕ
 carriedAt k a e body = part (indexIn (carried k) a) (width (a to e)) body
+
+-- what is copied from the body of an H: the ABI, 9-13, and for EF 4-45
+abbrev pub abiIn : List ℕ → List ℕ
+abiIn header = carriedAt H 9 13 header
+
+abbrev pub copiedIn : List ℕ → List ℕ
+copiedIn header = carriedAt H 4 45 header
 
 -- what a record of the kind has beside its type and the carried bytes: "its number", which IM has not, "the fixed 07000, -, E", and "the
 -- ABI copied from H to 14 at 48-52"
@@ -60,8 +69,8 @@ bodyPlaced ((a to e) ∷ ss) body = place a (take (width (a to e)) body) ∷ bod
 -- the record of an item, with its number and the body of the header meant: the latest H before it, empty where there is none
 unfoldable pub encodeItem : ℕ → List ℕ → Item → List ℕ
 encodeItem n header it =
-    let k = it .kind in
-    fill (place 2 (typeOf k) ∷ (supplied k n (carriedAt Im 9 13 header) ++ bodyPlaced (carried k) (it .body))) blanks
+    let k = recordKind it in
+    fill (place 2 (typeOf k) ∷ (supplied k n (abiIn header) ++ bodyPlaced (carried (it .kind)) (it .body))) blanks
 
 -- EF: 4-45 of the header, the counts, the sum, zeros, "E"
 abbrev pub trailerPlaced : List ℕ → Totals → List Placed
@@ -76,17 +85,17 @@ trailerPlaced copied t =
     ∷ []
 
 unfoldable pub encodeTrailer : List ℕ → Totals → List ℕ
-encodeTrailer header t = fill (trailerPlaced (carriedAt Im 4 45 header) t) blanks
+encodeTrailer header t = fill (trailerPlaced (copiedIn header) t) blanks
 
 -- the body of the header meant behind an item
 abbrev pub headerBehind : List ℕ → Item → List ℕ
-headerBehind header it = cond (heads (it .kind)) (it .body) header
+headerBehind header it = cond (heads (recordKind it)) (it .body) header
 
 -- the records of items, behind n dispositions and with the header meant
 unfoldable pub encodeFrom : ℕ → List ℕ → List Item → List (List ℕ)
 encodeFrom n header [] = []
 encodeFrom n header (it ∷ is) =
-    let number = n + opened (it .kind) in
+    let number = n + opened (recordKind it) in
     encodeItem number header it ∷ encodeFrom number (headerBehind header it) is
 
 -- the header meant behind all of them
@@ -94,13 +103,20 @@ unfoldable pub lastHeader : List ℕ → List Item → List ℕ
 lastHeader header [] = header
 lastHeader header (it ∷ is) = lastHeader (headerBehind header it) is
 
--- the count of D items; and the sum of their amounts, what their 34-46 say
+-- the amount of a D, what its 34-46 say: where these begin in its body, and their bytes
+abbrev pub amountIndex : ℕ
+amountIndex = indexIn (carried D) 34
+
+abbrev pub amountIn : List ℕ → List ℕ
+amountIn body = carriedAt D 34 46 body
+
+-- the count of D items; and the sum of their amounts
 unfoldable pub dispositionsOf : List Item → ℕ
 dispositionsOf [] = 0
-dispositionsOf (it ∷ is) = opened (it .kind) + dispositionsOf is
+dispositionsOf (it ∷ is) = opened (recordKind it) + dispositionsOf is
 
 abbrev pub amountOf : Item → ℕ
-amountOf it = cond (opens (it .kind)) (number (carriedAt R14 34 46 (it .body))) 0
+amountOf it = cond (isD it) (number (amountIn (it .body))) 0
 
 unfoldable pub centsOf : List Item → ℕ
 centsOf [] = 0

@@ -1,25 +1,33 @@
 -- A request list: items of one byte of kind and a body whose length the kind fixes (document 01, "Our request list"). Assumes nothing.
 use Prim.Native.Nat.{ℕ, zero, suc, _≤_}
-use mathlib.Core.Bool.{true, cond, _&&_}
+use mathlib.Core.Bool.{Bool, cond}
 use mathlib.Core.List.{List, [], _∷_, map, flatten}
 use mathlib.Core.Path.{_≡_}
 use lib.Dec.{leb}
 use lib.ListN.{length, take}
+use Rattle.records.specs.Kinds.{opens}
 use Rattle.records.specs.declared.kind.Kind.{Kind}
 use Rattle.list.specs.declared.count.Count.{Count}
 use Rattle.list.specs.declared.count.Count.the-variants.{Items, Faulty}
-use Rattle.list.specs.Table.{letter, bodyLength, hasItem, kindOf}
+use Rattle.list.specs.Table.{letter, recordOf, bodyLength, rowOf, withRow}
+use Rattle.list.specs.declared.table.ItemKind.{ItemKind}
 
 pub record Item : Type 0 where
-  pub kind : Kind
+  pub kind : ItemKind
   pub body : List ℕ
 
-abbrev pub item : Kind → List ℕ → Item
+abbrev pub item : ItemKind → List ℕ → Item
 item k body = record { kind = k; body = body }
 
--- an item of the table, with a body of its length
+-- the kind of the record that an item encodes, and whether it opens a disposition: whether it is a D
+abbrev pub recordKind : Item → Kind
+recordKind it = recordOf (it .kind)
+
+abbrev pub isD : Item → Bool
+isD it = opens (recordKind it)
+
+-- an item with a body of its kind's length
 pub record Proper (it : Item) : Type 0 where
-  pub listed : hasItem (it .kind) ≡ true
   pub sized : length (it .body) ≡ bodyLength (it .kind)
 
 -- an item, and items, as bytes
@@ -43,8 +51,9 @@ before it (faulty n) = faulty n
 unfoldable pub itemsFrom : ℕ → ℕ → List ℕ → Parsed
 itemsFrom n s [] = items []
 itemsFrom n zero (b ∷ bs) =
-    let k = kindOf b in
-    cond (hasItem k && leb (bodyLength k) (length bs)) (before (item k (take (bodyLength k) bs)) (itemsFrom (suc n) (bodyLength k) bs)) (faulty (suc n))
+    withRow (rowOf b)
+    (λ (k : ItemKind). cond (leb (bodyLength k) (length bs)) (before (item k (take (bodyLength k) bs)) (itemsFrom (suc n) (bodyLength k) bs)) (faulty (suc n)))
+    (faulty (suc n))
 itemsFrom n (suc s) (b ∷ bs) = itemsFrom n s bs
 
 abbrev pub parse : List ℕ → Parsed

@@ -1,12 +1,12 @@
 -- What is proved of writing a list and of reading a flow back. `proofs/` has its proof under the law's name in small letters. Assumes
 -- nothing.
 use Prim.Native.Nat.{ℕ, suc, _*_, _≤_, _<_}
-use mathlib.Core.Bool.{true}
-use mathlib.Core.List.{List, _∷_, _++_, map, dropLast, flatten}
+use mathlib.Core.List.{List, _∷_, _++_, dropLast, flatten}
 use mathlib.Core.Logic.{_↔_, _⊎_}
 use mathlib.Core.Path.{_≡_}
 use lib.ListN.{length, take, drop}
 use Rattle.sequences.specs.All.{All}
+use Rattle.sequences.specs.Pairs.{Pairs}
 use Rattle.records.specs.Checked.{checked, Alike}
 use Rattle.records.specs.Field.{field}
 use Rattle.records.specs.Kinds.{typeOf}
@@ -20,12 +20,14 @@ use Rattle.flow.specs.declared.answer.Refusal.{Refusal}
 use Rattle.flow.specs.declared.answer.Totals.{Totals}
 use Rattle.grammar.specs.Fault.{MayFollow, EachRight}
 use Rattle.list.specs.Encode.{centsOf, totalsOf, recordsFor, encode}
-use Rattle.list.specs.Items.{Item, item, Proper, listBytes, items, faulty, parse, itemsIn}
+use Rattle.list.specs.Items.{Item, Proper, listBytes, items, faulty, parse, itemsIn}
 use Rattle.list.specs.Output.{outputOf}
 use Rattle.list.specs.ReadBack.{gather, itemsOf, listOf, judgeRoom, readBack, Canonical}
-use Rattle.list.specs.Table.{letter, carried, bodyLength, hasItem, kindIn}
+use Rattle.list.specs.Table.{letter, carried, bodyLength, rowIn}
 use Rattle.list.specs.Write.{judgeList, write}
 use Rattle.list.specs.declared.filled.Filled.{Filled}
+use Rattle.list.specs.declared.table.ItemKind.{ItemKind}
+use Rattle.list.specs.declared.table.Row.the-variants.{Of}
 
 -- the items that a list is read as are those that it is the bytes of
 abbrev pub ItemsExact : Type 0
@@ -36,7 +38,7 @@ pub record NoItem (bytes : List ℕ) : Type 0 where
   pub byte : ℕ
   pub rest : List ℕ
   pub some : bytes ≡ byte ∷ rest
-  pub short : (k : Kind) → hasItem k ≡ true → letter k ≡ byte → length rest < bodyLength k
+  pub short : (k : ItemKind) → letter k ≡ byte → length rest < bodyLength k
 
 -- a list has a fault at item n exactly where items stand before it, and behind them no item
 pub record FaultyAt (list : List ℕ) (n : ℕ) : Type 0 where
@@ -116,10 +118,11 @@ WrittenExact =
     (judge flow ≡ accepted t) × (listOf flow ≡ list) × Canonical flow × (length flow ≡ 120 * t .records) × (length flow ≤ room)
 
 -- an accepted flow's own list has one item for each record but EF: its kind, then its carried bytes as they stand
+abbrev pub OwnItem : List ℕ → Item → Type 0
+OwnItem rec it = (rowIn rec ≡ Of (it .kind)) × (it .body ≡ gather (carried (it .kind)) rec)
+
 abbrev pub OwnList : Type 0
-OwnList =
-    (f : List ℕ) (t : Totals) → judge f ≡ accepted t
-    → itemsOf f ≡ map (λ (rec : List ℕ). item (kindIn rec) (gather (carried (kindIn rec)) rec)) (dropLast (recordsOf f))
+OwnList = (f : List ℕ) (t : Totals) → judge f ≡ accepted t → Pairs OwnItem (dropLast (recordsOf f)) (itemsOf f)
 
 -- and says these items
 abbrev pub OwnItems : Type 0

@@ -5,7 +5,6 @@ use mathlib.Core.List.{List, [], _∷_, map, flatten}
 use mathlib.Core.Path.{_≡_}
 use lib.ListN.{length}
 use Rattle.records.specs.Field.{Span, _to_, field}
-use Rattle.records.specs.declared.kind.Kind.{Kind}
 use Rattle.flow.specs.Judge.{judge}
 use Rattle.flow.specs.Output.{Output, output, withRoom}
 use Rattle.flow.specs.Records.{recordsOf}
@@ -13,7 +12,9 @@ use Rattle.flow.specs.Verdict.{Verdict}
 use Rattle.flow.specs.declared.answer.Totals.{Totals}
 use Rattle.list.specs.Encode.{encode}
 use Rattle.list.specs.Items.{Item, item, listBytes}
-use Rattle.list.specs.Table.{carried, bodyLength, hasItem, kindIn}
+use Rattle.list.specs.Table.{carried, bodyLength, rowIn, withRow}
+use Rattle.list.specs.declared.table.ItemKind.{ItemKind}
+use Rattle.list.specs.declared.table.Row.{Row}
 
 -- the bytes of a record at spans, in order
 abbrev pub gather : List Span → List ℕ → List ℕ
@@ -24,11 +25,11 @@ gather ss rec = flatten (map (λ (s : Span). fieldAt s rec) ss)
 
 -- the item of a record: its kind, then its carried bytes as they stand; a record that the table does not have gives none
 abbrev pub itemOf : List ℕ → List Item
-itemOf rec = let k = kindIn rec in cond (hasItem k) (item k (gather (carried k) rec) ∷ []) []
+itemOf rec = withRow (rowIn rec) (λ (k : ItemKind). item k (gather (carried k) rec) ∷ []) []
 
--- for the contracts of private functions: the length of the item of a record of the kind
-abbrev pub itemLength : Kind → ℕ
-itemLength k = cond (hasItem k) (suc (bodyLength k)) 0
+-- for the contracts of private functions: the length of the item of a record of the row
+abbrev pub itemLength : Row → ℕ
+itemLength row = withRow row (λ (k : ItemKind). suc (bodyLength k)) 0
 
 -- a flow's own list, as items and as bytes
 abbrev pub itemsOf : List ℕ → List Item

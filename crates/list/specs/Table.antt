@@ -1,54 +1,67 @@
--- Document 01's table of kinds ("Our request list"): for each kind of item its record, its kind byte and the positions that its body
+-- Document 01's table of kinds ("Our request list"): for each kind of item its kind byte, its record and the positions that its body
 -- carries. Writing and reading back both go by it. Assumes nothing.
 use Prim.Native.Nat.{ℕ}
-use mathlib.Core.Bool.{Bool, cond, not}
+use mathlib.Core.Bool.{Bool, cond}
 use mathlib.Core.List.{List, [], _∷_, _++_, map}
+use mathlib.Core.Path.{_≡_}
 use lib.Dec.{eqb}
 use lib.ListN.{take}
 use Rattle.sequences.specs.Sum.{sum}
 use Rattle.sequences.specs.Text.{byte}
 use Rattle.records.specs.Field.{Span, _to_, width}
-use Rattle.records.specs.Kinds.{hasType, closes}
+use Rattle.records.specs.Kinds.{hasType}
 use Rattle.records.specs.declared.kind.Kind.{Kind}
-use Rattle.records.specs.declared.kind.Kind.the-variants.{Im, R14, R16, R20, R30, R40, R50, R59, R51, R70, Ef}
+use Rattle.records.specs.declared.kind.Kind.the-variants.{Im, R14, R16, R20, R30, R40, R50, R59, R51, R70}
+use Rattle.list.specs.declared.table.ItemKind.{ItemKind}
+use Rattle.list.specs.declared.table.ItemKind.the-variants.{H, D, S, C, B, A, R, X, K, Z}
+use Rattle.list.specs.declared.table.Row.{Row}
+use Rattle.list.specs.declared.table.Row.the-variants.{Of, Missing}
 
--- the records that have an item, in the table's order: all but EF
-abbrev pub rows : List Kind
-rows = Im ∷ R14 ∷ R16 ∷ R20 ∷ R30 ∷ R40 ∷ R50 ∷ R59 ∷ R51 ∷ R70 ∷ []
+-- the kinds of item, in the table's order
+abbrev pub rows : List ItemKind
+rows = H ∷ D ∷ S ∷ C ∷ B ∷ A ∷ R ∷ X ∷ K ∷ Z ∷ []
 
-abbrev pub hasItem : Kind → Bool
-hasItem k = not (closes k)
+-- the table's first column: the kind byte
+abbrev pub letter : ItemKind → ℕ
+letter H = byte "H"
+letter D = byte "D"
+letter S = byte "S"
+letter C = byte "C"
+letter B = byte "B"
+letter A = byte "A"
+letter R = byte "R"
+letter X = byte "X"
+letter K = byte "K"
+letter Z = byte "Z"
 
--- the kind byte; EF has none
-abbrev pub letter : Kind → ℕ
-letter Im = byte "H"
-letter R14 = byte "D"
-letter R16 = byte "S"
-letter R20 = byte "C"
-letter R30 = byte "B"
-letter R40 = byte "A"
-letter R50 = byte "R"
-letter R59 = byte "X"
-letter R51 = byte "K"
-letter R70 = byte "Z"
-letter Ef = 0
+-- its second: the record
+abbrev pub recordOf : ItemKind → Kind
+recordOf H = Im
+recordOf D = R14
+recordOf S = R16
+recordOf C = R20
+recordOf B = R30
+recordOf A = R40
+recordOf R = R50
+recordOf X = R59
+recordOf K = R51
+recordOf Z = R70
 
--- the carried positions
-abbrev pub carried : Kind → List Span
-carried Im = (4 to 45) ∷ (105 to 111) ∷ []
-carried R14 = (23 to 28) ∷ (34 to 46) ∷ (53 to 69) ∷ (92 to 113) ∷ []
-carried R16 = (11 to 37) ∷ []
-carried R20 = (11 to 106) ∷ []
-carried R30 = (11 to 86) ∷ []
-carried R40 = (11 to 120) ∷ []
-carried R50 = (11 to 120) ∷ []
-carried R59 = (11 to 120) ∷ []
-carried R51 = (11 to 120) ∷ []
-carried R70 = (94 to 94) ∷ (96 to 120) ∷ []
-carried Ef = []
+-- its third: the carried positions
+abbrev pub carried : ItemKind → List Span
+carried H = (4 to 45) ∷ (105 to 111) ∷ []
+carried D = (23 to 28) ∷ (34 to 46) ∷ (53 to 69) ∷ (92 to 113) ∷ []
+carried S = (11 to 37) ∷ []
+carried C = (11 to 106) ∷ []
+carried B = (11 to 86) ∷ []
+carried A = (11 to 120) ∷ []
+carried R = (11 to 120) ∷ []
+carried X = (11 to 120) ∷ []
+carried K = (11 to 120) ∷ []
+carried Z = (94 to 94) ∷ (96 to 120) ∷ []
 
--- the length of a body: as many bytes as positions are carried
-abbrev pub bodyLength : Kind → ℕ
+-- its last, the length of a body: as many bytes as positions are carried
+abbrev pub bodyLength : ItemKind → ℕ
 bodyLength k = sum (map width (carried k))
 
 -- for the contracts of private functions: the spans as the code keeps them, four, each by its first and its last position, and 1 to 0,
@@ -60,17 +73,27 @@ abbrev pub bounds : List Span → List ℕ
 bounds [] = []
 bounds ((a to e) ∷ ss) = a ∷ e ∷ bounds ss
 
-abbrev pub boundsOf : Kind → List ℕ
+abbrev pub boundsOf : ItemKind → List ℕ
 boundsOf k = bounds (fourOf (carried k))
 
--- the first kind that passes a test; EF, which has no item, where none does
-unfoldable pub firstKind : (Kind → Bool) → List Kind → Kind
-firstKind p [] = Ef
-firstKind p (k ∷ ks) = cond (p k) k (firstKind p ks)
+-- the first row that passes a test, where one does
+unfoldable pub firstRow : (ItemKind → Bool) → List ItemKind → Row
+firstRow p [] = Missing
+firstRow p (k ∷ ks) = cond (p k) (Of k) (firstRow p ks)
 
--- the kind that a kind byte stands for, and that of a record, by its type
-abbrev pub kindOf : ℕ → Kind
-kindOf b = firstKind (λ (k : Kind). eqb b (letter k)) rows
+-- the row of a kind byte, and that of a record, by its type
+abbrev pub rowOf : ℕ → Row
+rowOf b = firstRow (λ (k : ItemKind). eqb b (letter k)) rows
 
-abbrev pub kindIn : List ℕ → Kind
-kindIn rec = firstKind (λ (k : Kind). hasType k rec) rows
+abbrev pub rowIn : List ℕ → Row
+rowIn rec = firstRow (λ (k : ItemKind). hasType (recordOf k) rec) rows
+
+-- what is made of a row, and what stands where there is none
+abbrev pub withRow : {A : Type 0} → Row → (ItemKind → A) → A → A
+withRow (Of k) some none = some k
+withRow Missing some none = none
+
+-- for the contract of a private function: the table has the kind byte
+pub record KindByte (byte : ℕ) : Type 0 where
+  pub kind : ItemKind
+  pub row : rowOf byte ≡ Of kind

@@ -1,8 +1,9 @@
 // The items of a list, counted.
 ghost use mathlib.Core.Path.{_≡_};
 ghost use Rattle.list.specs.Items.{parse, counted};
+use crate::table::Row;
 use crate::table::body_length;
-use crate::table::kind_of;
+use crate::table::row_of;
 
 // How many items a list has, or the number of the first that is none: its kind byte is unknown, or its
 // body is cut short.
@@ -17,11 +18,10 @@ pub(crate) fn count_items(list: &[u8]) -> Count
     let mut n = 0;
     let mut at = 0;
     while at < list.len() {
-        let kind = kind_of(list[at]);
-        let size = body_length(kind);
-        if records::closes(kind) {
+        let Row::Of(kind) = row_of(list[at]) else {
             return Count::Faulty(number(n + 1));
-        }
+        };
+        let size = body_length(kind);
         if list.len() - at - 1 < size {
             return Count::Faulty(number(n + 1));
         }

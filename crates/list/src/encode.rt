@@ -6,13 +6,14 @@ ghost use lib.ListN.{length};
 ghost use Rattle.sequences.specs.Part.{put};
 ghost use Rattle.fields.specs.Digits.{digits};
 ghost use Rattle.records.specs.Kinds.{typeOf};
-ghost use Rattle.records.specs.declared.kind.Kind.the-variants.{Im};
 ghost use Rattle.list.specs.Encode.{fill, supplied, bodyPlaced, carriedAt, encodeItem, encodeTrailer, trailerPlaced};
 ghost use Rattle.list.specs.Encode.{place as Encode·place};
 ghost use Rattle.list.specs.Items.{item};
-ghost use Rattle.list.specs.Table.{bodyLength};
+ghost use Rattle.list.specs.Table.{recordOf, bodyLength};
 ghost use Rattle.list.specs.Table.{carried as Table·carried};
+use crate::table::ItemKind;
 use crate::table::carried;
+use crate::table::record_of;
 use crate::table::width;
 use flow::Totals;
 use records::CAUSALE;
@@ -22,7 +23,7 @@ use records::SIGN;
 use records::field;
 
 // The record of an item with the number; `header` is the body of the latest H before it, or empty.
-pub(crate) fn encode_item(kind: Kind, number: u64, header: &[u8], body: &[u8]) -> [u8; 120]
+pub(crate) fn encode_item(kind: ItemKind, number: u64, header: &[u8], body: &[u8]) -> [u8; 120]
     requires { ⌜ length (now body) ≡ bodyLength kind ⌝ }
     ensures { λ r. ⌜ r ≡ encodeItem number (now (header .entry)) (item kind (now (body .entry))) ⌝ }
 {
@@ -33,21 +34,22 @@ pub(crate) fn encode_item(kind: Kind, number: u64, header: &[u8], body: &[u8]) -
 }
 
 // Its type, what is supplied, and the carried bytes.
-fn fill_item(rec: &mut [u8], kind: Kind, number: u64, abi: &[u8], body: &[u8])
+fn fill_item(rec: &mut [u8], kind: ItemKind, number: u64, abi: &[u8], body: &[u8])
     requires { ⌜ length (now rec) ≡ 120 ⌝ }
     requires { ⌜ length (now abi) ≤ 5 ⌝ }
     requires { ⌜ length (now body) ≡ bodyLength kind ⌝ }
     ensures { λ _. ⌜ now (rec .exit) ≡ fill
-        (Encode·place 2 (typeOf kind) ∷ (supplied kind number (now (abi .entry)) ++ bodyPlaced (Table·carried kind) (now (body .entry))))
+        (Encode·place 2 (typeOf (recordOf kind)) ∷ (supplied (recordOf kind) number (now (abi .entry)) ++ bodyPlaced (Table·carried kind) (now (body .entry))))
         (now (rec .entry)) ⌝ }
 {
-    let code = records::type_of(kind);
+    let own = record_of(kind);
+    let code = records::type_of(own);
     place(rec, 2, &code);
-    supply(rec, kind, number, abi);
+    supply(rec, own, number, abi);
     place_body(rec, kind, body);
 }
 
-// The number, the fixed values and the ABI.
+// The number, the fixed values and the ABI, to a record of the kind.
 fn supply(rec: &mut [u8], kind: Kind, number: u64, abi: &[u8])
     requires { ⌜ length (now rec) ≡ 120 ⌝ }
     requires { ⌜ length (now abi) ≤ 5 ⌝ }
@@ -75,7 +77,7 @@ fn supply(rec: &mut [u8], kind: Kind, number: u64, abi: &[u8])
 }
 
 // The body over the carried positions, in order.
-fn place_body(rec: &mut [u8], kind: Kind, body: &[u8])
+fn place_body(rec: &mut [u8], kind: ItemKind, body: &[u8])
     requires { ⌜ length (now rec) ≡ 120 ⌝ }
     requires { ⌜ length (now body) ≡ bodyLength kind ⌝ }
     ensures { λ _. ⌜ now (rec .exit) ≡ fill (bodyPlaced (Table·carried kind) (now (body .entry))) (now (rec .entry)) ⌝ }

@@ -6,18 +6,19 @@ ghost use Rattle.sequences.specs.Part.{put};
 ghost use Rattle.list.specs.Items.{listBytes};
 ghost use Rattle.list.specs.Output.{outputOf};
 ghost use Rattle.list.specs.ReadBack.{gather, itemOf, itemLength, listOf, readBack};
-ghost use Rattle.list.specs.Table.{bodyLength, kindIn};
+ghost use Rattle.list.specs.Table.{bodyLength, rowIn};
 ghost use Rattle.list.specs.Table.{carried as Table·carried};
 use crate::count::number;
 use crate::filled::Filled;
+use crate::table::ItemKind;
+use crate::table::Row;
 use crate::table::body_length;
 use crate::table::carried;
-use crate::table::kind_in;
 use crate::table::letter;
+use crate::table::row_in;
 use crate::table::width;
 use crate::writer::NO_ROOM;
 use flow::Answer;
-use records::Kind;
 use records::field;
 
 // Writes the flow's list at the front of out, and answers the flow's totals and the list's length.
@@ -46,20 +47,20 @@ fn list_length(flow: &[u8]) -> usize
     let mut length = 0;
     let mut i = 0;
     while i < flow.len() / 120 {
-        length += item_length(kind_in(&flow[120 * i..120 * i + 120]));
+        length += item_length(row_in(&flow[120 * i..120 * i + 120]));
         i += 1;
     }
     length
 }
 
-// The length of the item of a record of the kind: EF has none.
-fn item_length(kind: Kind) -> usize
-    ensures { λ r. ⌜ r ≡ itemLength kind ⌝ }
+// The length of the item of a record of the row: a record that the table does not have gives none.
+fn item_length(row: Row) -> usize
+    ensures { λ r. ⌜ r ≡ itemLength row ⌝ }
 {
-    if records::closes(kind) {
-        return 0;
+    match row {
+        Row::Of(kind) => 1 + body_length(kind),
+        Row::Missing => 0,
     }
-    1 + body_length(kind)
 }
 
 // Each record's item in turn at the front of out.
@@ -75,17 +76,17 @@ fn store_list(flow: &[u8], out: &mut [u8])
     }
 }
 
-// The item of a record at an index of out, and where it ends: EF has none.
+// The item of a record at an index of out, and where it ends; nothing where the table does not have
+// the record.
 fn store_item(rec: &[u8], out: &mut [u8], at: usize) -> usize
     requires { ⌜ length (now rec) ≡ 120 ⌝ }
-    requires { ⌜ at + itemLength (kindIn (now rec)) ≤ length (now out) ⌝ }
-    ensures { λ r. ⌜ r ≡ at + itemLength (kindIn (now (rec .entry))) ⌝ }
+    requires { ⌜ at + itemLength (rowIn (now rec)) ≤ length (now out) ⌝ }
+    ensures { λ r. ⌜ r ≡ at + itemLength (rowIn (now (rec .entry))) ⌝ }
     ensures { λ _. ⌜ now (out .exit) ≡ put at (listBytes (itemOf (now (rec .entry)))) (now (out .entry)) ⌝ }
 {
-    let kind = kind_in(rec);
-    if records::closes(kind) {
+    let Row::Of(kind) = row_in(rec) else {
         return at;
-    }
+    };
     out[at] = letter(kind);
     let end = at + 1 + body_length(kind);
     store_body(rec, kind, &mut out[at + 1..end]);
@@ -93,7 +94,7 @@ fn store_item(rec: &[u8], out: &mut [u8], at: usize) -> usize
 }
 
 // The carried bytes of a record, in order.
-fn store_body(rec: &[u8], kind: Kind, out: &mut [u8])
+fn store_body(rec: &[u8], kind: ItemKind, out: &mut [u8])
     requires { ⌜ length (now rec) ≡ 120 ⌝ }
     requires { ⌜ length (now out) ≡ bodyLength kind ⌝ }
     ensures { λ _. ⌜ now (out .exit) ≡ gather (Table·carried kind) (now (rec .entry)) ⌝ }

@@ -1,50 +1,87 @@
-// Document 01's table of kinds: for each record its kind byte, its carried positions and the length of
-// its item's body.
+// Document 01's table of kinds: for each kind of item its kind byte, its record, its carried positions
+// and the length of its body.
 ghost use Prim.Native.Nat.{_-_, _≤_};
 ghost use mathlib.Core.Path.{_≡_};
 ghost use lib.ListN.{getD};
 ghost use Rattle.records.specs.Field.{_to_, width as Field·width};
-ghost use Rattle.records.specs.declared.kind.Kind.the-variants.{Ef};
-ghost use Rattle.list.specs.Table.{rows, bodyLength, boundsOf, kindOf, kindIn};
+ghost use Rattle.list.specs.Table.{rows, recordOf, bodyLength, boundsOf, rowOf, rowIn, KindByte};
 ghost use Rattle.list.specs.Table.{letter as Table·letter};
+ghost use Rattle.list.specs.declared.table.ItemKind.the-variants.{Z};
+ghost use Rattle.list.specs.declared.table.Row.the-variants.{Of};
 use records::Kind;
 
-// The kind byte; EF, which has no item, has none.
-pub(crate) fn letter(kind: Kind) -> u8
+// The kinds of item, by their kind bytes.
+pub(crate) enum ItemKind {
+    H,
+    D,
+    S,
+    C,
+    B,
+    A,
+    R,
+    X,
+    K,
+    Z,
+}
+
+// The row of the table that was looked for, by its kind of item; or the table has none.
+pub(crate) enum Row {
+    Of(ItemKind),
+    Missing,
+}
+
+// The kind byte.
+pub(crate) fn letter(kind: ItemKind) -> u8
     ensures { λ r. ⌜ r ≡ Table·letter kind ⌝ }
 {
     match kind {
-        Kind::Im => b'H',
-        Kind::R14 => b'D',
-        Kind::R16 => b'S',
-        Kind::R20 => b'C',
-        Kind::R30 => b'B',
-        Kind::R40 => b'A',
-        Kind::R50 => b'R',
-        Kind::R59 => b'X',
-        Kind::R51 => b'K',
-        Kind::R70 => b'Z',
-        Kind::Ef => 0,
+        ItemKind::H => b'H',
+        ItemKind::D => b'D',
+        ItemKind::S => b'S',
+        ItemKind::C => b'C',
+        ItemKind::B => b'B',
+        ItemKind::A => b'A',
+        ItemKind::R => b'R',
+        ItemKind::X => b'X',
+        ItemKind::K => b'K',
+        ItemKind::Z => b'Z',
+    }
+}
+
+// The record that an item of the kind encodes.
+pub(crate) fn record_of(kind: ItemKind) -> Kind
+    ensures { λ r. ⌜ r ≡ recordOf kind ⌝ }
+{
+    match kind {
+        ItemKind::H => Kind::Im,
+        ItemKind::D => Kind::R14,
+        ItemKind::S => Kind::R16,
+        ItemKind::C => Kind::R20,
+        ItemKind::B => Kind::R30,
+        ItemKind::A => Kind::R40,
+        ItemKind::R => Kind::R50,
+        ItemKind::X => Kind::R59,
+        ItemKind::K => Kind::R51,
+        ItemKind::Z => Kind::R70,
     }
 }
 
 // The carried positions as four spans, the first and the last of each; what is not needed is 1 to 0,
 // which is no position.
-pub(crate) fn carried(kind: Kind) -> [usize; 8]
+pub(crate) fn carried(kind: ItemKind) -> [usize; 8]
     ensures { λ r. ⌜ r ≡ boundsOf kind ⌝ }
 {
     match kind {
-        Kind::Im => [4, 45, 105, 111, 1, 0, 1, 0],
-        Kind::R14 => [23, 28, 34, 46, 53, 69, 92, 113],
-        Kind::R16 => [11, 37, 1, 0, 1, 0, 1, 0],
-        Kind::R20 => [11, 106, 1, 0, 1, 0, 1, 0],
-        Kind::R30 => [11, 86, 1, 0, 1, 0, 1, 0],
-        Kind::R40 => [11, 120, 1, 0, 1, 0, 1, 0],
-        Kind::R50 => [11, 120, 1, 0, 1, 0, 1, 0],
-        Kind::R59 => [11, 120, 1, 0, 1, 0, 1, 0],
-        Kind::R51 => [11, 120, 1, 0, 1, 0, 1, 0],
-        Kind::R70 => [94, 94, 96, 120, 1, 0, 1, 0],
-        Kind::Ef => [1, 0, 1, 0, 1, 0, 1, 0],
+        ItemKind::H => [4, 45, 105, 111, 1, 0, 1, 0],
+        ItemKind::D => [23, 28, 34, 46, 53, 69, 92, 113],
+        ItemKind::S => [11, 37, 1, 0, 1, 0, 1, 0],
+        ItemKind::C => [11, 106, 1, 0, 1, 0, 1, 0],
+        ItemKind::B => [11, 86, 1, 0, 1, 0, 1, 0],
+        ItemKind::A => [11, 120, 1, 0, 1, 0, 1, 0],
+        ItemKind::R => [11, 120, 1, 0, 1, 0, 1, 0],
+        ItemKind::X => [11, 120, 1, 0, 1, 0, 1, 0],
+        ItemKind::K => [11, 120, 1, 0, 1, 0, 1, 0],
+        ItemKind::Z => [94, 94, 96, 120, 1, 0, 1, 0],
     }
 }
 
@@ -58,71 +95,81 @@ pub(crate) fn width(first: usize, last: usize) -> usize
 }
 
 // The length of a body: the widths of the carried positions together.
-pub(crate) fn body_length(kind: Kind) -> usize
+pub(crate) fn body_length(kind: ItemKind) -> usize
     ensures { λ r. ⌜ r ≡ bodyLength kind ⌝ }
 {
     match kind {
-        Kind::Im => 49,
-        Kind::R14 => 58,
-        Kind::R16 => 27,
-        Kind::R20 => 96,
-        Kind::R30 => 76,
-        Kind::R40 => 110,
-        Kind::R50 => 110,
-        Kind::R59 => 110,
-        Kind::R51 => 110,
-        Kind::R70 => 26,
-        Kind::Ef => 0,
+        ItemKind::H => 49,
+        ItemKind::D => 58,
+        ItemKind::S => 27,
+        ItemKind::C => 96,
+        ItemKind::B => 76,
+        ItemKind::A => 110,
+        ItemKind::R => 110,
+        ItemKind::X => 110,
+        ItemKind::K => 110,
+        ItemKind::Z => 26,
     }
 }
 
-// The kind that a kind byte stands for; EF, which has no item, where it stands for none.
-pub(crate) fn kind_of(byte: u8) -> Kind
-    ensures { λ r. ⌜ r ≡ kindOf byte ⌝ }
+// The row of a kind byte.
+pub(crate) fn row_of(byte: u8) -> Row
+    ensures { λ r. ⌜ r ≡ rowOf byte ⌝ }
 {
     let mut i = 0;
     while i < ROWS {
-        let kind = row(i);
+        let kind = kind_at(i);
         if byte == letter(kind) {
-            return kind;
+            return Row::Of(kind);
         }
         i += 1;
     }
-    Kind::Ef
+    Row::Missing
 }
 
-// The kind of a record, by its type; EF where it is none that has an item.
-pub(crate) fn kind_in(rec: &[u8]) -> Kind
-    ensures { λ r. ⌜ r ≡ kindIn (now (rec .entry)) ⌝ }
+// The kind of a kind byte that is known to stand in the table, as that of an item that was counted. The
+// second arm is not reached.
+pub(crate) fn kind_of(byte: u8) -> ItemKind
+    requires { ⌜ KindByte byte ⌝ }
+    ensures { λ r. ⌜ rowOf byte ≡ Of r ⌝ }
+{
+    match row_of(byte) {
+        Row::Of(kind) => kind,
+        Row::Missing => ItemKind::Z,
+    }
+}
+
+// The row of a record, by its type.
+pub(crate) fn row_in(rec: &[u8]) -> Row
+    ensures { λ r. ⌜ r ≡ rowIn (now (rec .entry)) ⌝ }
 {
     let mut i = 0;
     while i < ROWS {
-        let kind = row(i);
-        if records::has_type(rec, kind) {
-            return kind;
+        let kind = kind_at(i);
+        if records::has_type(rec, record_of(kind)) {
+            return Row::Of(kind);
         }
         i += 1;
     }
-    Kind::Ef
+    Row::Missing
 }
 
 const ROWS: usize = 10;
 
-// The records in the table's order.
-fn row(i: usize) -> Kind
-    ensures { λ r. ⌜ r ≡ getD rows i Ef ⌝ }
+// The kinds in the table's order; Z is the last.
+fn kind_at(i: usize) -> ItemKind
+    ensures { λ r. ⌜ r ≡ getD rows i Z ⌝ }
 {
     match i {
-        0 => Kind::Im,
-        1 => Kind::R14,
-        2 => Kind::R16,
-        3 => Kind::R20,
-        4 => Kind::R30,
-        5 => Kind::R40,
-        6 => Kind::R50,
-        7 => Kind::R59,
-        8 => Kind::R51,
-        9 => Kind::R70,
-        _ => Kind::Ef,
+        0 => ItemKind::H,
+        1 => ItemKind::D,
+        2 => ItemKind::S,
+        3 => ItemKind::C,
+        4 => ItemKind::B,
+        5 => ItemKind::A,
+        6 => ItemKind::R,
+        7 => ItemKind::X,
+        8 => ItemKind::K,
+        _ => ItemKind::Z,
     }
 }

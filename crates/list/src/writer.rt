@@ -13,6 +13,7 @@ ghost use Rattle.flow.specs.Verdict.{verdict};
 ghost use Rattle.list.specs.Encode.{totalsOf, recordsFor, encode};
 ghost use Rattle.list.specs.Items.{itemsIn, Listed};
 ghost use Rattle.list.specs.Output.{outputOf};
+ghost use Rattle.list.specs.Table.{recordOf};
 ghost use Rattle.list.specs.Write.{closed, judgeItems};
 ghost use Rattle.list.specs.Write.{write as Write·write};
 use crate::count::Count;
@@ -21,15 +22,16 @@ use crate::encode::encode_item;
 use crate::encode::encode_trailer;
 use crate::encode::place;
 use crate::filled::Filled;
+use crate::table::ItemKind;
 use crate::table::body_length;
 use crate::table::kind_of;
+use crate::table::record_of;
 use flow::Answer;
 use flow::Refusal;
 use flow::Totals;
 use flow::WRONG_TYPE;
 use flow::Walk;
 use records::Judged;
-use records::Kind;
 use records::WRONG_LENGTH;
 use records::field;
 
@@ -130,7 +132,7 @@ fn judge_records(list: &[u8], im: &[u8]) -> Answer
             }
             Judged::Right(right) => {
                 // 92-96 of a 14, as its D carries them: the record itself does not outlive this turn.
-                let latest = flow::latest_company(company, field(body, 37, 41), kind);
+                let latest = flow::latest_company(company, field(body, 37, 41), record_of(kind));
                 company = latest;
                 walk = walk.next(right);
             }
@@ -143,21 +145,21 @@ fn judge_records(list: &[u8], im: &[u8]) -> Answer
 }
 
 // The dispositions up to and with an item of the kind.
-fn counted(dispositions: u64, kind: Kind) -> u64
+fn counted(dispositions: u64, kind: ItemKind) -> u64
     requires { ⌜ dispositions < 10000000 ⌝ }
-    ensures { λ r. ⌜ r ≡ dispositions + opened kind ⌝ }
+    ensures { λ r. ⌜ r ≡ dispositions + opened (recordOf kind) ⌝ }
 {
-    if records::opens(kind) {
+    if records::opens(record_of(kind)) {
         return dispositions + 1;
     }
     dispositions
 }
 
 // The body of the latest H behind an item.
-fn header_behind<'a>(header: &'a [u8], body: &'a [u8], kind: Kind) -> &'a [u8]
-    ensures { λ r. ⌜ now r ≡ cond (heads kind) (now (body .entry)) (now (header .entry)) ⌝ }
+fn header_behind<'a>(header: &'a [u8], body: &'a [u8], kind: ItemKind) -> &'a [u8]
+    ensures { λ r. ⌜ now r ≡ cond (heads (recordOf kind)) (now (body .entry)) (now (header .entry)) ⌝ }
 {
-    if records::heads(kind) {
+    if records::heads(record_of(kind)) {
         return body;
     }
     header

@@ -4,8 +4,7 @@ use mathlib.Core.Path.{_≡_, refl}
 use native.Mathlib.Omega.{arith}
 use lib.ListN.{length, length-take}
 use borrow.Author.Needs.{needs}
-use Rattle.records.specs.declared.kind.Kind.the-variants.{Im}
-use Rattle.list.specs.Encode.{carriedAt, encodeItem}
+use Rattle.list.specs.Encode.{abiIn, encodeItem}
 use Rattle.list.proofs.encode.encode_item.Statement.{statement}
 use Rattle.list.proofs.encode.encode_item.Tie as tie
 
@@ -24,7 +23,7 @@ fill-item-requires c κs =
 returns : tie.Need-returns
 unfolding encodeItem
 returns c =
-    let abi : c .before .before .field .result .now ≡ carriedAt Im 9 13 (c .before .before .before .before .before .before .args .header .now) = c .before .before .field .ensures .0 in
+    let abi : c .before .before .field .result .now ≡ abiIn (c .before .before .before .before .before .before .args .header .now) = c .before .before .field .ensures .0 in
     rw abi at (c .before .fill-item .ensures)
 
 pub encode-item-spec : {M : Type 1} → statement M

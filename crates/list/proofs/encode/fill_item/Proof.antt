@@ -8,6 +8,9 @@ use Rattle.list.proofs.Filling.{Fills, fills-place, fills-both}
 use Rattle.list.proofs.encode.fill_item.Statement.{statement}
 use Rattle.list.proofs.encode.fill_item.Tie as tie
 
+record-of-requires : tie.Need-record-of-requires
+record-of-requires c κs = search needs
+
 type-of-requires : tie.Need-type-of-requires
 type-of-requires c κs = search needs
 
@@ -32,16 +35,18 @@ returns c =
     let supplying = carrying .before .before .before .before in
     let first = supplying .before .before .before .before in
     let typed = first .before .before .before in
-    let args = typed .before .before .before .before .args in
+    let own = typed .before .record-of in
+    let args = typed .before .before .before .before .before .args in
     let kind = args .kind in
-    let all : Fills (place 2 (typeOf kind) ∷ (supplied kind (args .number) (args .abi .now) ++ bodyPlaced (carried kind) (args .body .now))) (args .rec .now) (carrying .place-body .last .0) =
+    let all : Fills (place 2 (typeOf (own .result)) ∷ (supplied (own .result) (args .number) (args .abi .now) ++ bodyPlaced (carried kind) (args .body .now))) (args .rec .now) (carrying .place-body .last .0) =
     fills-place (first .place .ensures) (typed .type-of .ensures) (fills-both (record { done = supplying .supply .ensures }) (record { done = carrying .place-body .ensures })) in
-    all .done
+    rw (own .ensures) at (all .done)
 
 pub fill-item-spec : {M : Type 1} → statement M
 fill-item-spec =
     tie.close
     (tie.spec
+    record-of-requires
     type-of-requires
     slice-aggregate-place
     place-requires

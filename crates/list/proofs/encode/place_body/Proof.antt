@@ -9,9 +9,9 @@ use borrow.Author.Needs.{needs}
 use Rattle.sequences.specs.Part.{part, put}
 use Rattle.sequences.proofs.Part.{part-length}
 use Rattle.records.specs.Field.{Span, width}
-use Rattle.records.specs.declared.kind.Kind.{Kind}
 use Rattle.list.specs.Encode.{fill, bodyPlaced}
 use Rattle.list.specs.Table.{carried, bodyLength, fourOf, boundsOf}
+use Rattle.list.specs.declared.table.ItemKind.{ItemKind}
 use Rattle.list.proofs.Filling.{BodyLeft, span-placed, body-placed, body-four}
 use Rattle.list.proofs.TableSpans.{Within, spanAt, span-within, four-widths, four-next, four-end}
 use Rattle.list.proofs.encode.place_body.Statement.{statement}
@@ -20,7 +20,7 @@ use Rattle.list.proofs.encode.place_body.Tie as tie
 -- the loop knows its kind by the spans alone
 abbrev Inv-loop : tie.InvT-loop
 Inv-loop rec₀ body spans from₀ i₀ rec from i =
-    (length rec ≡ 120) × ((k : Kind) → spans ≡ boundsOf k → length body ≡ bodyLength k → BodyLeft (drop i (fourOf (carried k))) from body rec (fill (bodyPlaced (fourOf (carried k)) body) rec₀))
+    (length rec ≡ 120) × ((k : ItemKind) → spans ≡ boundsOf k → length body ≡ bodyLength k → BodyLeft (drop i (fourOf (carried k))) from body rec (fill (bodyPlaced (fourOf (carried k)) body) rec₀))
 
 abbrev μ-loop : tie.MeasureT-loop
 μ-loop rec₀ body spans from₀ i₀ rec from i = 4 - i
@@ -35,7 +35,7 @@ within c =
     subst (λ (bs : List ℕ). Within (spanAt bs (at .loop .i))) (sym (at .before .carried .ensures)) (span-within (at .before .before .before .before .args .kind) (at .loop .i) (omega arith))
 
 turn :
-    (c : tie.In-loop Inv-loop μ-loop) (k : Kind) → let at = c .before in let start = at .before .before .before .before in let body = start .args .body .now in let ss = fourOf (carried k) in
+    (c : tie.In-loop Inv-loop μ-loop) (k : ItemKind) → let at = c .before in let start = at .before .before .before .before in let body = start .args .body .now in let ss = fourOf (carried k) in
     at .before .carried .result ≡ boundsOf k → length body ≡ bodyLength k → BodyLeft (span c ∷ drop (at .loop .i + 1) ss) (at .loop .from) body (at .loop .rec) (fill (bodyPlaced ss body) (start .args .rec .now))
 turn c k e l =
     let at = c .before in

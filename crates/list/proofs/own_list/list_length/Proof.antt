@@ -8,7 +8,7 @@ use borrow.Author.Needs.{needs}
 use Rattle.flow.specs.Records.{recordAt}
 use Rattle.flow.proofs.Cut.{record-part}
 use Rattle.list.specs.ReadBack.{itemLength, listOf}
-use Rattle.list.specs.Table.{kindIn}
+use Rattle.list.specs.Table.{rowIn}
 use Rattle.list.proofs.OwnList.{item-at-most, listFrom, list-all, length-next, list-end}
 use Rattle.list.proofs.own_list.list_length.Statement.{statement}
 use Rattle.list.proofs.own_list.list_length.Tie as tie
@@ -22,32 +22,32 @@ abbrev μ-loop : tie.MeasureT-loop
 loop-holds : tie.Need-loop-holds Inv-loop μ-loop
 loop-holds c = (omega arith, omega arith, omega (arith, ap length (list-all (c .before .args .flow .now))))
 
-mul-kind-in : tie.Need-mul-kind-in Inv-loop μ-loop
-mul-kind-in c = omega arith
+mul-row-in : tie.Need-mul-row-in Inv-loop μ-loop
+mul-row-in c = omega arith
 
-mul-kind-in-2 : tie.Need-mul-kind-in-2 Inv-loop μ-loop
-mul-kind-in-2 c = omega arith
+mul-row-in-2 : tie.Need-mul-row-in-2 Inv-loop μ-loop
+mul-row-in-2 c = omega arith
 
-add-kind-in : tie.Need-add-kind-in Inv-loop μ-loop
-add-kind-in c = omega arith
+add-row-in : tie.Need-add-row-in Inv-loop μ-loop
+add-row-in c = omega arith
 
-sub-kind-in : tie.Need-sub-kind-in Inv-loop μ-loop
-sub-kind-in c = omega arith
+sub-row-in : tie.Need-sub-row-in Inv-loop μ-loop
+sub-row-in c = omega arith
 
-part-kind-in-start : tie.Need-part-kind-in-start Inv-loop μ-loop
-part-kind-in-start c = omega arith
+part-row-in-start : tie.Need-part-row-in-start Inv-loop μ-loop
+part-row-in-start c = omega arith
 
-part-kind-in-end : tie.Need-part-kind-in-end Inv-loop μ-loop
-part-kind-in-end c = omega arith
+part-row-in-end : tie.Need-part-row-in-end Inv-loop μ-loop
+part-row-in-end c = omega arith
 
-kind-in-requires : tie.Need-kind-in-requires Inv-loop μ-loop
-kind-in-requires c κs = search needs
+row-in-requires : tie.Need-row-in-requires Inv-loop μ-loop
+row-in-requires c κs = search needs
 
 item-length-requires : tie.Need-item-length-requires Inv-loop μ-loop
 item-length-requires c κs = search needs
 
 add-length : tie.Need-add-length Inv-loop μ-loop
-add-length c = omega (arith, c .item-length .ensures, item-at-most (c .before .kind-in .result))
+add-length c = omega (arith, c .item-length .ensures, item-at-most (c .before .row-in .result))
 
 add-i : tie.Need-add-i Inv-loop μ-loop
 add-i c = omega arith
@@ -60,9 +60,9 @@ loop-again c =
     let at = c .before .before .before .before in
     let flow = at .before .before .args .flow .now in
     let i = at .loop .i in
-    let size : c .item-length .result ≡ itemLength (kindIn (recordAt i flow)) = c .item-length .ensures ∙ ap itemLength (c .before .kind-in .ensures ∙ ap kindIn (record-part i flow)) in
+    let size : c .item-length .result ≡ itemLength (rowIn (recordAt i flow)) = c .item-length .ensures ∙ ap itemLength (c .before .row-in .ensures ∙ ap rowIn (record-part i flow)) in
     let on : length (listFrom flow (i + 1)) ≡ length (listFrom flow (suc i)) = ap (λ (j : ℕ). length (listFrom flow j)) (add-one i) in
-    (omega arith, omega (arith, item-at-most (kindIn (recordAt i flow))), omega (arith, length-next flow i (c .before .before .before .loop-test .taken)))
+    (omega arith, omega (arith, item-at-most (rowIn (recordAt i flow))), omega (arith, length-next flow i (c .before .before .before .loop-test .taken)))
 
 returns : tie.Need-returns Inv-loop μ-loop
 returns c =
@@ -76,13 +76,13 @@ list-length-spec =
     Inv-loop
     μ-loop
     loop-holds
-    mul-kind-in
-    mul-kind-in-2
-    add-kind-in
-    sub-kind-in
-    part-kind-in-start
-    part-kind-in-end
-    kind-in-requires
+    mul-row-in
+    mul-row-in-2
+    add-row-in
+    sub-row-in
+    part-row-in-start
+    part-row-in-end
+    row-in-requires
     item-length-requires
     add-length
     add-i

@@ -9,9 +9,9 @@ use borrow.Rule.Slice.PartMut.{putMid}
 use Rattle.sequences.specs.Part.{put}
 use Rattle.sequences.proofs.Part.{part-length, put-length, copied-over}
 use Rattle.records.specs.Field.{Span}
-use Rattle.records.specs.declared.kind.Kind.{Kind}
 use Rattle.list.specs.ReadBack.{gather}
 use Rattle.list.specs.Table.{carried, bodyLength, fourOf, boundsOf}
+use Rattle.list.specs.declared.table.ItemKind.{ItemKind}
 use Rattle.list.proofs.Carried.{span-length}
 use Rattle.list.proofs.Gathering.{Storing, storing, storing-turn, stored-next, stored-all}
 use Rattle.list.proofs.TableSpans.{Within, spanAt, four-end}
@@ -21,7 +21,7 @@ use Rattle.list.proofs.own_list.store_body.Tie as tie
 -- the loop knows its kind by the spans alone
 abbrev Inv-loop : tie.InvT-loop
 Inv-loop rec out₀ spans from₀ i₀ out from i =
-    (length out ≡ length out₀) × ((k : Kind) → spans ≡ boundsOf k → length out₀ ≡ bodyLength k → Storing (drop i (fourOf (carried k))) from rec out (gather (carried k) rec))
+    (length out ≡ length out₀) × ((k : ItemKind) → spans ≡ boundsOf k → length out₀ ≡ bodyLength k → Storing (drop i (fourOf (carried k))) from rec out (gather (carried k) rec))
 
 abbrev μ-loop : tie.MeasureT-loop
 μ-loop rec out₀ spans from₀ i₀ out from i = 4 - i
@@ -31,7 +31,7 @@ abbrev span : tie.In-loop Inv-loop μ-loop → Span
 span c = spanAt (c .before .before .carried .result) (c .before .loop .i)
 
 turn :
-    (c : tie.In-loop Inv-loop μ-loop) (k : Kind) → let at = c .before in let start = at .before .before .before .before in
+    (c : tie.In-loop Inv-loop μ-loop) (k : ItemKind) → let at = c .before in let start = at .before .before .before .before in
     at .before .carried .result ≡ boundsOf k → length (start .args .out .now) ≡ bodyLength k
     → Storing (span c ∷ drop (at .loop .i + 1) (fourOf (carried k))) (at .loop .from) (start .args .rec .now) (at .loop .out) (gather (carried k) (start .args .rec .now))
 turn c k kept size = storing-turn k _ _ _ _ _ _ kept (c .loop-test .taken) (c .before .loop .inv .1 k kept size)

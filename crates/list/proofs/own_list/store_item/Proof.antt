@@ -7,37 +7,44 @@ use borrow.Author.Needs.{needs}
 use borrow.Rule.Slice.PartMut.{putMid}
 use Rattle.sequences.specs.Part.{put}
 use Rattle.sequences.proofs.Part.{put-length, put-nothing, lent-is-put}
-use Rattle.records.specs.Kinds.{closes}
 use Rattle.list.specs.Items.{listBytes}
 use Rattle.list.specs.ReadBack.{gather, itemOf}
-use Rattle.list.specs.Table.{carried, bodyLength, kindIn}
+use Rattle.list.specs.Table.{carried, bodyLength, rowIn}
+use Rattle.list.specs.declared.table.ItemKind.{ItemKind}
+use Rattle.list.specs.declared.table.Row.the-variants.{Of, Missing}
 use Rattle.list.proofs.Gathering.{body-gathered}
 use Rattle.list.proofs.OwnList.{no-item, item-count, item-stored}
 use Rattle.list.proofs.own_list.store_item.Statement.{statement}
 use Rattle.list.proofs.own_list.store_item.Tie as tie
 
-kind-in-requires : tie.Need-kind-in-requires
-kind-in-requires c κs = search needs
+row-in-requires : tie.Need-row-in-requires
+row-in-requires c κs = search needs
 
-closes-requires : tie.Need-closes-requires
-closes-requires c κs = search needs
+enum-known-kind : tie.Need-enum-known-kind
+enum-known-kind c = search needs
 
--- what is tested is the record's own kind
-tested : (c : tie.After-closes) → closes (kindIn (c .before .before .before .before .args .rec .now)) ≡ c .closes .result
-tested c = sym (c .closes .ensures ∙ ap closes (c .before .kind-in .ensures))
+enum-told : tie.Need-enum-told
+enum-told c = search needs
 
 returns : tie.Need-returns
 returns c =
-    let none = tested (c .before) ∙ c .if1 .taken in
     let start = c .before .before .before .before .before in
+    let none : rowIn (start .args .rec .now) ≡ Missing = sym (c .before .before .row-in .ensures) ∙ c .enum-told .given .1 in
     (rw none (omega arith), rw (no-item _ none) (sym (put-nothing (start .args .at) (start .args .out .now))))
+
+-- the kind of the record's row
+abbrev kind-of : tie.After-known-told → ItemKind
+kind-of c = c .before .kind .given .0 .0
+
+row-so : (c : tie.After-known-told) → rowIn (c .before .before .before .before .before .before .args .rec .now) ≡ Of (kind-of c)
+row-so c = sym (c .before .before .before .row-in .ensures) ∙ c .before .kind .given .1
 
 letter-requires : tie.Need-letter-requires
 letter-requires c κs = search needs
 
 -- there is room for the item
-room : (c : tie.Else1) → let start = c .before .before .before .before .before in start .args .at + suc (bodyLength (c .before .before .kind-in .result)) ≤ length (start .args .out .now)
-room c = rw (c .before .before .kind-in .ensures) (rw (tested (c .before) ∙ c .if1 .left) at (c .before .before .before .before .before .pre .1))
+room : (c : tie.After-known-told) → let start = c .before .before .before .before .before .before in start .args .at + suc (bodyLength (kind-of c)) ≤ length (start .args .out .now)
+room c = rw (row-so c) at (c .before .before .before .before .before .before .pre .1)
 
 slice-write-out : tie.Need-slice-write-out
 slice-write-out c = omega (arith, room (c .before))
@@ -62,7 +69,7 @@ part-store-body-start c = search needs
 
 part-store-body-end : tie.Need-part-store-body-end
 part-store-body-end c =
-    let start = c .before .before .before .before .before .before .before in
+    let start = c .before .before .before .before .before .before .before .before in
     omega (arith, room (c .before .before), c .body-length .ensures, length-set (start .args .out .now) (start .args .at) (c .before .letter .result))
 
 store-body-requires : tie.Need-store-body-requires
@@ -70,42 +77,41 @@ store-body-requires c κs = search needs
 
 -- the item stands in the output
 stored :
-    (c : tie.After-store-body) → let start = c .before .before .before .before .before .before .before .before .before in let from = start .args .at in let out = start .args .out .now in
+    (c : tie.After-store-body) → let start = c .before .before .before .before .before .before .before .before .before .before in let from = start .args .at in let out = start .args .out .now in
     putMid (from + 1) (from + 1 + c .before .before .body-length .result - (from + 1)) (set out from (c .before .before .before .letter .result)) (c .store-body .last .1 .1 .0)
     ≡ put from (listBytes (itemOf (start .args .rec .now))) out
 stored c =
-    let else = c .before .before .before .before in
-    let kind = else .before .before .kind-in in
-    let start = else .before .before .before .before .before in
+    let known = c .before .before .before .before in
+    let kind = kind-of known in
+    let start = known .before .before .before .before .before .before in
     let rec = start .args .rec .now in
     let from = start .args .at in
     let end = from + 1 + c .before .before .body-length .result in
-    let body = gather (carried (kind .result)) rec in
+    let body = gather (carried kind) rec in
     let out = set (start .args .out .now) from (c .before .before .before .letter .result) in
-    let size : length body ≡ end - (from + 1) = omega (arith, body-gathered rec (start .pre .0) (kind .result), c .before .before .body-length .ensures) in
+    let size : length body ≡ end - (from + 1) = omega (arith, body-gathered rec (start .pre .0) kind, c .before .before .body-length .ensures) in
     let over : putMid (from + 1) (end - (from + 1)) out (c .store-body .last .1 .1 .0) ≡ put (from + 1) body out = ap (putMid (from + 1) (end - (from + 1)) out) (c .store-body .ensures) ∙ lent-is-put (from + 1) end out body size in
-    let fits : from + 1 + bodyLength (kindIn rec) ≤ length (start .args .out .now) = rw (← kind .ensures) (omega (arith, room else)) in
-    over ∙ rw (c .before .before .before .letter .ensures, kind .ensures) (item-stored rec (start .pre .0) (tested (else .before) ∙ else .if1 .left) from _ fits)
+    let fits : from + 1 + bodyLength kind ≤ length (start .args .out .now) = omega (arith, room known) in
+    over ∙ rw (c .before .before .before .letter .ensures) (item-stored rec (start .pre .0) kind (row-so known) from _ fits)
 
 same-length : tie.Need-same-length
 same-length c =
-    let start = c .before .before .before .before .before .before .before .before .before .before .before in
+    let start = c .before .before .before .before .before .before .before .before .before .before .before .before in
     let rec = start .args .rec .now in
     ap length (stored (c .before .before)) ∙ put-length (start .args .at) (listBytes (itemOf rec)) (start .args .out .now) (rw (item-count rec (start .pre .0)) (start .pre .1))
 
 returns-2 : tie.Need-returns-2
 returns-2 c =
-    let else = c .before .before .before .before .before .before in
-    let rec = else .before .before .before .before .before .args .rec .now in
-    let size : c .before .before .before .before .body-length .result ≡ bodyLength (kindIn rec) = c .before .before .before .before .body-length .ensures ∙ ap bodyLength (else .before .before .kind-in .ensures) in
-    (rw (tested (else .before) ∙ else .if1 .left) (omega arith), stored (c .before .before))
+    let known = c .before .before .before .before .before .before in
+    (rw (row-so known, c .before .before .before .before .body-length .ensures) (omega arith), stored (c .before .before))
 
 pub store-item-spec : {M : Type 1} → statement M
 store-item-spec =
     tie.close
     (tie.spec
-    kind-in-requires
-    closes-requires
+    row-in-requires
+    enum-known-kind
+    enum-told
     returns
     letter-requires
     slice-write-out

@@ -10,7 +10,7 @@ use Rattle.flow.specs.Records.{recordAt}
 use Rattle.flow.proofs.Cut.{record-part, record-whole}
 use Rattle.list.specs.Items.{listBytes}
 use Rattle.list.specs.ReadBack.{itemOf, itemLength}
-use Rattle.list.specs.Table.{kindIn}
+use Rattle.list.specs.Table.{rowIn}
 use Rattle.list.proofs.OwnList.{Listing, listing, item-fits, listed-next, listed-all}
 use Rattle.list.proofs.own_list.store_list.Statement.{statement}
 use Rattle.list.proofs.own_list.store_list.Tie as tie
@@ -48,7 +48,7 @@ store-item-requires c κs =
     let loop = at .loop in
     let more = c .before .before .loop-test .taken in
     let handed = record-part (loop .i) (at .before .before .before .args .flow .now) in
-    (ap length handed ∙ record-whole _ _ more, subst (λ (rec : List ℕ). loop .at + itemLength (kindIn rec) ≤ length (loop .out)) (sym handed) (item-fits (loop .inv .1) more))
+    (ap length handed ∙ record-whole _ _ more, subst (λ (rec : List ℕ). loop .at + itemLength (rowIn rec) ≤ length (loop .out)) (sym handed) (item-fits (loop .inv .1) more))
 
 add-i : tie.Need-add-i Inv-loop μ-loop
 add-i c = omega arith
@@ -63,7 +63,7 @@ loop-again c =
     let flow = at .before .before .before .args .flow .now in
     let call = c .before .before .store-item in
     let handed = record-part (loop .i) flow in
-    let end : call .result ≡ loop .at + itemLength (kindIn (recordAt (loop .i) flow)) = call .ensures .0 ∙ ap (λ (rec : List ℕ). loop .at + itemLength (kindIn rec)) handed in
+    let end : call .result ≡ loop .at + itemLength (rowIn (recordAt (loop .i) flow)) = call .ensures .0 ∙ ap (λ (rec : List ℕ). loop .at + itemLength (rowIn rec)) handed in
     let out : call .last .1 .0 ≡ put (loop .at) (listBytes (itemOf (recordAt (loop .i) flow))) (loop .out) = call .ensures .1 ∙ ap (λ (rec : List ℕ). put (loop .at) (listBytes (itemOf rec)) (loop .out)) handed in
     (omega arith, rw (end, out, add-one (loop .i)) (listed-next (loop .inv .1) (c .before .before .before .before .before .loop-test .taken)))
 

@@ -34,9 +34,6 @@ enum-told-9 c = search needs
 enum-told-10 : tie.Need-enum-told-10
 enum-told-10 c = search needs
 
-enum-told-11 : tie.Need-enum-told-11
-enum-told-11 c = search needs
-
 returns : tie.Need-returns
 returns c = rw (c .enum-told .given .1) refl
 
@@ -67,9 +64,6 @@ returns-9 c = rw (c .enum-told9 .given .1) refl
 returns-10 : tie.Need-returns-10
 returns-10 c = rw (c .enum-told10 .given .1) refl
 
-returns-11 : tie.Need-returns-11
-returns-11 c = rw (c .enum-told11 .given .1) refl
-
 pub carried-spec : {M : Type 1} → statement M
 carried-spec =
     tie.close
@@ -84,7 +78,6 @@ carried-spec =
     enum-told-8
     enum-told-9
     enum-told-10
-    enum-told-11
     returns
     returns-2
     returns-3
@@ -94,5 +87,4 @@ carried-spec =
     returns-7
     returns-8
     returns-9
-    returns-10
-    returns-11)
+    returns-10)

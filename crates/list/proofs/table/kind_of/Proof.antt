@@ -1,71 +1,27 @@
--- `list::kind_of` meets its contract. What is left behind i decides as the whole does. Assumes nothing.
-use Prim.Native.Nat.{ℕ, _-_}
-use mathlib.Core.Bool.{Bool, true, false}
-use mathlib.Core.Path.{_≡_, refl, sym, _∙_}
-use native.Mathlib.Omega.{arith}
-use lib.Dec.{eqb}
+-- `list::kind_of` meets its contract. Assumes nothing.
+use mathlib.Core.Path.{sym, _∙_}
 use borrow.Author.Needs.{needs}
-use borrow.Author.Tests.{eq-eqb, ne-eqb}
-use Rattle.records.specs.declared.kind.Kind.{Kind}
-use Rattle.list.specs.Table.{letter}
-use Rattle.list.proofs.Rows.{Decides, found, next, ended}
+use Rattle.list.proofs.ItemKinds.{not-missing}
 use Rattle.list.proofs.table.kind_of.Statement.{statement}
 use Rattle.list.proofs.table.kind_of.Tie as tie
 
-abbrev test : ℕ → Kind → Bool
-test byte k = eqb byte (letter k)
+row-of-requires : tie.Need-row-of-requires
+row-of-requires c κs = search needs
 
-abbrev Inv-loop : tie.InvT-loop
-Inv-loop byte i₀ i = Decides (test byte) i
+enum-known-kind : tie.Need-enum-known-kind
+enum-known-kind c = search needs
 
-abbrev μ-loop : tie.MeasureT-loop
-μ-loop byte i₀ i = 10 - i
+enum-told : tie.Need-enum-told
+enum-told c = search needs
 
-loop-holds : tie.Need-loop-holds Inv-loop μ-loop
-loop-holds c = refl
+returns : tie.Need-returns
+returns c = sym (c .before .before .before .row-of .ensures) ∙ c .before .kind .given .1
 
-row-requires : tie.Need-row-requires Inv-loop μ-loop
-row-requires c κs = search needs
-
-letter-requires : tie.Need-letter-requires Inv-loop μ-loop
-letter-requires c κs = search needs
-
-returns : tie.Need-returns Inv-loop μ-loop
-returns c =
-    let at = c .before .before .before .before in
-    let byte = at .before .args .byte in
-    let kind = c .before .before .row .result in
-    let passes : test byte kind ≡ true = eq-eqb byte (letter kind) (c .if1 .taken ∙ c .before .letter .ensures) in
-    found (test byte) (at .loop .i) (omega arith) (c .before .before .row .ensures) (at .loop .inv) passes
-
-add-i : tie.Need-add-i Inv-loop μ-loop
-add-i c = omega arith
-
-loop-less : tie.Need-loop-less Inv-loop μ-loop
-loop-less c = omega arith
-
-loop-again : tie.Need-loop-again Inv-loop μ-loop
-loop-again c =
-    let at = c .before .before .before .before in
-    let byte = at .before .args .byte in
-    let kind = c .before .before .row .result in
-    let fails : test byte kind ≡ false = ne-eqb byte (letter kind) (λ e. c .if1 .left (e ∙ sym (c .before .letter .ensures))) in
-    next (test byte) (at .loop .i) (omega arith) (c .before .before .row .ensures) (at .loop .inv) fails
-
-returns-2 : tie.Need-returns-2 Inv-loop μ-loop
-returns-2 c = ended (test (c .before .before .args .byte)) (c .before .loop .i) (c .loop-test .left) (c .before .loop .inv)
+-- the table has the byte
+returns-2 : tie.Need-returns-2
+returns-2 c =
+    let row = c .before .before .row-of in
+    absurd (not-missing (sym (c .before .before .before .pre .row) ∙ sym (row .ensures) ∙ c .enum-told .given .1))
 
 pub kind-of-spec : {M : Type 1} → statement M
-kind-of-spec =
-    tie.close
-    (tie.spec
-    Inv-loop
-    μ-loop
-    loop-holds
-    row-requires
-    letter-requires
-    returns
-    add-i
-    loop-less
-    loop-again
-    returns-2)
+kind-of-spec = tie.close (tie.spec row-of-requires enum-known-kind enum-told returns returns-2)

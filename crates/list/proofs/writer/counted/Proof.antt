@@ -1,11 +1,15 @@
 -- `list::counted` meets its contract. Assumes nothing.
 use mathlib.Core.Bool.{true, false}
-use mathlib.Core.Path.{_≡_, sym, _∙_}
+use mathlib.Core.Path.{_≡_, sym, _∙_, ap}
 use native.Mathlib.Omega.{arith}
 use borrow.Author.Needs.{needs}
 use Rattle.records.specs.Kinds.{opens}
+use Rattle.list.specs.Table.{recordOf}
 use Rattle.list.proofs.writer.counted.Statement.{statement}
 use Rattle.list.proofs.writer.counted.Tie as tie
+
+record-of-requires : tie.Need-record-of-requires
+record-of-requires c κs = search needs
 
 opens-requires : tie.Need-opens-requires
 opens-requires c κs = search needs
@@ -15,13 +19,13 @@ add-result c = search needs
 
 returns : tie.Need-returns
 returns c =
-    let one : opens (c .before .before .args .kind) ≡ true = sym (c .before .opens .ensures) ∙ c .if1 .taken in
+    let one : opens (recordOf (c .before .before .before .args .kind)) ≡ true = sym (c .before .opens .ensures ∙ ap opens (c .before .before .record-of .ensures)) ∙ c .if1 .taken in
     rw one (omega arith)
 
 returns-2 : tie.Need-returns-2
 returns-2 c =
-    let none : opens (c .before .before .args .kind) ≡ false = sym (c .before .opens .ensures) ∙ c .if1 .left in
+    let none : opens (recordOf (c .before .before .before .args .kind)) ≡ false = sym (c .before .opens .ensures ∙ ap opens (c .before .before .record-of .ensures)) ∙ c .if1 .left in
     rw none (omega arith)
 
 pub counted-spec : {M : Type 1} → statement M
-counted-spec = tie.close (tie.spec opens-requires add-result returns returns-2)
+counted-spec = tie.close (tie.spec record-of-requires opens-requires add-result returns returns-2)

@@ -1,18 +1,16 @@
 -- `list::first_record` meets its contract. Assumes nothing.
 use Prim.Native.Nat.{_+_, _-_, _≤_}
 use mathlib.Core.List.{[]}
-use mathlib.Core.Path.{_≡_, sym, _∙_, ap}
+use mathlib.Core.Path.{_≡_, sym, _∙_}
 use native.Mathlib.Omega.{arith}
 use lib.ListN.{length}
 use borrow.Author.Needs.{needs}
 use Rattle.sequences.specs.Part.{part}
-use Rattle.records.specs.Kinds.{opened}
-use Rattle.records.specs.declared.kind.Kind.{Kind}
 use Rattle.list.specs.Encode.{encodeItem}
 use Rattle.list.specs.Items.{item, itemsIn}
 use Rattle.list.specs.Table.{bodyLength}
-use Rattle.list.proofs.Parsing.{Next, next-item}
-use Rattle.list.proofs.Loops.{kindAt, first-record}
+use Rattle.list.proofs.Parsing.{next-kind, Next, next-item}
+use Rattle.list.proofs.Loops.{first-record}
 use Rattle.list.proofs.writer.first_record.Statement.{statement}
 use Rattle.list.proofs.writer.first_record.Tie as tie
 
@@ -20,21 +18,19 @@ shared-slice-read-kind-of : tie.Need-shared-slice-read-kind-of
 shared-slice-read-kind-of c = search needs
 
 kind-of-requires : tie.Need-kind-of-requires
-kind-of-requires c κs = search needs
+kind-of-requires c κs = let at = c .before .before in next-kind (at .args .list .now) 0 0 (itemsIn (at .args .list .now)) (at .pre .0 .said) (at .pre .1)
 
 body-length-requires : tie.Need-body-length-requires
 body-length-requires c κs = search needs
 
 -- the list has a first item
-next : (c : tie.After-body-length) → let list = c .before .before .before .before .args .list .now in Next list 0 0 (itemsIn list)
+next : (c : tie.After-body-length) → let list = c .before .before .before .before .args .list .now in Next list 0 0 (c .before .kind-of .result) (itemsIn list)
 next c =
     let at = c .before .before .before .before in
-    next-item (at .args .list .now) 0 0 (itemsIn (at .args .list .now)) (at .pre .0 .said) (at .pre .1)
+    next-item (at .args .list .now) 0 0 (itemsIn (at .args .list .now)) (at .pre .0 .said) (at .pre .1) (c .before .kind-of .result) (c .before .kind-of .ensures)
 
 ends : (c : tie.After-body-length) → 1 + c .body-length .result ≤ length (c .before .before .before .before .args .list .now)
-ends c =
-    let size : c .body-length .result ≡ bodyLength (kindAt (c .before .before .before .before .args .list .now) 0) = c .body-length .ensures ∙ ap bodyLength (c .before .kind-of .ensures) in
-    omega (arith, next c .ends)
+ends c = omega (arith, next c .ends, c .body-length .ensures)
 
 add-body : tie.Need-add-body
 add-body c = omega (arith, ends c)
@@ -67,11 +63,9 @@ returns : tie.Need-returns
 returns c =
     let first = c .before .before .before .before in
     let list = first .before .before .before .before .args .list .now in
-    let kind : first .before .kind-of .result ≡ kindAt list 0 = first .before .kind-of .ensures in
-    let size : first .body-length .result ≡ bodyLength (kindAt list 0) = first .body-length .ensures ∙ ap bodyLength kind in
-    let width : 1 + first .body-length .result - 1 ≡ bodyLength (kindAt list 0) = omega arith in
-    let number : c .before .before .counted .result ≡ 0 + opened (kindAt list 0) = c .before .before .counted .ensures ∙ ap (λ (k : Kind). 0 + opened k) kind in
-    c .encode-item .ensures ∙ (λ i. encodeItem (number i) [] (item (kind i) (part 1 (width i) list))) ∙ sym (first-record list (next first))
+    let kind = first .before .kind-of .result in
+    let width : 1 + first .body-length .result - 1 ≡ bodyLength kind = omega (arith, first .body-length .ensures) in
+    c .encode-item .ensures ∙ (λ i. encodeItem (c .before .before .counted .ensures i) [] (item kind (part 1 (width i) list))) ∙ sym (first-record list kind (next first))
 
 pub first-record-spec : {M : Type 1} → statement M
 first-record-spec =

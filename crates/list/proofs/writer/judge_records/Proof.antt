@@ -12,12 +12,13 @@ use Rattle.records.specs.Field.{field}
 use Rattle.records.specs.Kinds.{heads, opened}
 use Rattle.records.specs.Finding.{finding}
 use Rattle.records.specs.declared.kind.Kind.{Kind}
-use Rattle.records.specs.declared.kind.Kind.the-variants.{R14}
 use Rattle.flow.specs.Steps.{latestOf, judgeRecord}
 use Rattle.list.specs.Encode.{carriedAt, encodeItem}
 use Rattle.list.specs.Items.{itemsIn}
-use Rattle.list.specs.Table.{bodyLength}
-use Rattle.list.proofs.Loops.{kindAt, itemAt, Turn, turn, turn-record, JudgingAt, judging-begins, next-judged, judging-on, judging-refused, judging-ends}
+use Rattle.list.specs.Table.{recordOf, bodyLength}
+use Rattle.list.specs.declared.table.ItemKind.the-variants.{D}
+use Rattle.list.proofs.Parsing.{next-kind}
+use Rattle.list.proofs.Loops.{itemAt, Turn, turn, turn-record, JudgingAt, judging-begins, next-judged, judging-on, judging-refused, judging-ends}
 use Rattle.list.proofs.writer.judge_records.Statement.{statement}
 use Rattle.list.proofs.writer.judge_records.Tie as tie
 
@@ -63,7 +64,10 @@ shared-slice-read-kind-of : tie.Need-shared-slice-read-kind-of Inv-loop μ-loop
 shared-slice-read-kind-of c = search needs
 
 kind-of-requires : tie.Need-kind-of-requires Inv-loop μ-loop
-kind-of-requires c κs = search needs
+kind-of-requires c κs =
+    let l = c .before .before in
+    let j = l .loop .inv .2 in
+    next-kind (list-of l) (l .loop .n) (l .loop .at) (j .left) (j .said) (c .before .loop-test .taken)
 
 add-end : tie.Need-add-end Inv-loop μ-loop
 add-end c = omega arith
@@ -76,7 +80,7 @@ turn-so : (c : tie.After-body-length Inv-loop μ-loop) → let l = c .before .be
 turn-so c =
     let l = c .before .before .before .before in
     let j = l .loop .inv .2 in
-    turn (list-of l) (l .loop .n) (l .loop .at) (j .left) (next-judged j (c .before .before .before .loop-test .taken)) (c .before .kind-of .result) (c .body-length .result) (c .before .kind-of .ensures) (c .body-length .ensures)
+    turn (list-of l) (l .loop .n) (l .loop .at) (c .before .kind-of .result) (j .left) (next-judged j (c .before .before .before .loop-test .taken) (c .before .kind-of .result) (c .before .kind-of .ensures)) (c .body-length .result) (c .body-length .ensures)
 
 add-end-2 : tie.Need-add-end-2 Inv-loop μ-loop
 add-end-2 c = omega (arith, turn-so c .ends)
@@ -118,15 +122,15 @@ enum-known-number : tie.Need-enum-known-number Inv-loop μ-loop
 enum-known-number c = search needs
 
 -- the record that is built is the item's
-built : (c : tie.After-encode-item Inv-loop μ-loop) → let l = c .before .before .before .before .before .before .before in c .encode-item .result ≡ encodeItem (l .loop .dispositions + opened (kindAt (list-of l) (l .loop .at))) (l .loop .header .now) (itemAt (list-of l) (l .loop .at))
+built : (c : tie.After-encode-item Inv-loop μ-loop) → let l = c .before .before .before .before .before .before .before in let k = c .before .before .before .before .kind-of .result in c .encode-item .result ≡ encodeItem (l .loop .dispositions + opened (recordOf k)) (l .loop .header .now) (itemAt (list-of l) (l .loop .at) k)
 built c =
     let l = c .before .before .before .before .before .before .before in
     turn-record (turn-so (c .before .before .before)) (l .loop .dispositions) (c .before .counted .result) (l .loop .header .now) (c .encode-item .result) (c .before .counted .ensures) (c .encode-item .ensures)
 
 found :
-    (c : tie.After-judge Inv-loop μ-loop) → let l = c .before .before .before .before .before .before .before .before .before in
+    (c : tie.After-judge Inv-loop μ-loop) → let l = c .before .before .before .before .before .before .before .before .before in let k = c .before .before .before .before .before .before .kind-of .result in
     judgeRecord (header-of l) (l .loop .walk) (l .loop .company .now) (suc (l .loop .n))
-    (encodeItem (l .loop .dispositions + opened (kindAt (list-of l) (l .loop .at))) (l .loop .header .now) (itemAt (list-of l) (l .loop .at)))
+    (encodeItem (l .loop .dispositions + opened (recordOf k)) (l .loop .header .now) (itemAt (list-of l) (l .loop .at) k))
     ≡ finding (c .judge .result)
 found c =
     let l = c .before .before .before .before .before .before .before .before .before in
@@ -136,13 +140,16 @@ returns : tie.Need-returns Inv-loop μ-loop
 returns c =
     let l = c .before .before .before .before .before .before .before .before .before .before .before .before in
     let told = found (c .before .before .before) ∙ ap finding (c .before .number .given .1) in
-    rw add-one (judging-refused (l .loop .inv .2) (c .before .before .before .before .before .before .before .before .before .before .before .loop-test .taken) _ _ told)
+    rw add-one (judging-refused (l .loop .inv .2) (c .before .before .before .before .before .before .before .before .before .before .before .loop-test .taken) _ (c .before .before .before .before .before .before .before .before .before .kind-of .ensures) _ _ told)
 
 enum-known-right : tie.Need-enum-known-right Inv-loop μ-loop
 enum-known-right c = search needs
 
 field-requires : tie.Need-field-requires Inv-loop μ-loop
 field-requires c κs = search needs
+
+record-of-requires : tie.Need-record-of-requires Inv-loop μ-loop
+record-of-requires c κs = search needs
 
 latest-company-requires : tie.Need-latest-company-requires Inv-loop μ-loop
 latest-company-requires c κs = search needs
@@ -154,22 +161,23 @@ header-behind-requires : tie.Need-header-behind-requires Inv-loop μ-loop
 header-behind-requires c κs = search needs
 
 loop-less : tie.Need-loop-less Inv-loop μ-loop
-loop-less c = omega (arith, turn-so (c .before .before .before .before .before .before .before .before .before .before .before .before) .ends, c .before .before .before .before .before .before .before .before .before .before .before .before .before .before .before .loop-test .taken)
+loop-less c = omega (arith, turn-so (c .before .before .before .before .before .before .before .before .before .before .before .before .before) .ends, c .before .before .before .before .before .before .before .before .before .before .before .before .before .before .before .before .loop-test .taken)
 
 loop-again : tie.Need-loop-again Inv-loop μ-loop
 loop-again c =
-    let l = c .before .before .before .before .before .before .before .before .before .before .before .before .before .before .before .before in
+    let l = c .before .before .before .before .before .before .before .before .before .before .before .before .before .before .before .before .before in
     let list = list-of l in
     let i = l .loop .at in
-    let b = c .before .before .before .before .before .before .before .before .before .before .before .before in
+    let b = c .before .before .before .before .before .before .before .before .before .before .before .before .before in
+    let k = b .before .kind-of .result in
     let t = turn-so b in
-    let told = found (c .before .before .before .before .before .before .before) ∙ ap finding (c .before .before .before .before .before .right .given .1) in
-    let on = judging-on (l .loop .inv .2) (c .before .before .before .before .before .before .before .before .before .before .before .before .before .before .before .loop-test .taken) _ _ told in
-    let end : i + 1 + bodyLength (kindAt list i) ≡ i + 1 + b .body-length .result = omega (arith, t .size-so) in
-    let number : l .loop .dispositions + opened (kindAt list i) ≡ c .before .before .before .before .before .before .before .before .before .before .counted .result = sym (c .before .before .before .before .before .before .before .before .before .before .counted .ensures ∙ ap (λ (k : Kind). l .loop .dispositions + opened k) (t .kind-so)) in
-    let meant : cond (heads (kindAt list i)) (itemAt list i .body) (l .loop .header .now) ≡ c .header-behind .result .now = sym (c .header-behind .ensures ∙ (λ j. cond (heads (t .kind-so j)) (t .body-so j) (l .loop .header .now))) in
-    let company : latestOf (kindAt list i) (l .loop .company .now) (carriedAt R14 92 96 (itemAt list i .body)) ≡ c .before .before .latest-company .result .now =
-    sym (c .before .before .latest-company .ensures .0 ∙ ap (latestOf (b .before .kind-of .result) (l .loop .company .now)) (c .before .before .before .field .ensures .0) ∙ (λ j. latestOf (t .kind-so j) (l .loop .company .now) (field 37 41 (t .body-so j)))) in
+    let told = found (c .before .before .before .before .before .before .before .before) ∙ ap finding (c .before .before .before .before .before .before .right .given .1) in
+    let on = judging-on (l .loop .inv .2) (c .before .before .before .before .before .before .before .before .before .before .before .before .before .before .before .before .loop-test .taken) k (b .before .kind-of .ensures) _ _ told in
+    let end : i + 1 + bodyLength k ≡ i + 1 + b .body-length .result = omega (arith, t .size-so) in
+    let number : l .loop .dispositions + opened (recordOf k) ≡ c .before .before .before .before .before .before .before .before .before .before .before .counted .result = sym (c .before .before .before .before .before .before .before .before .before .before .before .counted .ensures) in
+    let meant : cond (heads (recordOf k)) (itemAt list i k .body) (l .loop .header .now) ≡ c .header-behind .result .now = sym (c .header-behind .ensures ∙ ap (λ (body : List ℕ). cond (heads (recordOf k)) body (l .loop .header .now)) (t .body-so)) in
+    let company : latestOf (recordOf k) (l .loop .company .now) (carriedAt D 92 96 (itemAt list i k .body)) ≡ c .before .before .latest-company .result .now =
+    sym (c .before .before .latest-company .ensures .0 ∙ ap₂ (λ (m : Kind) (code : List ℕ). latestOf m (l .loop .company .now) code) (c .before .before .before .record-of .ensures) (c .before .before .before .before .field .ensures .0 ∙ ap (field 37 41) (t .body-so))) in
     (omega (arith, t .ends), l .loop .inv .1, subst (λ (A : Type 0). A) (λ j. JudgingAt (header-of l) list (end j) (sym (add-one (l .loop .n)) j) (number j) (meant j) (sym (c .before .next .ensures) j) (company j)) on)
 
 close-requires : tie.Need-close-requires Inv-loop μ-loop
@@ -210,6 +218,7 @@ judge-records-spec =
     returns
     enum-known-right
     field-requires
+    record-of-requires
     latest-company-requires
     next-requires
     header-behind-requires

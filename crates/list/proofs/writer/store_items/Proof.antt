@@ -10,13 +10,14 @@ use borrow.Author.Needs.{needs}
 use Rattle.sequences.specs.Part.{put}
 use Rattle.sequences.proofs.Part.{put-length}
 use Rattle.records.specs.Kinds.{heads, opened}
-use Rattle.records.specs.declared.kind.Kind.{Kind}
 use Rattle.list.specs.Encode.{encodeItem, encodeTrailer, trailerFor, encode}
 use Rattle.list.specs.Items.{itemsIn}
-use Rattle.list.specs.Table.{bodyLength}
+use Rattle.list.specs.Table.{recordOf, bodyLength}
+use Rattle.list.specs.declared.table.ItemKind.{ItemKind}
 use Rattle.list.proofs.OneRecord.{encoded-length}
 use Rattle.list.proofs.AllRecords.{trailer-length}
-use Rattle.list.proofs.Loops.{kindAt, itemAt, next-proper, Turn, turn, turn-record, StoringAt, storing-begins, next-stored, storing-on, storing-ends}
+use Rattle.list.proofs.Parsing.{next-kind}
+use Rattle.list.proofs.Loops.{itemAt, next-proper, Turn, turn, turn-record, StoringAt, storing-begins, next-stored, storing-on, storing-ends}
 use Rattle.list.proofs.writer.store_items.Statement.{statement}
 use Rattle.list.proofs.writer.store_items.Tie as tie
 
@@ -46,7 +47,10 @@ shared-slice-read-kind-of : tie.Need-shared-slice-read-kind-of Inv-loop μ-loop
 shared-slice-read-kind-of c = search needs
 
 kind-of-requires : tie.Need-kind-of-requires Inv-loop μ-loop
-kind-of-requires c κs = search needs
+kind-of-requires c κs =
+    let l = c .before .before in
+    let s = l .loop .inv .3 in
+    next-kind (list-of l) (l .loop .n) (l .loop .at) (s .left) (s .said) (c .before .loop-test .taken)
 
 add-end : tie.Need-add-end Inv-loop μ-loop
 add-end c = omega arith
@@ -59,7 +63,7 @@ turn-so : (c : tie.After-body-length Inv-loop μ-loop) → let l = c .before .be
 turn-so c =
     let l = c .before .before .before .before in
     let s = l .loop .inv .3 in
-    turn (list-of l) (l .loop .n) (l .loop .at) (s .left) (next-stored s (c .before .before .before .loop-test .taken)) (c .before .kind-of .result) (c .body-length .result) (c .before .kind-of .ensures) (c .body-length .ensures)
+    turn (list-of l) (l .loop .n) (l .loop .at) (c .before .kind-of .result) (s .left) (next-stored s (c .before .before .before .loop-test .taken) (c .before .kind-of .result) (c .before .kind-of .ensures)) (c .body-length .result) (c .body-length .ensures)
 
 add-end-2 : tie.Need-add-end-2 Inv-loop μ-loop
 add-end-2 c = omega (arith, turn-so c .ends)
@@ -98,10 +102,10 @@ slice-aggregate-place : tie.Need-slice-aggregate-place Inv-loop μ-loop
 slice-aggregate-place c = search needs
 
 -- the record that is built is the item's
-abbrev record-of : tie.At-loop Inv-loop μ-loop → List ℕ
-record-of a = encodeItem (a .loop .dispositions + opened (kindAt (list-of a) (a .loop .at))) (a .loop .header .now) (itemAt (list-of a) (a .loop .at))
+abbrev record-of : tie.At-loop Inv-loop μ-loop → ItemKind → List ℕ
+record-of a k = encodeItem (a .loop .dispositions + opened (recordOf k)) (a .loop .header .now) (itemAt (list-of a) (a .loop .at) k)
 
-built : (c : tie.After-encode-item Inv-loop μ-loop) → c .encode-item .result ≡ record-of (c .before .before .before .before .before .before .before)
+built : (c : tie.After-encode-item Inv-loop μ-loop) → c .encode-item .result ≡ record-of (c .before .before .before .before .before .before .before) (c .before .before .before .before .kind-of .result)
 built c =
     let l = c .before .before .before .before .before .before .before in
     turn-record (turn-so (c .before .before .before)) (l .loop .dispositions) (c .before .counted .result) (l .loop .header .now) (c .encode-item .result) (c .before .counted .ensures) (c .encode-item .ensures)
@@ -110,8 +114,10 @@ sized : (c : tie.After-encode-item Inv-loop μ-loop) → length (c .encode-item 
 sized c =
     let l = c .before .before .before .before .before .before .before in
     let s = l .loop .inv .3 in
-    let proper = next-proper (list-of l) (l .loop .n) (l .loop .at) (s .left) (next-stored s (c .before .before .before .before .before .before .loop-test .taken)) in
-    ap length (built c) ∙ encoded-length (l .loop .dispositions + opened (kindAt (list-of l) (l .loop .at))) (l .loop .header .now) (itemAt (list-of l) (l .loop .at)) proper
+    let kind = c .before .before .before .before .kind-of in
+    let k = kind .result in
+    let proper = next-proper (list-of l) (l .loop .n) (l .loop .at) k (s .left) (next-stored s (c .before .before .before .before .before .before .loop-test .taken) k (kind .ensures)) in
+    ap length (built c) ∙ encoded-length (l .loop .dispositions + opened (recordOf k)) (l .loop .header .now) (itemAt (list-of l) (l .loop .at) k) proper
 
 -- there is room for one more record, and for EF behind the last
 room-so : (a : tie.At-loop Inv-loop μ-loop) → 120 * a .loop .n + 120 ≤ length (a .loop .out)
@@ -136,16 +142,17 @@ loop-again c =
     let i = l .loop .at in
     let b = c .before .before .before .before .before .before .before .before .before in
     let t = turn-so b in
-    let end : i + 1 + bodyLength (kindAt list i) ≡ i + 1 + b .body-length .result = omega (arith, t .size-so) in
-    let number : l .loop .dispositions + opened (kindAt list i) ≡ c .before .before .before .before .before .before .before .counted .result = sym (c .before .before .before .before .before .before .before .counted .ensures ∙ ap (λ (k : Kind). l .loop .dispositions + opened k) (t .kind-so)) in
-    let meant : cond (heads (kindAt list i)) (itemAt list i .body) (l .loop .header .now) ≡ c .header-behind .result .now = sym (c .header-behind .ensures ∙ (λ j. cond (heads (t .kind-so j)) (t .body-so j) (l .loop .header .now))) in
+    let k = b .before .kind-of .result in
+    let end : i + 1 + bodyLength k ≡ i + 1 + b .body-length .result = omega (arith, t .size-so) in
+    let number : l .loop .dispositions + opened (recordOf k) ≡ c .before .before .before .before .before .before .before .counted .result = sym (c .before .before .before .before .before .before .before .counted .ensures) in
+    let meant : cond (heads (recordOf k)) (itemAt list i k .body) (l .loop .header .now) ≡ c .header-behind .result .now = sym (c .header-behind .ensures ∙ ap (λ (body : List ℕ). cond (heads (recordOf k)) body (l .loop .header .now)) (t .body-so)) in
     let index : 120 * l .loop .n + 1 - 1 ≡ 120 * l .loop .n = omega arith in
-    let stored : c .before .before .before .place .last .0 ≡ put (120 * l .loop .n) (record-of l) (l .loop .out) = c .before .before .before .place .ensures ∙ (λ j. put (index j) (built (c .before .before .before .before .before .before) j) (l .loop .out)) in
-    let size : length (record-of l) ≡ 120 = ap length (sym (built (c .before .before .before .before .before .before))) ∙ sized (c .before .before .before .before .before .before) in (
+    let stored : c .before .before .before .place .last .0 ≡ put (120 * l .loop .n) (record-of l k) (l .loop .out) = c .before .before .before .place .ensures ∙ (λ j. put (index j) (built (c .before .before .before .before .before .before) j) (l .loop .out)) in
+    let size : length (record-of l k) ≡ 120 = ap length (sym (built (c .before .before .before .before .before .before))) ∙ sized (c .before .before .before .before .before .before) in (
       omega (arith, t .ends),
       l .loop .inv .1,
-      ap length stored ∙ put-length (120 * l .loop .n) (record-of l) (l .loop .out) (omega (arith, room-so l)) ∙ l .loop .inv .2,
-      subst (λ (A : Type 0). A) (λ j. StoringAt list (put 0 (encode (itemsIn list)) (l .before .before .before .before .args .out .now)) (end j) (sym (add-one (l .loop .n)) j) (number j) (meant j) (sym stored j)) (storing-on (l .loop .inv .3) (c .before .before .before .before .before .before .before .before .before .before .before .before .loop-test .taken)),
+      ap length stored ∙ put-length (120 * l .loop .n) (record-of l k) (l .loop .out) (omega (arith, room-so l)) ∙ l .loop .inv .2,
+      subst (λ (A : Type 0). A) (λ j. StoringAt list (put 0 (encode (itemsIn list)) (l .before .before .before .before .args .out .now)) (end j) (sym (add-one (l .loop .n)) j) (number j) (meant j) (sym stored j)) (storing-on (l .loop .inv .3) (c .before .before .before .before .before .before .before .before .before .before .before .before .loop-test .taken) k (b .before .kind-of .ensures)),
     )
 
 encode-trailer-requires : tie.Need-encode-trailer-requires Inv-loop μ-loop

@@ -1,0 +1,71 @@
+-- `list::row_of` meets its contract. What is left behind i decides as the whole does. Assumes nothing.
+use Prim.Native.Nat.{ℕ, _-_}
+use mathlib.Core.Bool.{Bool, true, false}
+use mathlib.Core.Path.{_≡_, refl, sym, _∙_}
+use native.Mathlib.Omega.{arith}
+use lib.Dec.{eqb}
+use borrow.Author.Needs.{needs}
+use borrow.Author.Tests.{eq-eqb, ne-eqb}
+use Rattle.list.specs.Table.{letter}
+use Rattle.list.specs.declared.table.ItemKind.{ItemKind}
+use Rattle.list.proofs.Rows.{Decides, found, next, ended}
+use Rattle.list.proofs.table.row_of.Statement.{statement}
+use Rattle.list.proofs.table.row_of.Tie as tie
+
+abbrev test : ℕ → ItemKind → Bool
+test byte k = eqb byte (letter k)
+
+abbrev Inv-loop : tie.InvT-loop
+Inv-loop byte i₀ i = Decides (test byte) i
+
+abbrev μ-loop : tie.MeasureT-loop
+μ-loop byte i₀ i = 10 - i
+
+loop-holds : tie.Need-loop-holds Inv-loop μ-loop
+loop-holds c = refl
+
+kind-at-requires : tie.Need-kind-at-requires Inv-loop μ-loop
+kind-at-requires c κs = search needs
+
+letter-requires : tie.Need-letter-requires Inv-loop μ-loop
+letter-requires c κs = search needs
+
+returns : tie.Need-returns Inv-loop μ-loop
+returns c =
+    let at = c .before .before .before .before in
+    let byte = at .before .args .byte in
+    let kind = c .before .before .kind-at .result in
+    let passes : test byte kind ≡ true = eq-eqb byte (letter kind) (c .if1 .taken ∙ c .before .letter .ensures) in
+    found (test byte) (at .loop .i) (omega arith) (c .before .before .kind-at .ensures) (at .loop .inv) passes
+
+add-i : tie.Need-add-i Inv-loop μ-loop
+add-i c = omega arith
+
+loop-less : tie.Need-loop-less Inv-loop μ-loop
+loop-less c = omega arith
+
+loop-again : tie.Need-loop-again Inv-loop μ-loop
+loop-again c =
+    let at = c .before .before .before .before in
+    let byte = at .before .args .byte in
+    let kind = c .before .before .kind-at .result in
+    let fails : test byte kind ≡ false = ne-eqb byte (letter kind) (λ e. c .if1 .left (e ∙ sym (c .before .letter .ensures))) in
+    next (test byte) (at .loop .i) (omega arith) (c .before .before .kind-at .ensures) (at .loop .inv) fails
+
+returns-2 : tie.Need-returns-2 Inv-loop μ-loop
+returns-2 c = ended (test (c .before .before .args .byte)) (c .before .loop .i) (c .loop-test .left) (c .before .loop .inv)
+
+pub row-of-spec : {M : Type 1} → statement M
+row-of-spec =
+    tie.close
+    (tie.spec
+    Inv-loop
+    μ-loop
+    loop-holds
+    kind-at-requires
+    letter-requires
+    returns
+    add-i
+    loop-less
+    loop-again
+    returns-2)
