@@ -13,6 +13,7 @@ use Rattle.sequences.proofs.Flatten.{flatten-append, flatten-flatten}
 use Rattle.sequences.proofs.Part.{put-part, put-front, put-back, part-put-behind, part-length, put-length}
 use Rattle.fields.specs.Digits.{number, digits}
 use Rattle.fields.proofs.Decimal.{written-length}
+use Rattle.records.specs.Amount.{amountIn}
 use Rattle.records.specs.Context.{headerOf}
 use Rattle.records.specs.Field.{field}
 use Rattle.flow.specs.Find.{dispositionsIn, find}
@@ -81,7 +82,7 @@ among-so f k {v} e =
       numbered = omega (arith, length-pre);
       starts = ap (λ (x : Stand). x .first) told ∙ ap (λ (l : List (List (List ℕ))). suc (suc (length (flatten l)))) front ∙ omega arith;
       sized = ap (λ (x : Stand). x .records) told ∙ ap (λ (l : List (List ℕ)). length l) own ∙ length-map (getD ds (k - 1) []) (λ (r : Typed). r .bytes);
-      amount = ap (λ (x : Stand). x .cents) told ∙ ap (λ (l : List (List ℕ)). number (field 34 46 (getD l 0 []))) own;
+      amount = ap (λ (x : Stand). x .cents) told ∙ ap (λ (l : List (List ℕ)). number (amountIn (getD l 0 []))) own;
       found = found;
     }
 

@@ -9,8 +9,7 @@ use Rattle.sequences.proofs.All.{all-before, all-behind}
 use Rattle.sequences.proofs.DropLast.{dropLast-last}
 use Rattle.sequences.proofs.Flatten.{flatten-append}
 use Rattle.sequences.proofs.Groups.{lead-groups}
-use Rattle.records.specs.Kinds.{hasType}
-use Rattle.records.specs.declared.kind.Kind.the-variants.{R14}
+use Rattle.records.specs.Kinds.{isOpening}
 use Rattle.flow.specs.Find.{dispositionsIn}
 use Rattle.flow.specs.Records.{recordAt, recordsOf}
 use Rattle.flow.specs.declared.location.Target.{Target}
@@ -40,7 +39,7 @@ module _ {f : List ℕ} {k : ℕ} {v : Target} (s : Standing f k v) where
       let some = s .some in
       let count : length (recordsOf f) ≡ v .totals .records = cut-count (length f / 120) f ∙ omega arith in
       let last : getD (recordsOf f) (length (recordsOf f) - 1) [] ≡ trailer = ap (λ (i : ℕ). getD (recordsOf f) (i - 1) []) count ∙ cut-at (length f / 120) (v .totals .records - 1) f (omega (arith, s .starts, s .ends)) in
-      let front : untilTrailer f ≡ recordAt 0 f ∷ flatten ds = sym (lead-groups (hasType R14) (untilTrailer f)) ∙ ap (λ (l : List (List ℕ)). l ++ flatten ds) (header-leads f (s .read)) in
+      let front : untilTrailer f ≡ recordAt 0 f ∷ flatten ds = sym (lead-groups isOpening (untilTrailer f)) ∙ ap (λ (l : List (List ℕ)). l ++ flatten ds) (header-leads f (s .read)) in
       let one : suc (k - 1) ≡ k = omega arith in
       let around : ds ≡ take (k - 1) ds ++ (own ∷ drop k ds) = split-at ds (k - 1) [] (omega (arith, s .count, s .within)) ∙ ap (λ (i : ℕ). take (k - 1) ds ++ (own ∷ drop i ds)) one in
       let joined : flatten ds ≡ flatten (take (k - 1) ds) ++ (own ++ behind) = ap flatten around ∙ flatten-append (take (k - 1) ds) (own ∷ drop k ds) in

@@ -11,6 +11,7 @@ use Rattle.sequences.specs.Text.{text}
 use Rattle.sequences.proofs.Part.{put-length, part-put, part-put-before, part-put-behind, part-getD, all-put}
 use Rattle.fields.specs.Digits.{digits, number}
 use Rattle.fields.proofs.Decimal.{written-length}
+use Rattle.records.specs.Amount.{amountIn}
 use Rattle.records.specs.Context.{Header}
 use Rattle.records.specs.Field.{field}
 use Rattle.records.specs.declared.kind.Kind.{Kind}
@@ -62,7 +63,7 @@ abbrev BesideAmount : ℕ → ℕ → Type 0
 BesideAmount a n = (10 ≤ a) × ((a + n ≤ 33) ⊎ (46 ≤ a))
 
 module _ (abi rec other : List ℕ) where
-  disposition-same : Same BesideAmount rec other → Digits (field 34 46 other) → DispositionRules abi rec → DispositionRules abi other
+  disposition-same : Same BesideAmount rec other → Digits (amountIn other) → DispositionRules abi rec → DispositionRules abi other
   disposition-same same amount r =
       let front : (a n : ℕ) → 10 ≤ a → a + n ≤ 33 → part a n other ≡ part a n rec = λ a n h l. same a n (h, inl l) in
       let back : (a n : ℕ) → 46 ≤ a → part a n other ≡ part a n rec = λ a n h. same a n (omega arith, inr h) in
@@ -126,7 +127,7 @@ module _ (abi : List ℕ) (i new : ℕ) (rec : List ℕ) (formed : Formed R14 re
   pub repriced-formed : Formed R14 (repriced new rec)
   repriced-formed = over-formed 33 13 new rec (formed .whole) (omega arith) R14 (omega arith) small formed
 
-  pub repriced-says : Says new (field 34 46 (repriced new rec))
+  pub repriced-says : Says new (amountIn (repriced new rec))
   repriced-says = over-says 33 13 new rec (formed .whole) (omega arith) small
 
   pub repriced-code : field 92 96 (repriced new rec) ≡ field 92 96 rec

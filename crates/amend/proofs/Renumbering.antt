@@ -10,8 +10,7 @@ use Rattle.sequences.specs.Part.{put}
 use Rattle.sequences.proofs.Part.{part-length, put-length, put-append, put-nothing, put-within, drop-put}
 use Rattle.fields.specs.Digits.{digits}
 use Rattle.fields.proofs.Decimal.{written-length}
-use Rattle.records.specs.Kinds.{hasType}
-use Rattle.records.specs.declared.kind.Kind.the-variants.{R14}
+use Rattle.records.specs.Kinds.{isOpening}
 use Rattle.flow.specs.Records.{cut, recordAt}
 use Rattle.flow.proofs.Cut.{Whole, cut-count, cut-whole, cut-next, cut-end, flatten-length}
 use Rattle.amend.specs.Withdraw.{renumbered, renumberedFrom}
@@ -22,13 +21,13 @@ renumbered-whole : (j : ℕ) (recs : List (List ℕ)) → Whole recs → Whole (
 unfolding renumberedFrom
 renumbered-whole j [] whole = tt
 renumbered-whole j (rec ∷ recs) whole =
-    let i = j + cond (hasType R14 rec) 1 0 in
+    let i = j + cond (isOpening rec) 1 0 in
     (over-length 3 7 i rec (whole .0) (omega arith), renumbered-whole i recs (whole .1))
 
 renumbered-count : (j : ℕ) (recs : List (List ℕ)) → length (renumberedFrom j recs) ≡ length recs
 unfolding renumberedFrom
 renumbered-count j [] = refl
-renumbered-count j (rec ∷ recs) = ap suc (renumbered-count (j + cond (hasType R14 rec) 1 0) recs)
+renumbered-count j (rec ∷ recs) = ap suc (renumbered-count (j + cond (isOpening rec) 1 0) recs)
 
 pub renumbered-bytes : (j : ℕ) (recs : List (List ℕ)) → Whole recs → length (flatten (renumberedFrom j recs)) ≡ 120 * length recs
 renumbered-bytes j recs whole = flatten-length (renumberedFrom j recs) (renumbered-whole j recs whole) ∙ ap (λ (n : ℕ). 120 * n) (renumbered-count j recs)
@@ -45,7 +44,7 @@ anew-length f i to j ends within =
 
 -- the number of the record at index i
 abbrev pub numberAt : List ℕ → ℕ → ℕ → ℕ
-numberAt f i j = j + cond (hasType R14 (recordAt i f)) 1 0
+numberAt f i j = j + cond (isOpening (recordAt i f)) 1 0
 
 pub record Renumbering (f₀ : List ℕ) (from to before : ℕ) (f : List ℕ) (number i : ℕ) : Type 0 where
   pub begins : from ≤ i
@@ -79,7 +78,7 @@ module _ {f₀ : List ℕ} {from to before : ℕ} {f : List ℕ} {number i : ℕ
         record {
           begins = omega (arith, r .begins);
           ends = more;
-          few = omega (arith, r .begins, r .few, one-at-most (hasType R14 (recordAt i f)));
+          few = omega (arith, r .begins, r .few, one-at-most (isOpening (recordAt i f)));
           same = kept ∙ same;
           left = ap (λ (l : List ℕ). put (120 * suc i) (flatten (renumberedFrom j (cut (to - suc i) l))) next) behind ∙ (λ k. put (on k) rest (whole k)) ∙ sym (put-append (120 * i) rec rest f (omega arith)) ∙ sym now ∙ r .left;
         }

@@ -16,8 +16,7 @@ use Rattle.sequences.proofs.Groups.{Opens, groups-open}
 use Rattle.sequences.proofs.Part.{put-at, put-between, drop-two}
 use Rattle.fields.specs.Digits.{digits}
 use Rattle.fields.proofs.Decimal.{written-length}
-use Rattle.records.specs.Kinds.{hasType}
-use Rattle.records.specs.declared.kind.Kind.the-variants.{R14}
+use Rattle.records.specs.Kinds.{isOpening}
 use Rattle.flow.specs.Find.{dispositionsIn}
 use Rattle.flow.specs.Records.{cut, recordAt}
 use Rattle.flow.specs.declared.answer.Totals.{Totals}
@@ -32,20 +31,20 @@ use Rattle.amend.proofs.Renumbering.{renumbered-bytes}
 use Rattle.amend.proofs.Standing.{Standing}
 
 -- records that open no disposition get the number of the one before them
-others-numbered : (j : ℕ) (recs rest : List (List ℕ)) → All (λ (rec : List ℕ). hasType R14 rec ≡ false) recs → renumberedFrom j (recs ++ rest) ≡ map (renumbered j) recs ++ renumberedFrom j rest
+others-numbered : (j : ℕ) (recs rest : List (List ℕ)) → All (λ (rec : List ℕ). isOpening rec ≡ false) recs → renumberedFrom j (recs ++ rest) ≡ map (renumbered j) recs ++ renumberedFrom j rest
 unfolding renumberedFrom
 others-numbered j [] rest none = refl
 others-numbered j (rec ∷ recs) rest none =
     rw (none .0, add-zero j) (ap (λ (l : List (List ℕ)). renumbered j rec ∷ l) (others-numbered j recs rest (none .1)))
 
 -- record by record or disposition by disposition, the numbers are the same
-dispositions-numbered : (j : ℕ) (ds : List (List (List ℕ))) → All (Opens (hasType R14)) ds → renumberedFrom j (flatten ds) ≡ flatten (numberedFrom (suc j) ds)
+dispositions-numbered : (j : ℕ) (ds : List (List (List ℕ))) → All (Opens isOpening) ds → renumberedFrom j (flatten ds) ≡ flatten (numberedFrom (suc j) ds)
 unfolding renumberedFrom numberedFrom flatten
 dispositions-numbered j [] opens = refl
 dispositions-numbered j (d ∷ ds) opens =
     let o = opens .0 in
     let i = suc j in
-    let one : j + cond (hasType R14 (o .first)) 1 0 ≡ i = rw (o .passes) (add-one j) in
+    let one : j + cond (isOpening (o .first)) 1 0 ≡ i = rw (o .passes) (add-one j) in
     ap (λ (l : List (List ℕ)). renumberedFrom j (l ++ flatten ds)) (o .whole)
     ∙ ap (λ (n : ℕ). renumbered n (o .first) ∷ renumberedFrom n (o .others ++ flatten ds)) one
     ∙ ap (λ (l : List (List ℕ)). renumbered i (o .first) ∷ l) (others-numbered i (o .others) (flatten ds) (o .none))
@@ -149,7 +148,7 @@ module _ {f : List ℕ} {k : ℕ} {v : Target} (s : Standing f k v) where
       let ds = dispositionsIn f in
       let some = s .some in
       let one : suc (k - 1) ≡ k = omega arith in
-      let opens : All (Opens (hasType R14)) (drop k ds) = all-behind (Opens (hasType R14)) (take k ds) (drop k ds) (subst (All (Opens (hasType R14))) (sym (take-append-drop k ds)) (groups-open (hasType R14) (untilTrailer f))) in
+      let opens : All (Opens isOpening) (drop k ds) = all-behind (Opens isOpening) (take k ds) (drop k ds) (subst (All (Opens isOpening)) (sym (take-append-drop k ds)) (groups-open isOpening (untilTrailer f))) in
       let later : flatten (numberedFrom k (drop k ds)) ≡ renumberedFrom (k - 1) (behind s) = sym (dispositions-numbered (k - 1) (drop k ds) opens ∙ ap (λ (i : ℕ). flatten (numberedFrom i (drop k ds))) one) in
       let middle : flatten (without k ds) ≡ flatten (take (k - 1) ds) ++ renumberedFrom (k - 1) (behind s) = flatten-append (take (k - 1) ds) (numberedFrom k (drop k ds)) ∙ ap (λ (l : List (List ℕ)). flatten (take (k - 1) ds) ++ l) later in
       ap (λ (l : List (List ℕ)). flatten ((recordAt 0 f ∷ l) ++ (counts ∷ []))) middle ∙ flatten-append ((before s) ++ renumberedFrom (k - 1) (behind s)) (counts ∷ [])

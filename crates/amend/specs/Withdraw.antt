@@ -7,8 +7,7 @@ use mathlib.Core.List.{List, [], _∷_, _++_, map, flatten}
 use lib.Dec.{ltb}
 use lib.ListN.{length, take, drop, replicate}
 use Rattle.fields.specs.Digits.{digits}
-use Rattle.records.specs.Kinds.{hasType}
-use Rattle.records.specs.declared.kind.Kind.the-variants.{R14}
+use Rattle.records.specs.Kinds.{isOpening}
 use Rattle.flow.specs.Find.{dispositionsIn}
 use Rattle.flow.specs.Records.{recordAt}
 use Rattle.flow.specs.Seek.{seek}
@@ -33,7 +32,7 @@ without k ds = take (k - 1) ds ++ numberedFrom k (drop k ds)
 -- for the contract of a private function: records behind disposition j, one more at each 14
 unfoldable pub renumberedFrom : ℕ → List (List ℕ) → List (List ℕ)
 renumberedFrom j [] = []
-renumberedFrom j (rec ∷ recs) = let i = j + cond (hasType R14 rec) 1 0 in renumbered i rec ∷ renumberedFrom i recs
+renumberedFrom j (rec ∷ recs) = let i = j + cond (isOpening rec) 1 0 in renumbered i rec ∷ renumberedFrom i recs
 
 -- the totals without disposition k: it, its cents and its records go
 abbrev pub totalsLeft : Target → Totals

@@ -18,7 +18,6 @@ use flow::Answer;
 use flow::Refusal;
 use flow::Sought;
 use flow::Totals;
-use records::Kind;
 
 // What a withdrawal answers: the totals of the flow left and its length; or the refusal, and the
 // length that it was lent.
@@ -102,7 +101,7 @@ fn renumber(flow: &mut [u8], from: usize, to: usize, before: u64)
     let mut shown = seven_digits(before);
     let mut i = from;
     while i < to {
-        if records::has_type(&flow[120 * i..120 * i + 120], Kind::R14) {
+        if records::is_opening(&flow[120 * i..120 * i + 120]) {
             number += 1;
             shown = seven_digits(number);
         }

@@ -15,7 +15,8 @@ use Rattle.sequences.proofs.Groups.{Opens, lead-joined, groups-joined}
 use Rattle.sequences.proofs.Part.{part-length, part-put, put-at}
 use Rattle.fields.specs.Digits.{digits, number}
 use Rattle.fields.proofs.Decimal.{written-length}
-use Rattle.records.specs.Field.{Span, _to_, field}
+use Rattle.records.specs.Amount.{amountSpan, amountIn}
+use Rattle.records.specs.Field.{Span, _to_, firstOf, lastOf}
 use Rattle.records.specs.Kinds.{heads, opens}
 use Rattle.records.specs.declared.kind.Kind.{Kind}
 use Rattle.records.specs.declared.kind.Kind.the-variants.{Im, R14}
@@ -25,14 +26,14 @@ use Rattle.grammar.specs.Grammar.{Typed, kindsOf, Numbered, RightDisposition, G
 use Rattle.grammar.specs.Grammar.{amountOf as Grammar·amountOf}
 use Rattle.grammar.proofs.Dispositions.{Detail, each-detail, detail-opens, Opened, opened-by, opened-so, Member, InShape}
 use Rattle.grammar.proofs.Grammar.{grammar-shape}
-use Rattle.list.specs.Encode.{amountIndex, amountIn, amountOf, centsOf}
+use Rattle.list.specs.Encode.{amountIndex, amountCarried, amountOf, centsOf}
 use Rattle.list.specs.Items.{Item, item, recordKind, isD}
 use Rattle.list.specs.ReadBack.{gather, itemsOf}
 use Rattle.list.specs.Table.{recordOf, carried}
 use Rattle.list.proofs.Carried.{gather-at}
 use Rattle.list.proofs.RecordsAgain.{kindFor, ownItem}
 use Rattle.list.proofs.Rewritten.{own-list-items}
-use Rattle.list.proofs.TableSpans.{first, carried-within, carried-behind-number}
+use Rattle.list.proofs.TableSpans.{carried-within, carried-behind-number}
 use Rattle.amend.specs.Withdraw.{renumbered}
 use Rattle.amend.proofs.Among.{Among}
 use Rattle.amend.proofs.Kept.{over-kept}
@@ -117,7 +118,7 @@ module _ (f : List ℕ) (k : ℕ) (v : Target) (w : Among f k v) where
 
 -- bytes carried from behind the number are not touched by another number
 gather-kept :
-    (ss : List Span) (rec other : List ℕ) → All (λ (t : Span). 10 ≤ first t - 1) ss → ((a n : ℕ) → 10 ≤ a → part a n other ≡ part a n rec) → gather ss other ≡ gather ss rec
+    (ss : List Span) (rec other : List ℕ) → All (λ (t : Span). 10 ≤ firstOf t - 1) ss → ((a n : ℕ) → 10 ≤ a → part a n other ≡ part a n rec) → gather ss other ≡ gather ss rec
 unfolding flatten
 gather-kept [] rec other behind same = refl
 gather-kept ((a to e) ∷ ss) rec other behind same =
@@ -181,13 +182,13 @@ details-cents : (rs : List Typed) → All Detail (kindsOf rs) → centsOf (map o
 unfolding centsOf
 details-cents [] details = refl
 details-cents (r ∷ rs) details =
-    let none : amountOf (ownItem r) ≡ 0 = ap (λ (b : Bool). cond b (number (amountIn (ownItem r .body))) 0) (detail-shut (r .kind) (details .0)) in
+    let none : amountOf (ownItem r) ≡ 0 = ap (λ (b : Bool). cond b (number (amountCarried (ownItem r .body))) 0) (detail-shut (r .kind) (details .0)) in
     omega (arith, details-cents rs (details .1))
 
-opening-cents : (r : Typed) → r .kind ≡ R14 → length (r .bytes) ≡ 120 → amountOf (ownItem r) ≡ number (field 34 46 (r .bytes))
+opening-cents : (r : Typed) → r .kind ≡ R14 → length (r .bytes) ≡ 120 → amountOf (ownItem r) ≡ number (amountIn (r .bytes))
 opening-cents r e whole =
-    subst (λ (k : Kind). amountOf (item (kindFor k) (gather (carried (kindFor k)) (r .bytes))) ≡ number (field 34 46 (r .bytes))) (sym e)
-    (ap number (gather-at (carried (kindFor R14)) 34 46 (r .bytes) (carried-within (kindFor R14)) whole refl))
+    subst (λ (k : Kind). amountOf (item (kindFor k) (gather (carried (kindFor k)) (r .bytes))) ≡ number (amountIn (r .bytes))) (sym e)
+    (ap number (gather-at (carried (kindFor R14)) (firstOf amountSpan) (lastOf amountSpan) (r .bytes) (carried-within (kindFor R14)) whole refl))
 
 disposition-cents : (abi : List ℕ) (i : ℕ) (d : List Typed) → RightDisposition abi i d → centsOf (map ownItem d) ≡ Grammar·amountOf d
 unfolding centsOf

@@ -13,12 +13,12 @@ use Rattle.sequences.specs.All.{All}
 use Rattle.sequences.specs.Part.{part, put}
 use Rattle.sequences.specs.Sum.{sum}
 use Rattle.sequences.proofs.Part.{part-length, part-put, put-length}
-use Rattle.records.specs.Field.{Span, _to_, width, field}
+use Rattle.records.specs.Field.{Span, _to_, width, field, firstOf}
 use Rattle.records.proofs.Checked.{field-within}
 use Rattle.list.specs.Encode.{fill, bodyPlaced, indexIn}
 use Rattle.list.specs.ReadBack.{gather}
 use Rattle.list.proofs.Placing.{Fits, Outside, Matches, fill-outside}
-use Rattle.list.proofs.TableSpans.{first, Within, Rising}
+use Rattle.list.proofs.TableSpans.{Within, Rising}
 
 -- a body as long as the spans: what of it goes to the first, and the rest
 pub split-first : (s : Span) (ss : List Span) (body : List ℕ) → sum (map width (s ∷ ss)) ≡ length body → (length (take (width s) body) ≡ width s) × (sum (map width ss) ≡ length (drop (width s) body))
@@ -35,7 +35,7 @@ body-fits ((a to f) ∷ ss) body within e =
     let starts = within .0 .starts in
     (omega (arith, sizes .0), body-fits ss (drop (width (a to f)) body) (within .1) (sizes .1))
 
-pub body-outside : (a n : ℕ) (ss : List Span) (body : List ℕ) → All (λ (t : Span). a + n ≤ first t - 1) ss → All (Outside a n) (bodyPlaced ss body)
+pub body-outside : (a n : ℕ) (ss : List Span) (body : List ℕ) → All (λ (t : Span). a + n ≤ firstOf t - 1) ss → All (Outside a n) (bodyPlaced ss body)
 unfolding bodyPlaced
 body-outside a n [] body behind = tt
 body-outside a n ((b to f) ∷ ss) body behind = (inl (behind .0), body-outside a n ss (drop (width (b to f)) body) (behind .1))
@@ -56,7 +56,7 @@ gather-placed ((a to f) ∷ ss) body xs within rising e whole =
     let fits : a - 1 + length (take w body) ≤ length xs = omega (arith, sizes .0) in
     let size : length over ≡ 120 = put-length (a - 1) (take w body) xs fits ∙ whole in
     let end : a - 1 + w ≡ f = omega arith in
-    let behind : All (λ (t : Span). a - 1 + w ≤ first t - 1) ss = rw end (rising .0) in
+    let behind : All (λ (t : Span). a - 1 + w ≤ firstOf t - 1) ss = rw end (rising .0) in
     let here : field a f (fill (bodyPlaced ss rest) over) ≡ take w body =
     fill-outside (a - 1) w (bodyPlaced ss rest) over (body-fits ss rest (within .1) (sizes .1)) size (body-outside (a - 1) w ss rest behind)
     ∙ ap (λ (n : ℕ). part (a - 1) n over) (sym (sizes .0))

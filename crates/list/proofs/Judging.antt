@@ -9,11 +9,12 @@ use lib.ListN.{length, take, length-map}
 use Rattle.sequences.specs.All.{All}
 use Rattle.sequences.proofs.All.{all-at}
 use Rattle.fields.specs.Digits.{number}
+use Rattle.records.specs.Amount.{amountSpan, amountIn}
+use Rattle.records.specs.Field.{firstOf, lastOf}
 use Rattle.records.specs.Context.{headerOf}
-use Rattle.records.specs.Field.{field}
-use Rattle.records.specs.Kinds.{hasType, heads, opened, closes}
+use Rattle.records.specs.Kinds.{heads, opened, closes, isOpening}
 use Rattle.records.specs.declared.kind.Kind.{Kind}
-use Rattle.records.specs.declared.kind.Kind.the-variants.{R14, Ef}
+use Rattle.records.specs.declared.kind.Kind.the-variants.{Ef}
 use Rattle.records.proofs.ByKind.{type-tested, opens-type}
 use Rattle.records.proofs.EachKind.{closes-ef}
 use Rattle.flow.specs.Judge.{go}
@@ -27,7 +28,7 @@ use Rattle.grammar.specs.Grammar.{Typed, kindsOf, recordsIn}
 use Rattle.grammar.proofs.Behind.{FromStart, FaultNext, formed-so, same-kinds}
 use Rattle.grammar.proofs.FirstFault.{ends-so, stops-so}
 use Rattle.grammar.proofs.Walked.{stateBehind, state-counts, Outcome, all-right, stops, outcome}
-use Rattle.list.specs.Encode.{carriedAt, headerBehind, lastHeader, amountIn, dispositionsOf, amountOf, centsOf, encodeItem, encodeFrom, recordsFor}
+use Rattle.list.specs.Encode.{carriedAt, headerBehind, lastHeader, amountCarried, dispositionsOf, amountOf, centsOf, encodeItem, encodeFrom, recordsFor}
 use Rattle.list.specs.Items.{Item, recordKind, isD, Proper}
 use Rattle.list.specs.Table.{carried}
 use Rattle.list.specs.Write.{closed, judgeItems}
@@ -94,18 +95,18 @@ pub right-kinds : (is : List Item) → All Proper is → (r : RightItems is) →
 right-kinds is proper r = same-kinds (front is) (r .typed) (r .walked) (kindsIn is) (subst (HaveKinds (kindsIn is)) (sym (r .same)) (kinds-had 0 [] is proper))
 
 -- their sums are those of the items
-pub encoded-amount : (n : ℕ) (header : List ℕ) (it : Item) → Proper it → cond (isD it) (number (field 34 46 (encodeItem n header it))) 0 ≡ amountOf it
+pub encoded-amount : (n : ℕ) (header : List ℕ) (it : Item) → Proper it → cond (isD it) (number (amountIn (encodeItem n header it))) 0 ≡ amountOf it
 encoded-amount n header it proper = by (isD it) refl
   where
-    by : (b : Bool) → isD it ≡ b → cond b (number (field 34 46 (encodeItem n header it))) 0 ≡ cond b (number (amountIn (it .body))) 0
+    by : (b : Bool) → isD it ≡ b → cond b (number (amountIn (encodeItem n header it))) 0 ≡ cond b (number (amountCarried (it .body))) 0
     by true e =
         let kind = opens-d (it .kind) e in
-        let inside : inOne (carried (it .kind)) 34 46 ≡ true = rw kind refl in
-        let stands : carriedAt (it .kind) 34 46 (it .body) ≡ amountIn (it .body) = ap (λ (k : ItemKind). carriedAt k 34 46 (it .body)) kind in
-        ap number (encoded-at n header it proper 34 46 inside ∙ stands)
+        let inside : inOne (carried (it .kind)) (firstOf amountSpan) (lastOf amountSpan) ≡ true = rw kind refl in
+        let stands : carriedAt (it .kind) amountSpan (it .body) ≡ amountCarried (it .body) = ap (λ (k : ItemKind). carriedAt k amountSpan (it .body)) kind in
+        ap number (encoded-at n header it proper (firstOf amountSpan) (lastOf amountSpan) inside ∙ stands)
     by false e = refl
 
-pub encoded-opens : (n : ℕ) (header : List ℕ) (it : Item) → Proper it → hasType R14 (encodeItem n header it) ≡ isD it
+pub encoded-opens : (n : ℕ) (header : List ℕ) (it : Item) → Proper it → isOpening (encodeItem n header it) ≡ isD it
 encoded-opens n header it proper =
     sym (opens-type (recordKind it) (encodeItem n header it) (type-tested (recordKind it) (encodeItem n header it) (encoded-type n header it proper)))
 

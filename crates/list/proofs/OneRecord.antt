@@ -12,7 +12,7 @@ use Rattle.sequences.proofs.All.{all-append}
 use Rattle.sequences.proofs.Part.{part-at-most, part-put, put-length}
 use Rattle.fields.specs.Digits.{digits}
 use Rattle.fields.proofs.Decimal.{written-length}
-use Rattle.records.specs.Field.{field}
+use Rattle.records.specs.Field.{_to_, field}
 use Rattle.records.specs.Kinds.{typeOf, heads}
 use Rattle.records.specs.declared.kind.Kind.{Kind}
 use Rattle.records.proofs.EachKind.{each-kind}
@@ -125,6 +125,6 @@ module _ (n : ℕ) (header : List ℕ) (it : Item) (proper : Proper it) where
       ∙ gather-placed (carried kind) (it .body) (fill own withType) (carried-within kind) (carried-rising kind) body-size (fill-length own withType own-fits type-size)
 
   -- positions that the body carries stand in the record as they stand in the body
-  pub encoded-at : (a e : ℕ) → inOne (carried kind) a e ≡ true → field a e (encodeItem n header it) ≡ carriedAt kind a e (it .body)
+  pub encoded-at : (a e : ℕ) → inOne (carried kind) a e ≡ true → field a e (encodeItem n header it) ≡ carriedAt kind (a to e) (it .body)
   encoded-at a e t =
-      sym (gather-at (carried kind) a e (encodeItem n header it) (carried-within kind) encoded-length t) ∙ ap (carriedAt kind a e) encoded-body
+      sym (gather-at (carried kind) a e (encodeItem n header it) (carried-within kind) encoded-length t) ∙ ap (carriedAt kind (a to e)) encoded-body

@@ -13,33 +13,26 @@ use borrow.Author.Tests.{leb-true}
 use Rattle.sequences.specs.All.{All}
 use Rattle.sequences.specs.Sum.{sum}
 use Rattle.sequences.proofs.All.{all-getD}
-use Rattle.records.specs.Field.{Span, _to_, width}
+use Rattle.records.specs.Field.{Span, _to_, firstOf, lastOf, width}
 use Rattle.records.specs.Kinds.{heads}
 use Rattle.list.specs.Table.{recordOf, carried, bodyLength, fourOf, bounds, boundsOf}
 use Rattle.list.specs.declared.table.ItemKind.{ItemKind}
 use Rattle.list.proofs.ItemKinds.{each-item}
 
--- the first and the last position
-abbrev pub first : Span → ℕ
-first (a to e) = a
-
-abbrev pub last : Span → ℕ
-last (a to e) = e
-
 -- positions of a record, or none
 pub record Within (s : Span) : Type 0 where
-  pub starts : 1 ≤ first s
-  pub ordered : first s - 1 ≤ last s
-  pub ends : last s ≤ 120
+  pub starts : 1 ≤ firstOf s
+  pub ordered : firstOf s - 1 ≤ lastOf s
+  pub ends : lastOf s ≤ 120
 
 abbrev pub is-within : Span → Bool
-is-within s = leb 1 (first s) && (leb (first s - 1) (last s) && leb (last s) 120)
+is-within s = leb 1 (firstOf s) && (leb (firstOf s - 1) (lastOf s) && leb (lastOf s) 120)
 
 within-so : (s : Span) → is-within s ≡ true → Within s
 within-so s t =
-    let one = and-eq-true-iff (leb 1 (first s)) (leb (first s - 1) (last s) && leb (last s) 120) .0 t in
-    let two = and-eq-true-iff (leb (first s - 1) (last s)) (leb (last s) 120) .0 (one .1) in
-    record { starts = leb-true 1 (first s) (one .0); ordered = leb-true (first s - 1) (last s) (two .0); ends = leb-true (last s) 120 (two .1) }
+    let one = and-eq-true-iff (leb 1 (firstOf s)) (leb (firstOf s - 1) (lastOf s) && leb (lastOf s) 120) .0 t in
+    let two = and-eq-true-iff (leb (firstOf s - 1) (lastOf s)) (leb (lastOf s) 120) .0 (one .1) in
+    record { starts = leb-true 1 (firstOf s) (one .0); ordered = leb-true (firstOf s - 1) (lastOf s) (two .0); ends = leb-true (lastOf s) 120 (two .1) }
 
 abbrev pub are-within : List Span → Bool
 are-within [] = true
@@ -66,12 +59,12 @@ pub four-widths : (k : ItemKind) → sum (map width (fourOf (carried k))) ≡ bo
 four-widths = each-item (λ (k : ItemKind). sum (map width (fourOf (carried k))) ≡ bodyLength k) (refl, (refl, (refl, (refl, (refl, (refl, (refl, (refl, (refl, (refl, tt))))))))))
 
 -- the span at index i by its two numbers
-pub bounds-first : (ss : List Span) (i : ℕ) → i < length ss → getD (bounds ss) (2 * i) 0 ≡ first (getD ss i (1 to 0))
+pub bounds-first : (ss : List Span) (i : ℕ) → i < length ss → getD (bounds ss) (2 * i) 0 ≡ firstOf (getD ss i (1 to 0))
 bounds-first [] i h = absurd (not-suc-le-zero h)
 bounds-first ((a to e) ∷ ss) zero h = refl
 bounds-first ((a to e) ∷ ss) (suc i) h = let on : 2 * suc i ≡ suc (suc (2 * i)) = omega arith in rw on (bounds-first ss i (le-of-suc-le-suc h))
 
-pub bounds-last : (ss : List Span) (i : ℕ) → i < length ss → getD (bounds ss) (2 * i + 1) 0 ≡ last (getD ss i (1 to 0))
+pub bounds-last : (ss : List Span) (i : ℕ) → i < length ss → getD (bounds ss) (2 * i + 1) 0 ≡ lastOf (getD ss i (1 to 0))
 bounds-last [] i h = absurd (not-suc-le-zero h)
 bounds-last ((a to e) ∷ ss) zero h = refl
 bounds-last ((a to e) ∷ ss) (suc i) h = let on : 2 * suc i + 1 ≡ suc (suc (2 * i + 1)) = omega arith in rw on (bounds-last ss i (le-of-suc-le-suc h))
@@ -87,7 +80,7 @@ span-at k i h =
     let counted : i < length ss = rw four-count h in
     whole (getD ss i (1 to 0)) ∙ (λ j. sym (bounds-first ss i counted) j to sym (bounds-last ss i counted) j)
   where
-    whole : (s : Span) → s ≡ (first s to last s)
+    whole : (s : Span) → s ≡ (firstOf s to lastOf s)
     whole (a to e) = refl
 
 pub span-within : (k : ItemKind) (i : ℕ) → i < 4 → Within (spanAt (boundsOf k) i)
@@ -111,35 +104,35 @@ four-padded = each-item (λ (k : ItemKind). fourOf (carried k) ≡ carried k ++ 
 -- spans one behind the other
 abbrev pub Rising : List Span → Type 0
 Rising [] = Unit
-Rising (s ∷ ss) = All (λ (t : Span). last s ≤ first t - 1) ss × Rising ss
+Rising (s ∷ ss) = All (λ (t : Span). lastOf s ≤ firstOf t - 1) ss × Rising ss
 
 abbrev all-from : ℕ → List Span → Bool
 all-from n [] = true
-all-from n (s ∷ ss) = leb n (first s - 1) && all-from n ss
+all-from n (s ∷ ss) = leb n (firstOf s - 1) && all-from n ss
 
 abbrev is-rising : List Span → Bool
 is-rising [] = true
-is-rising (s ∷ ss) = all-from (last s) ss && is-rising ss
+is-rising (s ∷ ss) = all-from (lastOf s) ss && is-rising ss
 
-from-so : (n : ℕ) (ss : List Span) → all-from n ss ≡ true → All (λ (t : Span). n ≤ first t - 1) ss
+from-so : (n : ℕ) (ss : List Span) → all-from n ss ≡ true → All (λ (t : Span). n ≤ firstOf t - 1) ss
 from-so n [] t = tt
 from-so n (s ∷ ss) t =
-    let both = and-eq-true-iff (leb n (first s - 1)) (all-from n ss) .0 t in
-    (leb-true n (first s - 1) (both .0), from-so n ss (both .1))
+    let both = and-eq-true-iff (leb n (firstOf s - 1)) (all-from n ss) .0 t in
+    (leb-true n (firstOf s - 1) (both .0), from-so n ss (both .1))
 
 rising-so : (ss : List Span) → is-rising ss ≡ true → Rising ss
 rising-so [] t = tt
 rising-so (s ∷ ss) t =
-    let both = and-eq-true-iff (all-from (last s) ss) (is-rising ss) .0 t in
-    (from-so (last s) ss (both .0), rising-so ss (both .1))
+    let both = and-eq-true-iff (all-from (lastOf s) ss) (is-rising ss) .0 t in
+    (from-so (lastOf s) ss (both .0), rising-so ss (both .1))
 
 pub carried-rising : (k : ItemKind) → Rising (carried k)
 carried-rising k = rising-so (carried k) (each-item (λ (k : ItemKind). is-rising (carried k) ≡ true) (refl, (refl, (refl, (refl, (refl, (refl, (refl, (refl, (refl, (refl, tt)))))))))) k)
 
 -- no kind carries position 3 or one before it
-pub carried-behind : (k : ItemKind) → All (λ (t : Span). 3 ≤ first t - 1) (carried k)
+pub carried-behind : (k : ItemKind) → All (λ (t : Span). 3 ≤ firstOf t - 1) (carried k)
 carried-behind k = from-so 3 (carried k) (each-item (λ (k : ItemKind). all-from 3 (carried k) ≡ true) (refl, (refl, (refl, (refl, (refl, (refl, (refl, (refl, (refl, (refl, tt)))))))))) k)
 
 -- nor does one but H carry a position of the number
-pub carried-behind-number : (k : ItemKind) → heads (recordOf k) ≡ false → All (λ (t : Span). 10 ≤ first t - 1) (carried k)
+pub carried-behind-number : (k : ItemKind) → heads (recordOf k) ≡ false → All (λ (t : Span). 10 ≤ firstOf t - 1) (carried k)
 carried-behind-number k member = from-so 10 (carried k) (each-item (λ (k : ItemKind). heads (recordOf k) ≡ false → all-from 10 (carried k) ≡ true) (λ e. absurd (true≢false e), (λ e. refl, (λ e. refl, (λ e. refl, (λ e. refl, (λ e. refl, (λ e. refl, (λ e. refl, (λ e. refl, (λ e. refl, tt)))))))))) k member)

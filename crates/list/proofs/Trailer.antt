@@ -40,7 +40,7 @@ pub record Counted (t : Totals) : Type 0 where
 -- `header` is a body of H that carries what the record `im` has
 pub record Meant (im header : List ℕ) : Type 0 where
   pub sized : length header ≡ 49
-  pub carries : (a e : ℕ) → inOne (carried H) a e ≡ true → field a e im ≡ carriedAt H a e header
+  pub carries : (a e : ℕ) → inOne (carried H) a e ≡ true → field a e im ≡ carriedAt H (a to e) header
   pub printable : All Printable im
   pub code : field 114 114 im ≡ currency
 

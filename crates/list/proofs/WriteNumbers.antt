@@ -15,9 +15,8 @@ use Rattle.records.specs.Checks.{checks}
 use Rattle.records.specs.Context.{Context}
 use Rattle.records.specs.Field.{field}
 use Rattle.records.specs.Finding.{Check, check, FirstBroken}
-use Rattle.records.specs.Kinds.{typeOf, hasType, heads, opened, closes}
+use Rattle.records.specs.Kinds.{typeOf, heads, opened, closes, isOpening}
 use Rattle.records.specs.declared.kind.Kind.{Kind}
-use Rattle.records.specs.declared.kind.Kind.the-variants.{R14}
 use Rattle.records.proofs.ByKind.{types-differ}
 use Rattle.records.proofs.EachKind.{each-kind}
 use Rattle.flow.specs.Records.{recordsOf}
@@ -66,7 +65,7 @@ encoded-supplied n header (it ∷ is) proper few [] rec behind same k type =
 encoded-supplied n header (it ∷ is) proper few (b ∷ before) rec behind same k type =
     let m = n + opened (recordKind it) in
     let own : encodeItem m header it ≡ b = head-eq-of-cons-eq same in
-    let opens-so : cond (hasType R14 b) 1 0 ≡ opened (recordKind it) = ap (λ (l : List ℕ). cond (hasType R14 l) 1 0) (sym own) ∙ ap (λ (t : Bool). cond t 1 0) (encoded-opens m header it (proper .0)) in
+    let opens-so : cond (isOpening b) 1 0 ≡ opened (recordKind it) = ap (λ (l : List ℕ). cond (isOpening l) 1 0) (sym own) ∙ ap (λ (t : Bool). cond t 1 0) (encoded-opens m header it (proper .0)) in
     let rest = encoded-supplied m (headerBehind header it) is (proper .1) (omega (arith, one-at-most (recordKind it))) before rec behind (tail-eq-of-cons-eq same) k type in
     record { not-ef = rest .not-ef; numbered = λ member. rest .numbered member ∙ omega arith }
 

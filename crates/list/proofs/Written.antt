@@ -14,7 +14,7 @@ use Rattle.sequences.specs.All.{All}
 use Rattle.records.specs.Checks.{checks}
 use Rattle.records.specs.Constants.{currency}
 use Rattle.records.specs.Context.{headerOf}
-use Rattle.records.specs.Field.{field}
+use Rattle.records.specs.Field.{_to_, field}
 use Rattle.records.specs.Finding.{Hold}
 use Rattle.records.specs.Kinds.{heads, opened}
 use Rattle.records.specs.declared.kind.Kind.{Kind}
@@ -114,8 +114,8 @@ module _ (it : Item) (others : List Item) (proper : All Proper (it ∷ others)) 
   meant =
       let kind : it .kind ≡ H = records-differ (it .kind) H (kinds .0) in
       let first = first-right (r .typed) (r .same) (r .walked) in
-      let carries : (a e : ℕ) → inOne (carried H) a e ≡ true → field a e im ≡ carriedAt H a e (it .body) = λ a e inside.
-      encoded-at (0 + opened (recordKind it)) [] it (proper .0) a e (subst (λ (k : ItemKind). inOne (carried k) a e ≡ true) (sym kind) inside) ∙ ap (λ (k : ItemKind). carriedAt k a e (it .body)) kind in
+      let carries : (a e : ℕ) → inOne (carried H) a e ≡ true → field a e im ≡ carriedAt H (a to e) (it .body) = λ a e inside.
+      encoded-at (0 + opened (recordKind it)) [] it (proper .0) a e (subst (λ (k : ItemKind). inOne (carried k) a e ≡ true) (sym kind) inside) ∙ ap (λ (k : ItemKind). carriedAt k (a to e) (it .body)) kind in
       subst (Meant im) (sym header-meant) (record { sized = proper .0 .sized ∙ ap bodyLength kind; carries = carries; printable = first .0; code = first .1 })
 
   -- with EF behind them they are a flow

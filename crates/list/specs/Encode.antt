@@ -6,8 +6,9 @@ use lib.Dec.{leb}
 use lib.ListN.{length, replicate, take, drop}
 use Rattle.sequences.specs.Part.{part, put}
 use Rattle.fields.specs.Digits.{number, digits}
+use Rattle.records.specs.Amount.{amountSpan}
 use Rattle.records.specs.Constants.{causale, sign, currency}
-use Rattle.records.specs.Field.{Span, _to_, width}
+use Rattle.records.specs.Field.{Span, _to_, width, firstOf}
 use Rattle.records.specs.Kinds.{typeOf, heads, opened}
 use Rattle.records.specs.declared.kind.Kind.{Kind}
 use Rattle.records.specs.declared.kind.Kind.the-variants.{Im, R14, R16, R20, R30, R40, R50, R59, R51, R70, Ef}
@@ -36,15 +37,15 @@ indexIn [] p = 0
 indexIn ((a to e) ∷ ss) p = cond (leb a p && leb p e) (p - a) (width (a to e) + indexIn ss p)
 
 -- positions a to e of its record, as a body of the kind carries them
-abbrev pub carriedAt : ItemKind → ℕ → ℕ → List ℕ → List ℕ
-carriedAt k a e body = part (indexIn (carried k) a) (width (a to e)) body
+abbrev pub carriedAt : ItemKind → Span → List ℕ → List ℕ
+carriedAt k (a to e) body = part (indexIn (carried k) a) (width (a to e)) body
 
 -- what is copied from the body of an H: the ABI, 9-13, and for EF 4-45
 abbrev pub abiIn : List ℕ → List ℕ
-abiIn header = carriedAt H 9 13 header
+abiIn header = carriedAt H (9 to 13) header
 
 abbrev pub copiedIn : List ℕ → List ℕ
-copiedIn header = carriedAt H 4 45 header
+copiedIn header = carriedAt H (4 to 45) header
 
 -- what a record of the kind has beside its type and the carried bytes: "its number", which IM has not, "the fixed 07000, -, E", and "the
 -- ABI copied from H to 14 at 48-52"
@@ -105,10 +106,10 @@ lastHeader header (it ∷ is) = lastHeader (headerBehind header it) is
 
 -- the amount of a D, what its 34-46 say: where these begin in its body, and their bytes
 abbrev pub amountIndex : ℕ
-amountIndex = indexIn (carried D) 34
+amountIndex = indexIn (carried D) (firstOf amountSpan)
 
-abbrev pub amountIn : List ℕ → List ℕ
-amountIn body = carriedAt D 34 46 body
+abbrev pub amountCarried : List ℕ → List ℕ
+amountCarried body = carriedAt D amountSpan body
 
 -- the count of D items; and the sum of their amounts
 unfoldable pub dispositionsOf : List Item → ℕ
@@ -116,7 +117,7 @@ dispositionsOf [] = 0
 dispositionsOf (it ∷ is) = opened (recordKind it) + dispositionsOf is
 
 abbrev pub amountOf : Item → ℕ
-amountOf it = cond (isD it) (number (amountIn (it .body))) 0
+amountOf it = cond (isD it) (number (amountCarried (it .body))) 0
 
 unfoldable pub centsOf : List Item → ℕ
 centsOf [] = 0

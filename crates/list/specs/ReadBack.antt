@@ -4,7 +4,7 @@ use mathlib.Core.Bool.{cond}
 use mathlib.Core.List.{List, [], _∷_, map, flatten}
 use mathlib.Core.Path.{_≡_}
 use lib.ListN.{length}
-use Rattle.records.specs.Field.{Span, _to_, field}
+use Rattle.records.specs.Field.{Span, fieldAt}
 use Rattle.flow.specs.Judge.{judge}
 use Rattle.flow.specs.Output.{Output, output, withRoom}
 use Rattle.flow.specs.Records.{recordsOf}
@@ -19,9 +19,6 @@ use Rattle.list.specs.declared.table.Row.{Row}
 -- the bytes of a record at spans, in order
 abbrev pub gather : List Span → List ℕ → List ℕ
 gather ss rec = flatten (map (λ (s : Span). fieldAt s rec) ss)
-  where
-    fieldAt : Span → List ℕ → List ℕ
-    fieldAt (a to e) rec = field a e rec
 
 -- the item of a record: its kind, then its carried bytes as they stand; a record that the table does not have gives none
 abbrev pub itemOf : List ℕ → List Item

@@ -19,6 +19,13 @@ infix 30 _to_
 pub data Span : Type 0 where
   _to_ : ℕ → ℕ → Span
 
+-- the first of them, and the last
+abbrev pub firstOf : Span → ℕ
+firstOf (a to e) = a
+
+abbrev pub lastOf : Span → ℕ
+lastOf (a to e) = e
+
 -- how many there are
 abbrev pub width : Span → ℕ
 width (a to e) = e - (a - 1)

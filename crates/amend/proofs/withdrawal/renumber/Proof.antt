@@ -10,8 +10,7 @@ use native.Mathlib.Omega.{arith}
 use borrow.Author.Needs.{needs}
 use Rattle.sequences.specs.Part.{put}
 use Rattle.fields.specs.Digits.{digits}
-use Rattle.records.specs.Kinds.{hasType}
-use Rattle.records.specs.declared.kind.Kind.the-variants.{R14}
+use Rattle.records.specs.Kinds.{isOpening}
 use Rattle.flow.specs.Records.{recordAt}
 use Rattle.flow.proofs.Cut.{record-part}
 use Rattle.amend.proofs.Renumbering.{Renumbering, numberAt, renumbering, renumbered-next, renumbered-all}
@@ -30,8 +29,8 @@ number-so :
     (c .if1 .number ≡ numberAt (at .flow) (at .i) (at .number)) × (c .if1 .shown ≡ digits 7 (c .if1 .number))
 number-so c =
     let at = c .before .before .before .before .before .loop in
-    let typed : c .before .has-type .result ≡ hasType R14 (recordAt (at .i) (at .flow)) = c .before .has-type .ensures ∙ ap (hasType R14) (record-part (at .i) (at .flow)) in
-    let counted : (b : Bool) → c .before .has-type .result ≡ b → at .number + cond b 1 0 ≡ numberAt (at .flow) (at .i) (at .number) = λ b e. ap (λ (t : Bool). at .number + cond t 1 0) (sym e ∙ typed) in
+    let typed : c .before .is-opening .result ≡ isOpening (recordAt (at .i) (at .flow)) = c .before .is-opening .ensures ∙ ap isOpening (record-part (at .i) (at .flow)) in
+    let counted : (b : Bool) → c .before .is-opening .result ≡ b → at .number + cond b 1 0 ≡ numberAt (at .flow) (at .i) (at .number) = λ b e. ap (λ (t : Bool). at .number + cond t 1 0) (sym e ∙ typed) in
     ⊎-elim
     (λ w. (w .2 ∙ counted true (w .0 .taken), w .3 ∙ w .1 .ensures ∙ ap (digits 7) (sym (w .2))))
     (λ w. (w .1 ∙ sym (add-zero (at .number)) ∙ counted false (w .0 .left), w .2 ∙ at .inv .1 ∙ ap (digits 7) (sym (w .1))))
@@ -43,26 +42,26 @@ seven-digits-requires c κs = search needs
 loop-holds : tie.Need-loop-holds Inv-loop μ-loop
 loop-holds c = (renumbering _ _ _ _ (c .before .before .pre .0), c .seven-digits .ensures)
 
-mul-has-type : tie.Need-mul-has-type Inv-loop μ-loop
-mul-has-type c = omega arith
+mul-is-opening : tie.Need-mul-is-opening Inv-loop μ-loop
+mul-is-opening c = omega arith
 
-mul-has-type-2 : tie.Need-mul-has-type-2 Inv-loop μ-loop
-mul-has-type-2 c = omega arith
+mul-is-opening-2 : tie.Need-mul-is-opening-2 Inv-loop μ-loop
+mul-is-opening-2 c = omega arith
 
-add-has-type : tie.Need-add-has-type Inv-loop μ-loop
-add-has-type c = omega arith
+add-is-opening : tie.Need-add-is-opening Inv-loop μ-loop
+add-is-opening c = omega arith
 
-sub-has-type : tie.Need-sub-has-type Inv-loop μ-loop
-sub-has-type c = omega arith
+sub-is-opening : tie.Need-sub-is-opening Inv-loop μ-loop
+sub-is-opening c = omega arith
 
-part-has-type-start : tie.Need-part-has-type-start Inv-loop μ-loop
-part-has-type-start c = omega arith
+part-is-opening-start : tie.Need-part-is-opening-start Inv-loop μ-loop
+part-is-opening-start c = omega arith
 
-part-has-type-end : tie.Need-part-has-type-end Inv-loop μ-loop
-part-has-type-end c = omega arith
+part-is-opening-end : tie.Need-part-is-opening-end Inv-loop μ-loop
+part-is-opening-end c = omega arith
 
-has-type-requires : tie.Need-has-type-requires Inv-loop μ-loop
-has-type-requires c κs = omega arith
+is-opening-requires : tie.Need-is-opening-requires Inv-loop μ-loop
+is-opening-requires c κs = omega arith
 
 add-number : tie.Need-add-number Inv-loop μ-loop
 add-number c = omega arith
@@ -116,13 +115,13 @@ renumber-spec =
     μ-loop
     seven-digits-requires
     loop-holds
-    mul-has-type
-    mul-has-type-2
-    add-has-type
-    sub-has-type
-    part-has-type-start
-    part-has-type-end
-    has-type-requires
+    mul-is-opening
+    mul-is-opening-2
+    add-is-opening
+    sub-is-opening
+    part-is-opening-start
+    part-is-opening-end
+    is-opening-requires
     add-number
     seven-digits-requires-2
     mul-place-seven

@@ -8,7 +8,7 @@ use native.Mathlib.Omega.{arith}
 use lib.ListN.{length}
 use borrow.Author.Needs.{needs}
 use Rattle.records.specs.Context.{Header, headerOf}
-use Rattle.records.specs.Field.{field}
+use Rattle.records.specs.Field.{_to_, field}
 use Rattle.records.specs.Kinds.{heads, opened}
 use Rattle.records.specs.Finding.{finding}
 use Rattle.records.specs.declared.kind.Kind.{Kind}
@@ -176,7 +176,7 @@ loop-again c =
     let end : i + 1 + bodyLength k ≡ i + 1 + b .body-length .result = omega (arith, t .size-so) in
     let number : l .loop .dispositions + opened (recordOf k) ≡ c .before .before .before .before .before .before .before .before .before .before .before .counted .result = sym (c .before .before .before .before .before .before .before .before .before .before .before .counted .ensures) in
     let meant : cond (heads (recordOf k)) (itemAt list i k .body) (l .loop .header .now) ≡ c .header-behind .result .now = sym (c .header-behind .ensures ∙ ap (λ (body : List ℕ). cond (heads (recordOf k)) body (l .loop .header .now)) (t .body-so)) in
-    let company : latestOf (recordOf k) (l .loop .company .now) (carriedAt D 92 96 (itemAt list i k .body)) ≡ c .before .before .latest-company .result .now =
+    let company : latestOf (recordOf k) (l .loop .company .now) (carriedAt D (92 to 96) (itemAt list i k .body)) ≡ c .before .before .latest-company .result .now =
     sym (c .before .before .latest-company .ensures .0 ∙ ap₂ (λ (m : Kind) (code : List ℕ). latestOf m (l .loop .company .now) code) (c .before .before .before .record-of .ensures) (c .before .before .before .before .field .ensures .0 ∙ ap (field 37 41) (t .body-so))) in
     (omega (arith, t .ends), l .loop .inv .1, subst (λ (A : Type 0). A) (λ j. JudgingAt (header-of l) list (end j) (sym (add-one (l .loop .n)) j) (number j) (meant j) (sym (c .before .next .ensures) j) (company j)) on)
 
