@@ -4,19 +4,13 @@ ghost use lib.ListN.{length};
 ghost use Rattle.amend.specs.Amended.{amended};
 ghost use Rattle.amend.specs.Change.{change as Change·change};
 use crate::digits::place_number;
+use crate::refusals::AMOUNT_TOO_LARGE;
+use fields::MOST_AMOUNT;
 use flow::Answer;
 use flow::Sought;
+use flow::TOTAL_TOO_LARGE;
 use flow::Totals;
-
-// The most cents of a disposition, thirteen digits, and of a flow, fifteen.
-const MOST_CENTS: u64 = 9999999999999;
-
-const MOST_TOTAL: u64 = 999999999999999;
-
-// Document 01, "Numbers a clerk may see".
-const AMOUNT_TOO_LARGE: u64 = 16;
-
-const TOTAL_TOO_LARGE: u64 = 17;
+use records::MOST_CENTS;
 
 // Gives disposition k the amount, and answers the three numbers of the flow left. Refused, in this
 // order: what the reader refuses; 15, no such disposition; 16, an amount of more than thirteen digits;
@@ -28,7 +22,7 @@ pub fn change(flow: &mut [u8], k: u64, cents: u64) -> Answer
     match flow::seek(flow, k) {
         Sought::Refused(refusal) => Answer::Refused(refusal),
         Sought::At(target) => {
-            if MOST_CENTS < cents {
+            if MOST_AMOUNT < cents {
                 return Answer::Refused(flow::refusal_of_call(AMOUNT_TOO_LARGE));
             }
             let stand = target.stand;
@@ -38,7 +32,7 @@ pub fn change(flow: &mut [u8], k: u64, cents: u64) -> Answer
                 cents: before.cents - stand.cents + cents,
                 records: before.records,
             };
-            if MOST_TOTAL < totals.cents {
+            if MOST_CENTS < totals.cents {
                 return Answer::Refused(flow::refusal_of_call(TOTAL_TOO_LARGE));
             }
             place_number(flow, stand.first, 34, 46, cents);

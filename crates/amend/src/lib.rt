@@ -7,6 +7,7 @@
 // and a refused call changes no byte.
 mod amount;
 mod digits;
+mod refusals;
 mod withdrawal;
 
 pub use amount::change;

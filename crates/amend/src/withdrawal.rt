@@ -14,6 +14,7 @@ use crate::digits::index;
 use crate::digits::place_number;
 use crate::digits::place_seven;
 use crate::digits::seven_digits;
+use crate::refusals::ONLY_DISPOSITION;
 use flow::Answer;
 use flow::Refusal;
 use flow::Sought;
@@ -25,9 +26,6 @@ pub struct Withdrawn {
     pub answer: Answer,
     pub length: u64,
 }
-
-// Document 01, "Numbers a clerk may see".
-const ONLY_DISPOSITION: u64 = 18;
 
 // Takes disposition k out of the flow: its records go, later ones move up in order and are numbered
 // anew, the trailer gets the new counts, and the freed bytes at the end become blanks. Refused, in this

@@ -2,9 +2,9 @@
 ghost use mathlib.Core.Path.{_≡_};
 ghost use Rattle.fields.specs.Answer.{numberAnswer};
 ghost use Rattle.fields.specs.Amount.{amountField};
-use crate::NOT_DIGITS;
 use crate::Number;
 use crate::read_digits;
+use crate::refusals::NOT_DIGITS;
 
 // The cents that an amount of thirteen digits gives. Any other length and any byte that is no digit
 // is refused.

@@ -2,19 +2,17 @@
 ghost use mathlib.Core.Path.{_≡_};
 ghost use Rattle.fields.specs.Answer.{dateAnswer};
 ghost use Rattle.fields.specs.Date.{dateField};
-use crate::NOT_DIGITS;
 use crate::Number;
 use crate::calendar::has_day;
 use crate::read_digits;
+use crate::refusals::NOT_DIGITS;
+use crate::refusals::NO_SUCH_DAY;
 
 // What a date answers: its day of the calendar, or the number of the refusal.
 pub enum Date {
     On { day: u64, month: u64, year: u64 },
     Refused(u64),
 }
-
-// Document 01, "Numbers a clerk may see": digits, but no calendar date.
-pub const NO_SUCH_DAY: u64 = 8;
 
 // The day of the calendar that six digits give: day, month and the year's last two digits. What is
 // not six digits is refused, and then what is no day of the calendar.

@@ -4,18 +4,14 @@ ghost use lib.ListN.{length};
 ghost use Rattle.fields.specs.Answer.{numberAnswer};
 ghost use Rattle.fields.specs.Digits.{digitField};
 ghost use Rattle.fields.specs.Digits.{digits as Digits·digits};
+use crate::limits::MOST_DIGITS;
+use crate::refusals::NOT_DIGITS;
 
 // What a digit field or an amount answers: its number, or the number of the refusal.
 pub enum Number {
     Value(u64),
     Refused(u64),
 }
-
-// Document 01, "Numbers a clerk may see": not digits.
-pub const NOT_DIGITS: u64 = 5;
-
-// The most bytes that a digit field has: the totals of a trailer.
-const MOST: usize = 15;
 
 // The number that a field of 1 to 15 digits gives. Any other length and any byte that is no digit
 // is refused.
@@ -25,7 +21,7 @@ pub fn read_digits(field: &[u8]) -> Number
     if field.len() == 0 {
         return Number::Refused(NOT_DIGITS);
     }
-    if MOST < field.len() {
+    if MOST_DIGITS < field.len() {
         return Number::Refused(NOT_DIGITS);
     }
     let mut value: u64 = 0;

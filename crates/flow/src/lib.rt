@@ -7,9 +7,11 @@
 // it is, and nothing of it is copied. No public function has a `requires`, and none changes a byte.
 mod answer;
 mod fast_path;
+mod limits;
 mod location;
 mod order;
 mod reader;
+mod refusals;
 mod walk;
 
 pub use answer::Answer;
@@ -27,5 +29,7 @@ pub use order::Due;
 pub use order::Place;
 pub use reader::latest_company;
 pub use reader::read;
-pub use walk::WRONG_TYPE;
+pub use refusals::NO_ROOM;
+pub use refusals::TOTAL_TOO_LARGE;
+pub use refusals::WRONG_TYPE;
 pub use walk::Walk;

@@ -17,6 +17,7 @@ use crate::answer::Totals;
 use crate::answer::refusal_of_call;
 use crate::reader::count;
 use crate::reader::read;
+use crate::refusals::NO_DISPOSITION;
 use fields::Number;
 
 // Where disposition k stands; or refused.
@@ -42,9 +43,6 @@ pub struct Target {
     pub totals: Totals,
     pub stand: Stand,
 }
-
-// Document 01, "Numbers a clerk may see".
-const NO_DISPOSITION: u64 = 15;
 
 // Where disposition k of the flow stands, counted from 1. What the reader refuses is refused with its
 // three numbers, and then a k of 0 or above the count by 15.

@@ -16,17 +16,13 @@ use crate::answer::Refusal;
 use crate::answer::Totals;
 use crate::answer::refusal_of_call;
 use crate::fast_path::pass_over;
+use crate::limits::MOST_BYTES;
+use crate::refusals::ENDED;
 use crate::walk::Walk;
 use records::Judged;
 use records::Kind;
 use records::WRONG_LENGTH;
 use records::field;
-
-// The most bytes of a flow: the trailer counts its records in seven digits.
-const MOST: usize = 1199999880;
-
-// Document 01, "Numbers a clerk may see".
-const ENDED: u64 = 4;
 
 // The answer to a flow: its counts where it keeps the rules, and else its first fault. Any bytes, of
 // any length.
@@ -49,7 +45,7 @@ fn is_length(n: usize) -> bool
     if n % 120 != 0 {
         return false;
     }
-    n <= MOST
+    n <= MOST_BYTES
 }
 
 // Each record in turn, with the header: by the rules, and then those that are passed over.

@@ -9,11 +9,15 @@ ghost use Rattle.records.specs.Limits.{countLimit};
 ghost use Rattle.flow.specs.Order.{isDue, mayClose, permitted};
 ghost use Rattle.flow.specs.Steps.{step, stopped, counted, judgeRecord};
 ghost use Rattle.flow.specs.Steps.{start as Steps·start};
+use crate::limits::CENTS_LIMIT;
+use crate::limits::COUNT_LIMIT;
 use crate::order::Due;
 use crate::order::Found;
 use crate::order::Place;
 use crate::order::kind_due;
 use crate::order::place_after;
+use crate::refusals::BAD_BYTE;
+use crate::refusals::WRONG_TYPE;
 use records::Counts;
 use records::Judged;
 use records::Kind;
@@ -27,15 +31,6 @@ pub struct Walk {
     pub dispositions: u64,
     pub cents: u64,
 }
-
-const COUNT_LIMIT: u64 = 10000000;
-
-const CENTS_LIMIT: u64 = 1000000000000000;
-
-// Document 01, "Numbers a clerk may see".
-const BAD_BYTE: u64 = 2;
-
-pub const WRONG_TYPE: u64 = 3;
 
 impl Walk {
     // Before the header.

@@ -7,7 +7,9 @@
 mod count;
 mod encode;
 mod filled;
+mod limits;
 mod own_list;
+mod refusals;
 mod table;
 mod writer;
 

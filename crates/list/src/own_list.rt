@@ -17,8 +17,8 @@ use crate::table::carried;
 use crate::table::letter;
 use crate::table::row_in;
 use crate::table::width;
-use crate::writer::NO_ROOM;
 use flow::Answer;
+use flow::NO_ROOM;
 use records::field;
 
 // Writes the flow's list at the front of out, and answers the flow's totals and the list's length.

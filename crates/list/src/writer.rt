@@ -22,31 +22,23 @@ use crate::encode::encode_item;
 use crate::encode::encode_trailer;
 use crate::encode::place;
 use crate::filled::Filled;
+use crate::limits::MOST_ITEMS;
+use crate::refusals::NO_ITEM;
 use crate::table::ItemKind;
 use crate::table::body_length;
 use crate::table::kind_of;
 use crate::table::record_of;
 use flow::Answer;
+use flow::NO_ROOM;
 use flow::Refusal;
+use flow::TOTAL_TOO_LARGE;
 use flow::Totals;
 use flow::WRONG_TYPE;
 use flow::Walk;
 use records::Judged;
+use records::MOST_CENTS;
 use records::WRONG_LENGTH;
 use records::field;
-
-// The most items of a list: a flow has 9,999,999 records at the most, and one of them is EF.
-const MOST: usize = 9999998;
-
-// The most cents of a flow: the trailer's fifteen digits.
-const MOST_CENTS: u64 = 999999999999999;
-
-// Document 01, "Numbers a clerk may see".
-const TOTAL_TOO_LARGE: u64 = 17;
-
-const NO_ITEM: u64 = 20;
-
-pub(crate) const NO_ROOM: u64 = 21;
 
 // Writes the flow that the list encodes at the front of out, and answers its totals and its length.
 // Refused, in this order: 20, an item that is none; 1, too many items; 21, out is too short; what the
@@ -62,7 +54,7 @@ pub fn write(list: &[u8], out: &mut [u8]) -> Filled
             position: 0,
         }),
         Count::Items(items) => {
-            if MOST < items {
+            if MOST_ITEMS < items {
                 return Filled::refused(flow::refusal_of_call(WRONG_LENGTH));
             }
             if out.len() < 120 * (items + 1) {

@@ -1,5 +1,5 @@
 // The fixed contents of records, compared when a record is read and written when a list is encoded
-// (document 01, "Language forms in the code"), and the numbers of the refusals that the rules of a record give.
+// (document 01, "Language forms in the code"), and the positions of the amount.
 
 // The types, as they stand at 2-3; `type_of` gives them to other crates.
 pub(crate) const TYPE_IM: [u8; 2] = *b"IM";
@@ -34,22 +34,3 @@ pub const CURRENCY: [u8; 1] = *b"E";
 pub const AMOUNT_FIRST: usize = 34;
 
 pub const AMOUNT_LAST: usize = 46;
-
-// Document 01, "Numbers a clerk may see".
-pub const WRONG_LENGTH: u64 = 1;
-
-pub(crate) const NOT_PERMITTED: u64 = 6;
-
-pub(crate) const ABSENT: u64 = 7;
-
-pub(crate) const WRONG_NUMBER: u64 = 9;
-
-pub(crate) const NOT_THE_HEADERS: u64 = 10;
-
-pub(crate) const OTHER_COMPANY: u64 = 11;
-
-pub(crate) const WRONG_COUNT: u64 = 12;
-
-pub(crate) const WRONG_TOTAL: u64 = 13;
-
-pub(crate) const WRONG_RECORDS: u64 = 14;

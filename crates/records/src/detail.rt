@@ -7,12 +7,12 @@ ghost use Rattle.records.specs.Checks.{isPresent, isListed, numberChecks
 ghost use Rattle.records.specs.Field.{field, byteAt};
 ghost use Rattle.records.specs.Finding.{right, check, firstFault, finding};
 ghost use Rattle.records.specs.declared.kind.Kind.the-variants.{R70};
-use crate::constants::ABSENT;
-use crate::constants::NOT_PERMITTED;
-use crate::constants::WRONG_NUMBER;
 use crate::judged::Judged;
 use crate::judged::Record;
 use crate::kind::Kind;
+use crate::refusals::ABSENT;
+use crate::refusals::NOT_PERMITTED;
+use crate::refusals::WRONG_NUMBER;
 use crate::rules::blank;
 use crate::rules::digits_equal_to;
 use crate::rules::listed;

@@ -3,7 +3,6 @@ ghost use mathlib.Core.Path.{_≡_};
 ghost use Rattle.records.specs.Context.{headerOf, context};
 ghost use Rattle.records.specs.Finding.{finding};
 ghost use Rattle.records.specs.Judge.{judge as Judge·judge};
-use crate::constants::WRONG_LENGTH;
 use crate::coordinates::judge_coordinates;
 use crate::detail::judge_control;
 use crate::detail::judge_numbered;
@@ -13,6 +12,7 @@ use crate::header::judge_header;
 use crate::judged::Counts;
 use crate::judged::Judged;
 use crate::kind::Kind;
+use crate::refusals::WRONG_LENGTH;
 use crate::trailer::judge_trailer;
 
 // The first fault of a record of the kind, or its cents. `header` is the flow's IM, of which the rules look

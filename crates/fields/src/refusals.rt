@@ -1,0 +1,7 @@
+// The numbers of the refusals that a field gives (document 01, "Numbers a clerk may see").
+
+// Not digits.
+pub const NOT_DIGITS: u64 = 5;
+
+// Digits, but no calendar date.
+pub const NO_SUCH_DAY: u64 = 8;

@@ -1,0 +1,13 @@
+// The numbers of the refusals that a flow gives, and those of calls on it that more than one crate above
+// gives (document 01, "Numbers a clerk may see").
+pub(crate) const BAD_BYTE: u64 = 2;
+
+pub const WRONG_TYPE: u64 = 3;
+
+pub(crate) const ENDED: u64 = 4;
+
+pub(crate) const NO_DISPOSITION: u64 = 15;
+
+pub const TOTAL_TOO_LARGE: u64 = 17;
+
+pub const NO_ROOM: u64 = 21;

@@ -1,0 +1,2 @@
+// The number of the refusal that a list alone gives (document 01, "Numbers a clerk may see"): no item.
+pub(crate) const NO_ITEM: u64 = 20;
