@@ -9,6 +9,8 @@ use native.Mathlib.Omega.{arith}
 use lib.Dec.{leb, ltb}
 use lib.ListN.{length}
 use borrow.Author.Tests.{leb-true, leb-false, ltb-true, ltb-false, le-leb, lt-leb}
+use Rattle.fields.specs.Amount.{mostAmount}
+use Rattle.records.specs.Limits.{mostCents}
 use Rattle.flow.specs.Find.{IsNumber, find}
 use Rattle.flow.specs.Judge.{judge}
 use Rattle.flow.specs.Seek.{target, seek}
@@ -56,26 +58,26 @@ changedBy v new f = record { answer = accepted (totalsChanged v new); size = len
 
 pub data Changing (f : List ℕ) (k new : ℕ) : Amended → Type 0 where
   refuses : {x : Refusal} → ChangeFault f k new x → Changing f k new (unchanged x f)
-  changes : {v : Target} → seek f k ≡ accepted v → new ≤ 9999999999999 → totalsChanged v new .cents ≤ 999999999999999 → Changing f k new (changedBy v new f)
+  changes : {v : Target} → seek f k ≡ accepted v → new ≤ mostAmount → totalsChanged v new .cents ≤ mostCents → Changing f k new (changedBy v new f)
 
 pub changing : (f : List ℕ) (k new : ℕ) → Changing f k new (change f k new)
 unfolding change
 changing f k new = by (seek f k) (seeking f k)
   where
     made : {v : Target} → judge f ≡ accepted (v .totals) → find f k ≡ accepted (v .stand) → IsNumber k (v .totals .dispositions) → Changing f k new (changeAt v new f)
-    made {v} read found numbers = amount (leb new 9999999999999) refl
+    made {v} read found numbers = amount (leb new mostAmount) refl
       where
         total : ℕ
         total = totalsChanged v new .cents
 
-        sum : new ≤ 9999999999999 → (b : Bool) → leb total 999999999999999 ≡ b → Changing f k new (cond b (changedBy v new f) (unchanged (ofCall 17) f))
-        sum small true t = changes (read-found f k read found) small (leb-true total 999999999999999 t)
-        sum small false t = refuses (total-too-large (v .totals) (v .stand) read found small (leb-false total 999999999999999 t))
+        sum : new ≤ mostAmount → (b : Bool) → leb total mostCents ≡ b → Changing f k new (cond b (changedBy v new f) (unchanged (ofCall 17) f))
+        sum small true t = changes (read-found f k read found) small (leb-true total mostCents t)
+        sum small false t = refuses (total-too-large (v .totals) (v .stand) read found small (leb-false total mostCents t))
 
-        amount : (b : Bool) → leb new 9999999999999 ≡ b
-            → Changing f k new (cond b (cond (leb total 999999999999999) (changedBy v new f) (unchanged (ofCall 17) f)) (unchanged (ofCall 16) f))
-        amount true t = sum (leb-true new 9999999999999 t) (leb total 999999999999999) refl
-        amount false t = refuses (amount-too-large (v .totals) read numbers (leb-false new 9999999999999 t))
+        amount : (b : Bool) → leb new mostAmount ≡ b
+            → Changing f k new (cond b (cond (leb total mostCents) (changedBy v new f) (unchanged (ofCall 17) f)) (unchanged (ofCall 16) f))
+        amount true t = sum (leb-true new mostAmount t) (leb total mostCents) refl
+        amount false t = refuses (amount-too-large (v .totals) read numbers (leb-false new mostAmount t))
 
     by : (l : Verdict Target) → Seeking f k l → Changing f k new (changeFound l new f)
     by l (unread wrong) = refuses (not-read _ wrong)
@@ -138,12 +140,12 @@ change-refused f k new x = (said (change f k new) (changing f k new), tested)
     tested (not-read x wrong) = answers (unread-so f k wrong)
     tested (no-disposition t read absent) = answers (absent-so f k read absent)
     tested (amount-too-large t read numbers large) =
-        let above : leb new 9999999999999 ≡ false = lt-leb new 9999999999999 large in
+        let above : leb new mostAmount ≡ false = lt-leb new mostAmount large in
         answers (numbers-so f k read numbers .1) ∙ rw above
     tested (total-too-large t s read found small large) =
         let total = t .cents - s .cents + new in
-        let within : leb new 9999999999999 ≡ true = le-leb new 9999999999999 small in
-        let above : leb total 999999999999999 ≡ false = lt-leb total 999999999999999 large in
+        let within : leb new mostAmount ≡ true = le-leb new mostAmount small in
+        let above : leb total mostCents ≡ false = lt-leb total mostCents large in
         answers (read-found f k read found) ∙ rw (within, above)
 
 pub withdraw-refused : WithdrawRefused
@@ -177,7 +179,7 @@ refused-untouched f k x = (λ new. changed-not new (change f k new) (changing f 
 
 -- what is left, as a flow of the grammar
 abbrev pub changed-grammar :
-    (f : List ℕ) (k : ℕ) (v : Target) (new : ℕ) (w : Among f k v) (small : new < 10000000000000) → totalsChanged v new .cents ≤ 999999999999999
+    (f : List ℕ) (k : ℕ) (v : Target) (new : ℕ) (w : Among f k v) (small : new < 10000000000000) → totalsChanged v new .cents ≤ mostCents
     → Grammar (changed (v .stand .first) new (totalsChanged v new) f) (totalsChanged v new)
 changed-grammar f k v new w small fits =
     let g = w .grammar in

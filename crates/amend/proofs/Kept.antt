@@ -14,6 +14,7 @@ use Rattle.fields.proofs.Decimal.{written-length}
 use Rattle.records.specs.Amount.{amountIn}
 use Rattle.records.specs.Context.{Header}
 use Rattle.records.specs.Field.{field}
+use Rattle.records.specs.Limits.{centsLimit, countLimit}
 use Rattle.records.specs.declared.kind.Kind.{Kind}
 use Rattle.records.specs.declared.kind.Kind.the-variants.{Im, R14, R16, R20, R30, R40, R50, R59, R51, R70, Ef}
 use Rattle.flow.specs.declared.answer.Totals.{Totals}
@@ -105,7 +106,7 @@ module _ (abi rec other : List ℕ) where
     beside-same Ef r = r
 
 -- a record of disposition i, with the number j
-module _ (k : Kind) (abi : List ℕ) (i j : ℕ) (rec : List ℕ) (formed : Formed k rec) (small : j < 10000000) where
+module _ (k : Kind) (abi : List ℕ) (i j : ℕ) (rec : List ℕ) (formed : Formed k rec) (small : j < countLimit) where
   pub renumbered-formed : Formed k (renumbered j rec)
   renumbered-formed = over-formed 3 7 j rec (formed .whole) (omega arith) k (omega arith) small formed
 
@@ -147,7 +148,7 @@ recounted-length t rec whole =
     let two = over-length 52 15 (t .cents) (put 45 (digits 7 (t .dispositions)) rec) one (omega arith) in
     over-length 82 7 (t .records) (put 52 (digits 15 (t .cents)) (put 45 (digits 7 (t .dispositions)) rec)) two (omega arith)
 
-module _ (t : Totals) (rec : List ℕ) (formed : Formed Ef rec) (few : t .dispositions < 10000000) (small : t .cents < 1000000000000000) (short : t .records < 10000000) where
+module _ (t : Totals) (rec : List ℕ) (formed : Formed Ef rec) (few : t .dispositions < countLimit) (small : t .cents < centsLimit) (short : t .records < countLimit) where
   abbrev one : List ℕ
   one = put 45 (digits 7 (t .dispositions)) rec
 

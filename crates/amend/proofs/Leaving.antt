@@ -11,9 +11,11 @@ use Rattle.sequences.proofs.All.{all-append, all-before, all-behind}
 use Rattle.sequences.proofs.Flatten.{flatten-append}
 use Rattle.sequences.proofs.Pairs.{pairs-length, pairs-append, pairs-at, pairs-map}
 use Rattle.sequences.proofs.Part.{put-length, getD-put-elsewhere}
+use Rattle.fields.specs.Amount.{mostAmount}
 use Rattle.fields.specs.Digits.{digits}
 use Rattle.fields.proofs.Decimal.{written-length}
 use Rattle.records.specs.Field.{Span, _to_, byteAt}
+use Rattle.records.specs.Limits.{mostCents}
 use Rattle.flow.specs.Find.{dispositionsIn}
 use Rattle.flow.specs.Judge.{judge}
 use Rattle.flow.specs.Records.{recordAt, recordsOf}
@@ -45,7 +47,7 @@ module _ (f : List ℕ) (k : ℕ) (v : Target) (found : seek f k ≡ accepted v)
   size-before : v .totals .records * 120 ≡ length f
   size-before = accepted-exact f (v .totals) (sought-read f k found .0) .2
 
-  module _ (new : ℕ) (small : new ≤ 9999999999999) (fits : totalsChanged v new .cents ≤ 999999999999999) where
+  module _ (new : ℕ) (small : new ≤ mostAmount) (fits : totalsChanged v new .cents ≤ mostCents) where
     abbrev pub changedFlow : List ℕ
     changedFlow = changed (v .stand .first) new (totalsChanged v new) f
 

@@ -13,6 +13,7 @@ use Rattle.sequences.proofs.Flatten.{map-flatten}
 use Rattle.sequences.proofs.Sum.{sum-append}
 use Rattle.fields.specs.Digits.{number}
 use Rattle.records.specs.Context.{headerOf}
+use Rattle.records.specs.Limits.{centsLimit, countLimit}
 use Rattle.records.specs.declared.kind.Kind.{Kind}
 use Rattle.records.specs.declared.kind.Kind.the-variants.{R14, Ef}
 use Rattle.flow.specs.declared.answer.Totals.{Totals}
@@ -43,7 +44,7 @@ leftWith p ds = record { header = p .header; dispositions = ds; trailer = recoun
 -- it keeps the rules where the dispositions do
 pub left-right :
     (p : Parts) (ds : List (List Typed)) → Right p → 1 ≤ length ds → Numbered (headerOf (p .header) .abi) 1 ds → AllEqual (map codeOf ds)
-    → length ds < 10000000 → amounts ds < 1000000000000000 → 2 + sizes ds < 10000000 → Right (leftWith p ds)
+    → length ds < countLimit → amounts ds < centsLimit → 2 + sizes ds < countLimit → Right (leftWith p ds)
 left-right p ds r some each codes few small short =
     record {
       header-formed = r .header-formed;
@@ -86,7 +87,7 @@ pub typed-sizes : (j : ℕ) (ds : List (List Typed)) → sizes (typedFrom j ds) 
 typed-sizes j [] = refl
 typed-sizes j (d ∷ ds) = ap₂ (λ (a b : ℕ). a + b) (length-map d (retyped j)) (typed-sizes (suc j) ds)
 
-module _ (abi : List ℕ) (i j : ℕ) (small : j < 10000000) where
+module _ (abi : List ℕ) (i j : ℕ) (small : j < countLimit) where
   members-retyped : (rs : List Typed) → All (Member abi i) rs → All (Member abi j) (map (retyped j) rs)
   members-retyped [] members = tt
   members-retyped (r ∷ rs) members =
@@ -106,12 +107,12 @@ module _ (abi : List ℕ) (i j : ℕ) (small : j < 10000000) where
   opening-kept (x ∷ xs) r a n h = over-kept 3 7 j (x .bytes) (r .records .0 .0 .whole) (omega arith) a n (inr h)
 
 module _ (abi : List ℕ) where
-  pub typed-numbered : (j : ℕ) (ds : List (List Typed)) → j + length ds ≤ 10000000 → Numbered abi (suc j) ds → Numbered abi j (typedFrom j ds)
+  pub typed-numbered : (j : ℕ) (ds : List (List Typed)) → j + length ds ≤ countLimit → Numbered abi (suc j) ds → Numbered abi j (typedFrom j ds)
   typed-numbered j [] few each = tt
   typed-numbered j (d ∷ ds) few each =
       (disposition-retyped abi (suc j) j (omega arith) d (each .0), typed-numbered (suc j) ds (omega arith) (each .1))
 
-  pub typed-kept : {A : Type 0} (what : List ℕ → A) (a n j : ℕ) (ds : List (List Typed)) → 10 ≤ a → j + length ds ≤ 10000000 → Numbered abi (suc j) ds
+  pub typed-kept : {A : Type 0} (what : List ℕ → A) (a n j : ℕ) (ds : List (List Typed)) → 10 ≤ a → j + length ds ≤ countLimit → Numbered abi (suc j) ds
       → map (λ (d : List Typed). what (part a n (opening d))) (typedFrom j ds) ≡ map (λ (d : List Typed). what (part a n (opening d))) ds
   typed-kept what a n j [] h few each = refl
   typed-kept {A} what a n j (d ∷ ds) h few each =
@@ -193,9 +194,9 @@ module _ (f : List ℕ) (t : Totals) (g : Grammar f t) (pre : List (List Typed))
       let size : List Typed → ℕ = λ d. length d in
       sym (ap (λ (u : Totals). u .records) (g .totals)) ∙ ap (λ (ds : List (List Typed)). 2 + sizes ds) split ∙ ap (λ (l : List ℕ). 2 + sum l) (map-append size pre (x ∷ post)) ∙ ap (λ (m : ℕ). 2 + m) (sum-append (map size pre) (map size (x ∷ post)))
 
-  pub below : (t .dispositions < 10000000) × (t .cents < 1000000000000000) × (t .records < 10000000)
+  pub below : (t .dispositions < countLimit) × (t .cents < centsLimit) × (t .records < countLimit)
   below =
-      subst (λ (u : Totals). (u .dispositions < 10000000) × (u .cents < 1000000000000000) × (u .records < 10000000)) (g .totals) (counts-below p (g .right))
+      subst (λ (u : Totals). (u .dispositions < countLimit) × (u .cents < centsLimit) × (u .records < countLimit)) (g .totals) (counts-below p (g .right))
 
   codes : AllEqual (map codeOf pre ++ (codeOf x ∷ map codeOf post))
   codes = subst AllEqual (ap (map codeOf) split ∙ map-append codeOf pre (x ∷ post)) (g .right .codes)
@@ -204,7 +205,7 @@ module _ (f : List ℕ) (t : Totals) (g : Grammar f t) (pre : List (List Typed))
   abbrev pub rest : List (List Typed)
   rest = pre ++ typedFrom number-of post
 
-  rest-few : number-of + length post ≤ 10000000
+  rest-few : number-of + length post ≤ countLimit
   rest-few = omega (arith, count-split, below)
 
   pub rest-count : length rest ≡ t .dispositions - 1
@@ -258,7 +259,7 @@ module _ (f : List ℕ) (t : Totals) (g : Grammar f t) (pre : List (List Typed))
     pub changed-numbered : Numbered abi 1 changed
     changed-numbered = counted-append (RightDisposition abi) 1 pre (retold new x ∷ post) before (retold-here .right, behind)
 
-    pub changed-right : t .cents - amountOf x + new < 1000000000000000 → Right (leftWith p changed)
+    pub changed-right : t .cents - amountOf x + new < centsLimit → Right (leftWith p changed)
     changed-right fits =
         let b = below in
         let same : map codeOf changed ≡ map codeOf pre ++ (codeOf x ∷ map codeOf post) = map-append codeOf pre (retold new x ∷ post) ∙ ap (λ (l : List ℕ). map codeOf pre ++ (l ∷ map codeOf post)) (retold-here .code) in

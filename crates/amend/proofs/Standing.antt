@@ -4,6 +4,7 @@ use mathlib.Core.List.{List, [], flatten}
 use mathlib.Core.Path.{_≡_, _∙_, ap}
 use native.Mathlib.Omega.{arith}
 use lib.ListN.{length, take, getD}
+use Rattle.records.specs.Limits.{centsLimit, countLimit}
 use Rattle.flow.specs.Find.{dispositionsIn}
 use Rattle.flow.specs.Judge.{judge}
 use Rattle.flow.specs.Seek.{seek}
@@ -20,9 +21,9 @@ pub record Standing (f : List ℕ) (k : ℕ) (v : Target) : Type 0 where
   pub some : 1 ≤ k
   pub within : k ≤ v .totals .dispositions
   -- the trailer's digits hold the counts
-  pub few : v .totals .dispositions < 10000000
-  pub cents : v .totals .cents < 1000000000000000
-  pub records : v .totals .records < 10000000
+  pub few : v .totals .dispositions < countLimit
+  pub cents : v .totals .cents < centsLimit
+  pub records : v .totals .records < countLimit
   pub size : length f ≡ 120 * v .totals .records
   -- its amount is one of those that are summed
   pub share : v .stand .cents ≤ v .totals .cents

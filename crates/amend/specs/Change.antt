@@ -5,7 +5,9 @@ use mathlib.Core.Bool.{cond}
 use mathlib.Core.List.{List}
 use lib.Dec.{leb}
 use lib.ListN.{length}
+use Rattle.fields.specs.Amount.{mostAmount}
 use Rattle.fields.specs.Digits.{digits}
+use Rattle.records.specs.Limits.{mostCents}
 use Rattle.flow.specs.Seek.{seek}
 use Rattle.flow.specs.Verdict.{Verdict, accepted, refused, ofCall}
 use Rattle.flow.specs.declared.answer.Totals.{Totals}
@@ -26,8 +28,8 @@ changed first new t f = written (t .records) 53 (digits 15 (t .cents)) (written 
 abbrev pub changeAt : Target → ℕ → List ℕ → Amended
 changeAt v new f =
     let t = totalsChanged v new in
-    cond (leb new 9999999999999)
-    (cond (leb (t .cents) 999999999999999) (record { answer = accepted t; size = length f; bytes = changed (v .stand .first) new t f }) (unchanged (ofCall 17) f))
+    cond (leb new mostAmount)
+    (cond (leb (t .cents) mostCents) (record { answer = accepted t; size = length f; bytes = changed (v .stand .first) new t f }) (unchanged (ofCall 17) f))
     (unchanged (ofCall 16) f)
 
 abbrev pub changeFound : Verdict Target → ℕ → List ℕ → Amended

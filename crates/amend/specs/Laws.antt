@@ -4,7 +4,9 @@ use mathlib.Core.List.{List, [], _∷_, _++_}
 use mathlib.Core.Logic.{_↔_}
 use mathlib.Core.Path.{_≡_}
 use lib.ListN.{length, take, getD, replicate}
+use Rattle.fields.specs.Amount.{mostAmount}
 use Rattle.records.specs.Field.{Span, _to_, byteAt}
+use Rattle.records.specs.Limits.{mostCents}
 use Rattle.flow.specs.Find.{IsNumber, find}
 use Rattle.flow.specs.Judge.{judge}
 use Rattle.flow.specs.Records.{recordAt}
@@ -21,10 +23,10 @@ use Rattle.flow.specs.declared.location.Stand.{Stand}
 pub data ChangeFault (f : List ℕ) (k new : ℕ) : Refusal → Type 0 where
   not-read : (x : Refusal) → judge f ≡ refused x → ChangeFault f k new x
   no-disposition : (t : Totals) → judge f ≡ accepted t → ¬ IsNumber k (t .dispositions) → ChangeFault f k new (ofCall 15)
-  amount-too-large : (t : Totals) → judge f ≡ accepted t → IsNumber k (t .dispositions) → 9999999999999 < new → ChangeFault f k new (ofCall 16)
+  amount-too-large : (t : Totals) → judge f ≡ accepted t → IsNumber k (t .dispositions) → mostAmount < new → ChangeFault f k new (ofCall 16)
   -- the new total is the old one less the old amount, plus the new one
   total-too-large :
-      (t : Totals) (s : Stand) → judge f ≡ accepted t → find f k ≡ accepted s → new ≤ 9999999999999 → 999999999999999 < t .cents - s .cents + new
+      (t : Totals) (s : Stand) → judge f ≡ accepted t → find f k ≡ accepted s → new ≤ mostAmount → mostCents < t .cents - s .cents + new
       → ChangeFault f k new (ofCall 17)
 
 abbrev pub ChangeRefused : Type 0

@@ -4,6 +4,7 @@ ghost use mathlib.Core.List.{_++_, flatten};
 ghost use mathlib.Core.Path.{_≡_};
 ghost use lib.ListN.{length, take, drop, replicate};
 ghost use Rattle.sequences.specs.Part.{put};
+ghost use Rattle.records.specs.Limits.{countLimit};
 ghost use Rattle.flow.specs.Records.{cut};
 ghost use Rattle.flow.specs.Verdict.{verdict};
 ghost use Rattle.flow.specs.Verdict.{refused as Verdict·refused};
@@ -89,8 +90,8 @@ fn move_up(flow: &mut [u8], to: usize, from: usize)
 fn renumber(flow: &mut [u8], from: usize, to: usize, before: u64)
     requires { ⌜ from ≤ to ⌝ }
     requires { ⌜ 120 * to ≤ length (now flow) ⌝ }
-    requires { ⌜ before < 10000000 ⌝ }
-    requires { ⌜ to < 10000000 ⌝ }
+    requires { ⌜ before < countLimit ⌝ }
+    requires { ⌜ to < countLimit ⌝ }
     ensures { λ _. ⌜ now (flow .exit) ≡ put (120 * from)
         (flatten (renumberedFrom before (cut (to - from) (drop (120 * from) (now (flow .entry))))))
         (now (flow .entry)) ⌝ }

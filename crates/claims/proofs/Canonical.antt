@@ -11,6 +11,7 @@ use Rattle.sequences.proofs.Append.{append-same}
 use Rattle.sequences.proofs.Counted.{counted-before, counted-behind, counted-append}
 use Rattle.records.specs.Context.{headerOf}
 use Rattle.records.specs.Kinds.{heads, opens, opened}
+use Rattle.records.specs.Limits.{mostCents}
 use Rattle.records.specs.declared.kind.Kind.{Kind}
 use Rattle.flow.specs.Records.{recordsOf}
 use Rattle.grammar.specs.Grammar.{Typed, kindsOf, recordsIn, Numbered, RightDisposition, Grammar}
@@ -227,7 +228,7 @@ module _ (f : List ℕ) (k : ℕ) (v : Target) (w : Among f k v) (canonical : Ca
         trailer = recounted-trailer ds (left .totals);
       })
 
-  pub changed-canonical : (new : ℕ) (small : new < 10000000000000) (fits : totalsChanged v new .cents ≤ 999999999999999) → Canonical (changed (v .stand .first) new (totalsChanged v new) f)
+  pub changed-canonical : (new : ℕ) (small : new < 10000000000000) (fits : totalsChanged v new .cents ≤ mostCents) → Canonical (changed (v .stand .first) new (totalsChanged v new) f)
   changed-canonical new small fits =
       let left = changed-grammar f k v new w small fits in
       let ds = changedOf f k v w new small in

@@ -8,6 +8,8 @@ use lib.Dec.{leb, ltb}
 use lib.ListN.{length, take, replicate}
 use lib.Seq.{take-length}
 use borrow.Author.Tests.{leb-true, le-leb, lt-leb, lt-ltb, le-ltb}
+use Rattle.fields.specs.Amount.{mostAmount}
+use Rattle.records.specs.Limits.{mostCents}
 use Rattle.flow.specs.Find.{IsNumber, find}
 use Rattle.flow.specs.Judge.{judge}
 use Rattle.flow.specs.Seek.{target, seek}
@@ -127,7 +129,7 @@ module _ (f : List ℕ) (t : Totals) (read : judge f ≡ accepted t) where
       go l (stands other place numbers) e = numbers-same k other .0 numbers
 
   -- another amount on the ledger, and in the flow
-  module _ (k new : ℕ) (v : Target) (found : seek f k ≡ accepted v) (small : new ≤ 9999999999999) where
+  module _ (k new : ℕ) (v : Target) (found : seek f k ≡ accepted v) (small : new ≤ mostAmount) where
     abbrev w : Among f k v
     w = among-so f k found
 
@@ -160,18 +162,18 @@ module _ (f : List ℕ) (t : Totals) (read : judge f ≡ accepted t) where
         kept-alone (change k new) 15 (changeOn k new is) (rw missing)
     change-refused (amount-too-large u other numbers large) =
         let there : has k is ≡ true = has-number k (t .dispositions) is count (numbers-same k other .0 numbers) in
-        let above : leb new 9999999999999 ≡ false = lt-leb new 9999999999999 large in
+        let above : leb new mostAmount ≡ false = lt-leb new mostAmount large in
         kept-alone (change k new) 16 (changeOn k new is) (rw (there, above))
     change-refused (total-too-large u s other place small large) =
         let v = target u s in
         let found = read-found f k other place in
         let there : has k is ≡ true = has-number k (t .dispositions) is count (found-number k v found) in
-        let within : leb new 9999999999999 ≡ true = le-leb new 9999999999999 small in
-        let above : leb (centsOf (withAmount k new is)) 999999999999999 ≡ false = ap (λ (x : ℕ). leb x 999999999999999) (amount-cents k new v found small) ∙ lt-leb (totalsChanged v new .cents) 999999999999999 large in
+        let within : leb new mostAmount ≡ true = le-leb new mostAmount small in
+        let above : leb (centsOf (withAmount k new is)) mostCents ≡ false = ap (λ (x : ℕ). leb x mostCents) (amount-cents k new v found small) ∙ lt-leb (totalsChanged v new .cents) mostCents large in
         kept-alone (change k new) 17 (changeOn k new is) (rw (there, within, above))
 
     change-made :
-        (v : Target) (found : seek f k ≡ accepted v) (small : new ≤ 9999999999999) (fits : totalsChanged v new .cents ≤ 999999999999999)
+        (v : Target) (found : seek f k ≡ accepted v) (small : new ≤ mostAmount) (fits : totalsChanged v new .cents ≤ mostCents)
         → Step f (change k new) (changedBy v new f) (changeOn k new is)
     unfolding changeOn
     change-made v found small fits =
@@ -182,8 +184,8 @@ module _ (f : List ℕ) (t : Totals) (read : judge f ≡ accepted t) where
         let g = changed-grammar f k v new w′ (below k new v found small) fits in
         let listed : itemsOf left ≡ withAmount k new is = listed-so left (totalsChanged v new) g ∙ sym (amount-so k new v found small) in
         let there : has k is ≡ true = has-number k (t .dispositions) is count (found-number k v found) in
-        let within : leb new 9999999999999 ≡ true = le-leb new 9999999999999 small in
-        let low : leb (centsOf (withAmount k new is)) 999999999999999 ≡ true = ap (λ (x : ℕ). leb x 999999999999999) (amount-cents k new v found small) ∙ le-leb (totalsChanged v new .cents) 999999999999999 fits in
+        let within : leb new mostAmount ≡ true = le-leb new mostAmount small in
+        let low : leb (centsOf (withAmount k new is)) mostCents ≡ true = ap (λ (x : ℕ). leb x mostCents) (amount-cents k new v found small) ∙ le-leb (totalsChanged v new .cents) mostCents fits in
         let own : changeOn k new is ≡ record { reply = change-accepted (totalsOf (withAmount k new is)); items = withAmount k new is } = rw (there, within, low) in
         let reply = ap change-accepted (sym (totals-listed left (totalsChanged v new) told) ∙ ap totalsOf listed) in
         let canonical : Canonical f → Canonical left = λ c. changed-canonical f k v w′ c new (below k new v found small) fits in

@@ -7,7 +7,9 @@ use lib.Dec.{leb, ltb}
 use lib.ListN.{length, take, drop, getD}
 use Rattle.sequences.specs.Groups.{lead, groups}
 use Rattle.sequences.specs.Part.{put}
+use Rattle.fields.specs.Amount.{mostAmount}
 use Rattle.fields.specs.Digits.{digits}
+use Rattle.records.specs.Limits.{mostCents}
 use Rattle.flow.specs.Verdict.{ofCall}
 use Rattle.flow.specs.declared.answer.Refusal.{Refusal}
 use Rattle.flow.specs.declared.answer.Totals.{Totals}
@@ -68,12 +70,12 @@ has k is = leb 1 k && leb k (dispositionsOf is)
 -- number of items + 1"
 abbrev pub changeLeaving : List Item → List Item → Entry
 changeLeaving left is =
-    cond (leb (centsOf left) 999999999999999)
+    cond (leb (centsOf left) mostCents)
     (record { reply = change-accepted (totalsOf left); items = left })
     (refusal 17 is)
 
 unfoldable pub changeOn : ℕ → ℕ → List Item → Entry
-changeOn k new is = cond (has k is) (cond (leb new 9999999999999) (changeLeaving (withAmount k new is) is) (refusal 16 is)) (refusal 15 is)
+changeOn k new is = cond (has k is) (cond (leb new mostAmount) (changeLeaving (withAmount k new is) is) (refusal 16 is)) (refusal 15 is)
 
 -- "refused by 15, 18 likewise"; "a withdrawal also 120 times that last number, the new length"
 abbrev pub withdrawLeaving : List Item → Entry

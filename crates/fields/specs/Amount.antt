@@ -7,6 +7,10 @@ use lib.ListN.{length}
 use Rattle.fields.specs.Answer.{Answer, refused, notDigits}
 use Rattle.fields.specs.Digits.{digitField}
 
+-- the most cents that they hold
+abbrev pub mostAmount : ℕ
+mostAmount = 9999999999999
+
 -- thirteen digits give the cents, anything else 5
 unfoldable pub amountField : List ℕ → Answer ℕ
 amountField bs = cond (eqb (length bs) 13) (digitField bs) (refused notDigits)

@@ -5,8 +5,8 @@ ghost use Rattle.fields.specs.Date.{dateField};
 use crate::Number;
 use crate::calendar::has_day;
 use crate::read_digits;
-use crate::refusals::NOT_DIGITS;
 use crate::refusals::NO_SUCH_DAY;
+use crate::refusals::NOT_DIGITS;
 
 // What a date answers: its day of the calendar, or the number of the refusal.
 pub enum Date {

@@ -20,5 +20,5 @@ pub use digits::Number;
 pub use digits::read_digits;
 pub use digits::write_digits;
 pub use limits::MOST_AMOUNT;
-pub use refusals::NOT_DIGITS;
 pub use refusals::NO_SUCH_DAY;
+pub use refusals::NOT_DIGITS;

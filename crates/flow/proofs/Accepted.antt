@@ -18,7 +18,7 @@ use Rattle.records.specs.declared.kind.Kind.{Kind}
 use Rattle.records.proofs.ByKind.{right-asked, opens-type}
 use Rattle.records.proofs.Numbers.{one-for-length}
 use Rattle.flow.specs.Judge.{after, totals, ended, go, judge}
-use Rattle.flow.specs.Records.{RightLength, isLength, recordsOf}
+use Rattle.flow.specs.Records.{RightLength, isLength, recordsOf, mostBytes}
 use Rattle.flow.specs.Laws.{LengthRefused, Ceiling, AcceptedExact, AnswerDetermined}
 use Rattle.flow.specs.Order.{permitted, isDue, among}
 use Rattle.flow.specs.Steps.{start, countsAt, step, latest, typed, judgeRecord}
@@ -137,7 +137,7 @@ refused-later header w company i (rec ∷ recs) r p whole =
         record-not-one header w company (suc i) rec q (whole .0) (found ∙ ap (λ (e : ℕ). Finding·refused e q) one)
 
 pub length-tested : (n : ℕ) → RightLength n → isLength n ≡ true
-length-tested n h = rw (le-leb 1 n (h .0), eq-eqb (n % 120) 0 (h .1), le-leb n 1199999880 (h .2))
+length-tested n h = rw (le-leb 1 n (h .0), eq-eqb (n % 120) 0 (h .1), le-leb n mostBytes (h .2))
 
 pub length-refused : LengthRefused
 unfolding judge

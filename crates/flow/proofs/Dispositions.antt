@@ -27,7 +27,7 @@ use Rattle.records.proofs.ByKind.{opens-type}
 use Rattle.records.proofs.FirstFault.{behind}
 use Rattle.flow.specs.Find.{dispositionsIn, startsAt, IsNumber, standsAt, find, bytesAt, partOf, offsetAt, offsetOf, Stands, openingFrom}
 use Rattle.flow.specs.Judge.{after, ended, go, judge}
-use Rattle.flow.specs.Records.{isLength, recordAt, recordsOf}
+use Rattle.flow.specs.Records.{isLength, recordAt, recordsOf, mostBytes}
 use Rattle.flow.specs.Laws.{LocationDetermined, FindRefused, PartPlaced}
 use Rattle.flow.specs.Order.{In, permitted, isDue}
 use Rattle.flow.specs.Steps.{start, step, latest, judgeRecord}
@@ -172,7 +172,7 @@ accepted-records f {t} = by (isLength (length f))
     by false e = absurd (accepted-not-refused e)
 
 module _ (f : List ℕ) {t : Totals} (e : judge f ≡ accepted t) where
-  pub accepted-length : (120 ≤ length f) × (length f % 120 ≡ 0) × (length f ≤ 1199999880)
+  pub accepted-length : (120 ≤ length f) × (length f % 120 ≡ 0) × (length f ≤ mostBytes)
   accepted-length =
       let said = length-said (length f) (accepted-records f e .0) in
       (omega arith, said .1, said .2)

@@ -9,7 +9,7 @@ use Rattle.sequences.specs.Part.{part}
 use Rattle.flow.specs.Find.{located, IsNumber, find, partOf, offsetOf}
 use Rattle.flow.specs.Judge.{judge}
 use Rattle.flow.specs.Output.{output, withRoom, Leaves, LeavesAlone}
-use Rattle.flow.specs.Records.{RightLength, recordsOf}
+use Rattle.flow.specs.Records.{RightLength, recordsOf, mostBytes}
 use Rattle.flow.specs.Seek.{sought, seek}
 use Rattle.flow.specs.Sums.{dispositionsOf, centsOf}
 use Rattle.flow.specs.Verdict.{Verdict, accepted, refused, verdict, refusal, ofCall}
@@ -30,7 +30,7 @@ LengthRefused =
 
 -- so above the ceiling the answer is 1
 abbrev pub Ceiling : Type 0
-Ceiling = (f : List ℕ) → 1199999880 < length f → judge f ≡ refused (ofCall 1)
+Ceiling = (f : List ℕ) → mostBytes < length f → judge f ≡ refused (ofCall 1)
 
 -- an accepted flow is answered its exact counts, summed over its records
 abbrev pub AcceptedExact : Type 0

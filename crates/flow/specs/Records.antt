@@ -5,13 +5,18 @@ use mathlib.Core.List.{List, [], _∷_}
 use mathlib.Core.Path.{_≡_}
 use lib.Dec.{leb, eqb}
 use lib.ListN.{length, take, drop}
+use Rattle.records.specs.Limits.{mostRecords}
 
--- the length of a flow: one or more whole records, 9,999,999 at the most; as it is said, and as a test
+-- the most bytes of a flow: 9,999,999 records
+abbrev pub mostBytes : ℕ
+mostBytes = 120 * mostRecords
+
+-- the length of a flow: one or more whole records, no more than these; as it is said, and as a test
 abbrev pub RightLength : ℕ → Type 0
-RightLength n = (1 ≤ n) × (n % 120 ≡ 0) × (n ≤ 1199999880)
+RightLength n = (1 ≤ n) × (n % 120 ≡ 0) × (n ≤ mostBytes)
 
 abbrev pub isLength : ℕ → Bool
-isLength n = leb 1 n && eqb (n % 120) 0 && leb n 1199999880
+isLength n = leb 1 n && eqb (n % 120) 0 && leb n mostBytes
 
 -- n records of 120 bytes
 unfoldable pub cut : ℕ → List ℕ → List (List ℕ)

@@ -6,6 +6,7 @@ ghost use mathlib.Core.Path.{_≡_};
 ghost use lib.ListN.{length};
 ghost use denote.Ref.{ptr};
 ghost use Rattle.records.specs.Context.{headerOf};
+ghost use Rattle.records.specs.Limits.{mostRecords};
 ghost use Rattle.flow.specs.Judge.{ended, go};
 ghost use Rattle.flow.specs.Records.{isLength, recordsOf};
 ghost use Rattle.flow.specs.Judge.{judge as Judge·judge};
@@ -100,7 +101,7 @@ pub fn latest_company<'a>(company: &'a [u8], code: &'a [u8], kind: Kind) -> &'a 
 
 // The answer behind the last of n records.
 fn end(walk: Walk, n: u64) -> Answer
-    requires { ⌜ n ≤ 9999999 ⌝ }
+    requires { ⌜ n ≤ mostRecords ⌝ }
     ensures { λ r. ⌜ verdict r ≡ ended walk n ⌝ }
 {
     if walk.complete() {

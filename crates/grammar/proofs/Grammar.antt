@@ -15,6 +15,7 @@ use Rattle.records.specs.Checks.{checks}
 use Rattle.records.specs.Context.{Header, headerOf}
 use Rattle.records.specs.Field.{field}
 use Rattle.records.specs.Finding.{Hold}
+use Rattle.records.specs.Limits.{centsLimit, countLimit}
 use Rattle.records.specs.declared.kind.Kind.{Kind}
 use Rattle.records.specs.declared.kind.Kind.the-variants.{Im, Ef}
 use Rattle.flow.specs.Judge.{totals, ended, judge}
@@ -217,7 +218,7 @@ grammar-of f t e =
 
 -- from the grammar to the answer
 -- the trailer's digits bound what it counts
-pub counts-below : (p : Parts) → Right p → (dispositionCount p < 10000000) × (totalCents p < 1000000000000000) × (recordCount p < 10000000)
+pub counts-below : (p : Parts) → Right p → (dispositionCount p < countLimit) × (totalCents p < centsLimit) × (recordCount p < countLimit)
 counts-below p r =
     let t = p .trailer in
     let rules = r .trailer-rules in

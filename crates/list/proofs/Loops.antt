@@ -19,7 +19,7 @@ use Rattle.records.specs.Field.{_to_, field}
 use Rattle.records.specs.Finding.{right}
 use Rattle.records.specs.Finding.{refused as Finding·refused}
 use Rattle.records.specs.Kinds.{opened}
-use Rattle.records.specs.Limits.{countLimit, centsLimit}
+use Rattle.records.specs.Limits.{countLimit, centsLimit, mostCents, mostRecords}
 use Rattle.records.specs.declared.kind.Kind.{Kind}
 use Rattle.records.proofs.ByKind.{types-differ, type-said}
 use Rattle.flow.specs.Judge.{go}
@@ -162,23 +162,23 @@ module _ {h : Header} {list : List ℕ} {i n number : ℕ} {header : List ℕ} {
   judging-refused m p e = refuse (j .reading) (recordAt list n i number header k (j .left) next-judged) (recordsBehind list n i number header k (j .left) next-judged) (records-next list n i number header k (j .left) next-judged) m p e
 
 -- the answer behind the last item does not tell the stopped state from the exact one
-pub closed-alike : (w : Walk) (n : ℕ) → w .dispositions ≤ 9999998 → closed (stopped w) n ≡ closed w n
-closed-alike w n few = by (leb (w .cents) 999999999999999) refl
+pub closed-alike : (w : Walk) (n : ℕ) → suc (w .dispositions) ≤ mostRecords → closed (stopped w) n ≡ closed w n
+closed-alike w n few = by (leb (w .cents) mostCents) refl
   where
     dispositions : min (w .dispositions) countLimit ≡ w .dispositions
     dispositions = omega arith
 
-    by : (b : Bool) → leb (w .cents) 999999999999999 ≡ b → closed (stopped w) n ≡ closed w n
+    by : (b : Bool) → leb (w .cents) mostCents ≡ b → closed (stopped w) n ≡ closed w n
     by true t =
-        let small = leb-true (w .cents) 999999999999999 t in
+        let small = leb-true (w .cents) mostCents t in
         let cents : min (w .cents) centsLimit ≡ w .cents = omega arith in
         rw (dispositions, cents)
     by false t =
-        let large = leb-false (w .cents) 999999999999999 t in
-        let over : leb (min (w .cents) centsLimit) 999999999999999 ≡ false = lt-leb (min (w .cents) centsLimit) 999999999999999 (omega arith) in
+        let large = leb-false (w .cents) mostCents t in
+        let over : leb (min (w .cents) centsLimit) mostCents ≡ false = lt-leb (min (w .cents) centsLimit) mostCents (omega arith) in
         rw (over, t)
 
-pub judging-ends : {h : Header} {list : List ℕ} {i n number : ℕ} {header : List ℕ} {w : Walk} {company : List ℕ} (j : JudgingAt h list i n number header w company) → length (itemsIn list) ≤ 9999998 → length list ≤ i → closed w n ≡ go closed h start [] 0 (recordsFor (itemsIn list))
+pub judging-ends : {h : Header} {list : List ℕ} {i n number : ℕ} {header : List ℕ} {w : Walk} {company : List ℕ} (j : JudgingAt h list i n number header w company) → suc (length (itemsIn list)) ≤ mostRecords → length list ≤ i → closed w n ≡ go closed h start [] 0 (recordsFor (itemsIn list))
 unfolding encodeFrom
 judging-ends {list = list} {i = i} {n = n} {number = number} {header = header} j few past =
     let none : j .left ≡ [] = no-more list n i (j .left) (j .said) past in

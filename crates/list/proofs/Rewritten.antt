@@ -21,6 +21,7 @@ use Rattle.records.specs.Checked.{checked, Alike}
 use Rattle.records.specs.Context.{Header, headerOf}
 use Rattle.records.specs.Field.{field}
 use Rattle.records.specs.Kinds.{typeOf, heads, opened, closes}
+use Rattle.records.specs.Limits.{mostCents}
 use Rattle.records.specs.declared.kind.Kind.{Kind}
 use Rattle.records.specs.declared.kind.Kind.the-variants.{Im, Ef}
 use Rattle.flow.specs.Judge.{judge}
@@ -260,7 +261,7 @@ module _ (f : List ℕ) (t : Totals) (g : Grammar f t) where
       let state : stateBehind start again ≡ behind = members-again .state in
       let may : mayClose (permitted (behind .place .due)) ≡ true = close-tested (permitted (behind .place .due)) (closing .may) in
       let cents = counted-so .cents in
-      let small : leb (behind .cents) 999999999999999 ≡ true = le-leb (behind .cents) 999999999999999 (omega (arith, cents-so)) in
+      let small : leb (behind .cents) mostCents ≡ true = le-leb (behind .cents) mostCents (omega (arith, cents-so)) in
       right-judged own own-proper-all right-items
       ∙ ap (λ (w : Walk). closed w (length own)) state
       ∙ rw (may, small) (λ i. accepted (record { dispositions = dispositions-so i; cents = cents-so i; records = items-so i }))

@@ -9,6 +9,7 @@ use lib.Dec.{leb}
 use lib.ListN.{length, length-append}
 use borrow.Author.Tests.{leb-true, leb-false, le-leb, lt-leb}
 use Rattle.sequences.specs.All.{All}
+use Rattle.records.specs.Limits.{mostCents, mostRecords}
 use Rattle.records.specs.declared.kind.Kind.the-variants.{Ef}
 use Rattle.flow.specs.Judge.{totals, ended, judge}
 use Rattle.flow.specs.Order.{permitted, isDue, mayClose}
@@ -38,7 +39,7 @@ renamed : {list : List ℕ} {room : ℕ} {x y : Refusal} → _≡_ {A = Verdict 
 renamed {list} {room} e fault = subst (WriteFault list room) (refused-same e) fault
 
 -- the records other than EF, judged by the reader itself
-module _ (is : List Item) (proper : All Proper is) (few : suc (length is) ≤ 9999999) where
+module _ (is : List Item) (proper : All Proper is) (few : suc (length is) ≤ mostRecords) where
   front-length : length (front is) ≡ 120 * length is
   front-length = flatten-length (recordsFor is) (encoded-whole 0 [] is proper) ∙ ap (λ (m : ℕ). 120 * m) (encoded-count 0 [] is)
 
@@ -82,18 +83,18 @@ trailer-follows is q =
 -- from the answer to document 01's sentence
 module _ (list : List ℕ) (room : ℕ) (x : Refusal) where
   at-end : (is : List Item) → Fitting list room is → (proper : All Proper is) (q : RightItems is) → closed (stateBehind start (q .typed)) (length is) ≡ refused x → WriteFault list room x
-  at-end is fits proper q = by (may q) (leb (stateBehind start (q .typed) .cents) 999999999999999) refl refl
+  at-end is fits proper q = by (may q) (leb (stateBehind start (q .typed) .cents) mostCents) refl refl
     where
       each : EachRight (front is) (recordsFor is)
       each = subst (EachRight (front is)) (q .same) (each-of (front is) (q .typed) (q .walked))
 
       by :
-          (a b : Bool) → may q ≡ a → leb (stateBehind start (q .typed) .cents) 999999999999999 ≡ b
+          (a b : Bool) → may q ≡ a → leb (stateBehind start (q .typed) .cents) mostCents ≡ b
           → cond a (cond b (accepted (totals (stateBehind start (q .typed)) (suc (length is)))) (refused (ofCall 17))) (refused (refusal 3 (suc (length is)) 2)) ≡ refused x
           → WriteFault list room x
       by true true e f y = absurd (accepted-not-refused (sym y))
       by true false e f y =
-          renamed y (too-much is fits each (trailer-follows is q .0 e) (omega (arith, leb-false (stateBehind start (q .typed) .cents) 999999999999999 f, right-sums is proper q .1)))
+          renamed y (too-much is fits each (trailer-follows is q .0 e) (omega (arith, leb-false (stateBehind start (q .typed) .cents) mostCents f, right-sums is proper q .1)))
       by false b e f y = renamed y (no-trailer is fits each (λ follows. true≢false (sym (trailer-follows is q .1 follows) ∙ e)))
 
   at-records : (is : List Item) → Fitting list room is → judgeItems is ≡ refused x → WriteFault list room x
@@ -106,12 +107,12 @@ module _ (list : List ℕ) (room : ℕ) (x : Refusal) where
           (in-record is (refusal (f .number) (suc (length (recordsIn (f .typed)))) (f .position)) fits (fault-read is proper (fits .few) f) (omega arith) (fault-within is proper (fits .few) f))
 
   at-sizes : (is : List Item) → parse list ≡ items is → judgeParsed (items is) room ≡ refused x → WriteFault list room x
-  at-sizes is said = by (leb (suc (length is)) 9999999) (leb (120 * suc (length is)) room) refl refl
+  at-sizes is said = by (leb (suc (length is)) mostRecords) (leb (120 * suc (length is)) room) refl refl
     where
-      by : (a b : Bool) → leb (suc (length is)) 9999999 ≡ a → leb (120 * suc (length is)) room ≡ b → cond a (cond b (judgeItems is) (refused (ofCall 21))) (refused (ofCall 1)) ≡ refused x → WriteFault list room x
-      by true true e f y = at-records is (record { said = said; few = leb-true (suc (length is)) 9999999 e; roomy = leb-true (120 * suc (length is)) room f }) y
-      by true false e f y = renamed y (no-room is said (leb-true (suc (length is)) 9999999 e) (leb-false (120 * suc (length is)) room f))
-      by false b e f y = renamed y (too-many is said (leb-false (suc (length is)) 9999999 e))
+      by : (a b : Bool) → leb (suc (length is)) mostRecords ≡ a → leb (120 * suc (length is)) room ≡ b → cond a (cond b (judgeItems is) (refused (ofCall 21))) (refused (ofCall 1)) ≡ refused x → WriteFault list room x
+      by true true e f y = at-records is (record { said = said; few = leb-true (suc (length is)) mostRecords e; roomy = leb-true (120 * suc (length is)) room f }) y
+      by true false e f y = renamed y (no-room is said (leb-true (suc (length is)) mostRecords e) (leb-false (120 * suc (length is)) room f))
+      by false b e f y = renamed y (too-many is said (leb-false (suc (length is)) mostRecords e))
 
   refused-so : judgeList list room ≡ refused x → WriteFault list room x
   unfolding judgeList
@@ -124,7 +125,7 @@ module _ (list : List ℕ) (room : ℕ) (x : Refusal) where
 -- and the other way round
 pub fitting-judged : (list : List ℕ) (room : ℕ) (is : List Item) → Fitting list room is → judgeList list room ≡ judgeItems is
 unfolding judgeList
-fitting-judged list room is fits = rw (fits .said, le-leb (suc (length is)) 9999999 (fits .few), le-leb (120 * suc (length is)) room (fits .roomy))
+fitting-judged list room is fits = rw (fits .said, le-leb (suc (length is)) mostRecords (fits .few), le-leb (120 * suc (length is)) room (fits .roomy))
 
 -- all the records are right
 right-of : (is : List Item) → All Proper is → EachRight (front is) (recordsFor is) → RightItems is
@@ -136,11 +137,11 @@ fault-refuses : (list : List ℕ) (room : ℕ) (x : Refusal) → WriteFault list
 unfolding judgeList
 fault-refuses list room x (no-item m f) = rw (faulty-exact list m .1 f)
 fault-refuses list room x (too-many is said many) =
-    let over : leb (suc (length is)) 9999999 ≡ false = lt-leb (suc (length is)) 9999999 many in
+    let over : leb (suc (length is)) mostRecords ≡ false = lt-leb (suc (length is)) mostRecords many in
     rw (said, over)
 fault-refuses list room x (no-room is said few short) =
     let over : leb (120 * suc (length is)) room ≡ false = lt-leb (120 * suc (length is)) room short in
-    rw (said, le-leb (suc (length is)) 9999999 few, over)
+    rw (said, le-leb (suc (length is)) mostRecords few, over)
 fault-refuses list room x (in-record is y fits e some within) =
     let proper = items-exact list is .0 (fits .said) .1 in
     fitting-judged list room is fits ∙ by proper (view-items is proper)
@@ -161,7 +162,7 @@ fault-refuses list room x (too-much is fits each follows much) =
     let proper = items-exact list is .0 (fits .said) .1 in
     let q = right-of is proper each in
     let due : may q ≡ true = trailer-follows is q .1 follows in
-    let over : leb (stateBehind start (q .typed) .cents) 999999999999999 ≡ false = lt-leb (stateBehind start (q .typed) .cents) 999999999999999 (omega (arith, right-sums is proper q .1)) in
+    let over : leb (stateBehind start (q .typed) .cents) mostCents ≡ false = lt-leb (stateBehind start (q .typed) .cents) mostCents (omega (arith, right-sums is proper q .1)) in
     fitting-judged list room is fits ∙ right-judged is proper q ∙ rw (due, over)
 
 pub write-refused : WriteRefused
@@ -192,5 +193,5 @@ write-accepted list room t = (accepted-so, so-accepted)
         let q = right-of is proper (a .right) in
         let sums = right-sums is proper q in
         let due : may q ≡ true = trailer-follows is q .1 (a .follows) in
-        let small : leb (stateBehind start (q .typed) .cents) 999999999999999 ≡ true = le-leb (stateBehind start (q .typed) .cents) 999999999999999 (omega (arith, sums .1, a .small)) in
+        let small : leb (stateBehind start (q .typed) .cents) mostCents ≡ true = le-leb (stateBehind start (q .typed) .cents) mostCents (omega (arith, sums .1, a .small)) in
         fitting-judged list room is (a .fits) ∙ right-judged is proper q ∙ rw (due, small) (ap accepted ((λ i. record { dispositions = sums .0 i; cents = sums .1 i; records = suc (length is) }) ∙ a .totals))

@@ -17,6 +17,7 @@ use Rattle.records.specs.Context.{headerOf}
 use Rattle.records.specs.Field.{_to_, field}
 use Rattle.records.specs.Finding.{Hold}
 use Rattle.records.specs.Kinds.{heads, opened}
+use Rattle.records.specs.Limits.{mostCents, mostRecords}
 use Rattle.records.specs.declared.kind.Kind.{Kind}
 use Rattle.records.specs.declared.kind.Kind.the-variants.{Im, Ef}
 use Rattle.flow.specs.Judge.{totals, ended, judge}
@@ -53,14 +54,14 @@ use Rattle.list.proofs.ListItems.{items-exact}
 use Rattle.list.proofs.Trailer.{Meant, Counted, trailer-right}
 
 -- what was accepted behind the items
-pub closed-so : (w : Walk) (i : ℕ) {t : Totals} → closed w i ≡ accepted t → (mayClose (permitted (w .place .due)) ≡ true) × (w .cents ≤ 999999999999999) × (totals w (suc i) ≡ t)
-closed-so w i {t} = by (mayClose (permitted (w .place .due))) (leb (w .cents) 999999999999999) refl refl
+pub closed-so : (w : Walk) (i : ℕ) {t : Totals} → closed w i ≡ accepted t → (mayClose (permitted (w .place .due)) ≡ true) × (w .cents ≤ mostCents) × (totals w (suc i) ≡ t)
+closed-so w i {t} = by (mayClose (permitted (w .place .due))) (leb (w .cents) mostCents) refl refl
   where
     by :
-        (a b : Bool) → mayClose (permitted (w .place .due)) ≡ a → leb (w .cents) 999999999999999 ≡ b
+        (a b : Bool) → mayClose (permitted (w .place .due)) ≡ a → leb (w .cents) mostCents ≡ b
         → cond a (cond b (accepted (totals w (suc i))) (refused (ofCall 17))) (refused (refusal 3 (suc i) 2)) ≡ accepted t
-        → (mayClose (permitted (w .place .due)) ≡ true) × (w .cents ≤ 999999999999999) × (totals w (suc i) ≡ t)
-    by true true e f x = (e, leb-true (w .cents) 999999999999999 f, accepted-same x)
+        → (mayClose (permitted (w .place .due)) ≡ true) × (w .cents ≤ mostCents) × (totals w (suc i) ≡ t)
+    by true true e f x = (e, leb-true (w .cents) mostCents f, accepted-same x)
     by true false e f x = absurd (accepted-not-refused x)
     by false b e f x = absurd (accepted-not-refused x)
 
@@ -119,7 +120,7 @@ module _ (it : Item) (others : List Item) (proper : All Proper (it ∷ others)) 
       subst (Meant im) (sym header-meant) (record { sized = proper .0 .sized ∙ ap bodyLength kind; carries = carries; printable = first .0; code = first .1 })
 
   -- with EF behind them they are a flow
-  pub encode-accepted : mayClose (permitted (behind .place .due)) ≡ true → suc (length all) ≤ 9999999 → centsOf all ≤ 999999999999999 → judge (encode all) ≡ accepted (totalsOf all)
+  pub encode-accepted : mayClose (permitted (behind .place .due)) ≡ true → suc (length all) ≤ mostRecords → centsOf all ≤ mostCents → judge (encode all) ≡ accepted (totalsOf all)
   encode-accepted may few small =
       let tr = trailerFor all in
       let last : List Typed = record { kind = Ef; bytes = tr } ∷ [] in
@@ -153,7 +154,7 @@ none-closes r = by (r .typed) (r .same)
     by (t ∷ ts) same u = nil≢cons (sym same)
 
 accepted-encoding :
-    (is : List Item) (proper : All Proper is) (r : RightItems is) → mayClose (permitted (stateBehind start (r .typed) .place .due)) ≡ true → suc (length is) ≤ 9999999 → centsOf is ≤ 999999999999999
+    (is : List Item) (proper : All Proper is) (r : RightItems is) → mayClose (permitted (stateBehind start (r .typed) .place .due)) ≡ true → suc (length is) ≤ mostRecords → centsOf is ≤ mostCents
     → judge (encode is) ≡ accepted (totalsOf is)
 accepted-encoding [] proper r may few small = absurd (none-closes r may)
 accepted-encoding (it ∷ is) proper r may few small = encode-accepted it is proper r may few small
@@ -168,20 +169,20 @@ pub accepted-list : (list : List ℕ) (room : ℕ) (t : Totals) → judgeList li
 unfolding judgeList
 accepted-list list room t e = by (parse list) refl e
   where
-    sizes : (is : List Item) (a b : Bool) → parse list ≡ items is → leb (suc (length is)) 9999999 ≡ a → leb (120 * suc (length is)) room ≡ b → cond a (cond b (judgeItems is) (refused (ofCall 21))) (refused (ofCall 1)) ≡ accepted t → AcceptedList list room t
-    sizes is true true said few roomy e = record { these = is; fits = record { said = said; few = leb-true (suc (length is)) 9999999 few; roomy = leb-true (120 * suc (length is)) room roomy }; judged-so = e }
+    sizes : (is : List Item) (a b : Bool) → parse list ≡ items is → leb (suc (length is)) mostRecords ≡ a → leb (120 * suc (length is)) room ≡ b → cond a (cond b (judgeItems is) (refused (ofCall 21))) (refused (ofCall 1)) ≡ accepted t → AcceptedList list room t
+    sizes is true true said few roomy e = record { these = is; fits = record { said = said; few = leb-true (suc (length is)) mostRecords few; roomy = leb-true (120 * suc (length is)) room roomy }; judged-so = e }
     sizes is true false said few roomy e = absurd (accepted-not-refused e)
     sizes is false b said few roomy e = absurd (accepted-not-refused e)
 
     by : (p : Parsed) → parse list ≡ p → judgeParsed p room ≡ accepted t → AcceptedList list room t
-    by (items is) said e = sizes is (leb (suc (length is)) 9999999) (leb (120 * suc (length is)) room) said refl refl e
+    by (items is) said e = sizes is (leb (suc (length is)) mostRecords) (leb (120 * suc (length is)) room) said refl refl e
     by (faulty m) said e = absurd (accepted-not-refused e)
 
 -- what was accepted of items: each record is right, and the answer is their exact sums
 pub record AcceptedItems (is : List Item) (t : Totals) : Type 0 where
   pub right : RightItems is
   pub may : mayClose (permitted (stateBehind start (right .typed) .place .due)) ≡ true
-  pub small : centsOf is ≤ 999999999999999
+  pub small : centsOf is ≤ mostCents
   pub told : totalsOf is ≡ t
 
 pub accepted-items : (is : List Item) → All Proper is → (t : Totals) → judgeItems is ≡ accepted t → AcceptedItems is t

@@ -6,6 +6,7 @@ use mathlib.Core.Path.{_≡_}
 use lib.Dec.{leb}
 use lib.ListN.{length, take}
 use Rattle.records.specs.Kinds.{opens}
+use Rattle.records.specs.Limits.{mostRecords}
 use Rattle.records.specs.declared.kind.Kind.{Kind}
 use Rattle.list.specs.declared.count.Count.{Count}
 use Rattle.list.specs.declared.count.Count.the-variants.{Items, Faulty}
@@ -74,4 +75,4 @@ counted (faulty n) = Faulty n
 
 pub record Listed (list : List ℕ) : Type 0 where
   pub said : parse list ≡ items (itemsIn list)
-  pub few : length (itemsIn list) ≤ 9999998
+  pub few : suc (length (itemsIn list)) ≤ mostRecords

@@ -10,6 +10,7 @@ use Rattle.sequences.specs.Pairs.{Pairs}
 use Rattle.records.specs.Checked.{checked, Alike}
 use Rattle.records.specs.Field.{field}
 use Rattle.records.specs.Kinds.{typeOf}
+use Rattle.records.specs.Limits.{mostCents, mostRecords}
 use Rattle.records.specs.declared.kind.Kind.{Kind}
 use Rattle.records.specs.declared.kind.Kind.the-variants.{Ef}
 use Rattle.flow.specs.Judge.{judge}
@@ -55,14 +56,14 @@ FaultyExact = (list : List ℕ) (n : ℕ) → (parse list ≡ faulty n) ↔ Faul
 -- the items of a list, of which a flow has room for so many, and the output too
 pub record Fitting (list : List ℕ) (room : ℕ) (is : List Item) : Type 0 where
   pub said : parse list ≡ items is
-  pub few : suc (length is) ≤ 9999999
+  pub few : suc (length is) ≤ mostRecords
   pub roomy : 120 * suc (length is) ≤ room
 
 -- document 01's refusals of writing, each where those before it do not apply
 pub data WriteFault (list : List ℕ) (room : ℕ) : Refusal → Type 0 where
   no-item : (n : ℕ) → FaultyAt list n → WriteFault list room (refusal 20 n 0)
-  too-many : (is : List Item) → parse list ≡ items is → 9999999 < suc (length is) → WriteFault list room (ofCall 1)
-  no-room : (is : List Item) → parse list ≡ items is → suc (length is) ≤ 9999999 → room < 120 * suc (length is) → WriteFault list room (ofCall 21)
+  too-many : (is : List Item) → parse list ≡ items is → mostRecords < suc (length is) → WriteFault list room (ofCall 1)
+  no-room : (is : List Item) → parse list ≡ items is → suc (length is) ≤ mostRecords → room < 120 * suc (length is) → WriteFault list room (ofCall 21)
   -- the reader's refusal of the records other than EF, in one of them
   in-record :
       (is : List Item) (x : Refusal) → Fitting list room is → judge (flatten (recordsFor is)) ≡ refused x → 1 ≤ x .«record» → x .«record» ≤ length is
@@ -74,7 +75,7 @@ pub data WriteFault (list : List ℕ) (room : ℕ) : Refusal → Type 0 where
   -- EF may follow, and its digits do not hold the total
   too-much :
       (is : List Item) → Fitting list room is → EachRight (flatten (recordsFor is)) (recordsFor is) → MayFollow (recordsFor is) Ef
-      → 999999999999999 < centsOf is → WriteFault list room (ofCall 17)
+      → mostCents < centsOf is → WriteFault list room (ofCall 17)
 
 abbrev pub WriteRefused : Type 0
 WriteRefused = (list : List ℕ) (room : ℕ) (x : Refusal) → (judgeList list room ≡ refused x) ↔ WriteFault list room x
@@ -86,7 +87,7 @@ pub record WriteAccepts (list : List ℕ) (room : ℕ) (t : Totals) : Type 0 whe
   pub fits : Fitting list room these
   pub right : EachRight (flatten (recordsFor these)) (recordsFor these)
   pub follows : MayFollow (recordsFor these) Ef
-  pub small : centsOf these ≤ 999999999999999
+  pub small : centsOf these ≤ mostCents
   pub totals : totalsOf these ≡ t
 
 abbrev pub WriteAccepted : Type 0

@@ -6,6 +6,7 @@ use mathlib.Core.List.{List, [], flatten}
 use lib.Dec.{leb}
 use lib.ListN.{length, take}
 use Rattle.records.specs.Context.{headerOf}
+use Rattle.records.specs.Limits.{mostCents, mostRecords}
 use Rattle.flow.specs.Judge.{totals, go}
 use Rattle.flow.specs.Order.{permitted, mayClose}
 use Rattle.flow.specs.Output.{Output, output}
@@ -20,7 +21,7 @@ use Rattle.list.specs.Items.{Item, Parsed, items, faulty, parse, itemsIn
 abbrev pub closed : Walk → ℕ → Verdict Totals
 closed w n =
     cond (mayClose (permitted (w .place .due)))
-    (cond (leb (w .cents) 999999999999999) (accepted (totals w (suc n))) (refused (ofCall 17)))
+    (cond (leb (w .cents) mostCents) (accepted (totals w (suc n))) (refused (ofCall 17)))
     (refused (refusal 3 (suc n) 2))
 
 -- the encoded records, judged as the reader judges them: the first 120 bytes are the header
@@ -31,7 +32,7 @@ judgeItems is = go closed (headerOf (take 120 (flatten (recordsFor is)))) start 
 abbrev pub judgeParsed : Parsed → ℕ → Verdict Totals
 judgeParsed (faulty n) room = refused (refusal 20 n 0)
 judgeParsed (items is) room =
-    cond (leb (suc (length is)) 9999999) (cond (leb (120 * suc (length is)) room) (judgeItems is) (refused (ofCall 21))) (refused (ofCall 1))
+    cond (leb (suc (length is)) mostRecords) (cond (leb (120 * suc (length is)) room) (judgeItems is) (refused (ofCall 21))) (refused (ofCall 1))
 
 -- the answer to a list, with an output of so many bytes
 unfoldable pub judgeList : List ℕ → ℕ → Verdict Totals

@@ -3,6 +3,7 @@ ghost use Prim.Native.Nat.{_+_, _≤_};
 ghost use mathlib.Core.Path.{_≡_};
 ghost use lib.ListN.{length};
 ghost use Rattle.sequences.specs.Part.{put};
+ghost use Rattle.flow.specs.Records.{mostBytes};
 ghost use Rattle.list.specs.Items.{listBytes};
 ghost use Rattle.list.specs.Output.{outputOf};
 ghost use Rattle.list.specs.ReadBack.{gather, itemOf, itemLength, listOf, readBack};
@@ -41,7 +42,7 @@ pub fn read_back(flow: &[u8], out: &mut [u8]) -> Filled
 
 // The length of the flow's list.
 fn list_length(flow: &[u8]) -> usize
-    requires { ⌜ length (now flow) ≤ 1199999880 ⌝ }
+    requires { ⌜ length (now flow) ≤ mostBytes ⌝ }
     ensures { λ r. ⌜ r ≡ length (listOf (now (flow .entry))) ⌝ }
 {
     let mut length = 0;

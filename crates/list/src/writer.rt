@@ -7,6 +7,7 @@ ghost use lib.ListN.{length, take};
 ghost use Rattle.sequences.specs.Part.{put};
 ghost use Rattle.records.specs.Context.{headerOf};
 ghost use Rattle.records.specs.Kinds.{heads, opened};
+ghost use Rattle.records.specs.Limits.{countLimit, mostRecords};
 ghost use Rattle.flow.specs.Judge.{go};
 ghost use Rattle.flow.specs.Steps.{start};
 ghost use Rattle.flow.specs.Verdict.{verdict};
@@ -138,7 +139,7 @@ fn judge_records(list: &[u8], im: &[u8]) -> Answer
 
 // The dispositions up to and with an item of the kind.
 fn counted(dispositions: u64, kind: ItemKind) -> u64
-    requires { ⌜ dispositions < 10000000 ⌝ }
+    requires { ⌜ dispositions < countLimit ⌝ }
     ensures { λ r. ⌜ r ≡ dispositions + opened (recordOf kind) ⌝ }
 {
     if records::opens(record_of(kind)) {
@@ -159,7 +160,7 @@ fn header_behind<'a>(header: &'a [u8], body: &'a [u8], kind: ItemKind) -> &'a [u
 
 // The answer behind the last of n records, where EF is due.
 fn close(walk: Walk, n: u64) -> Answer
-    requires { ⌜ n ≤ 9999998 ⌝ }
+    requires { ⌜ suc n ≤ mostRecords ⌝ }
     ensures { λ r. ⌜ verdict r ≡ closed walk n ⌝ }
 {
     if !walk.may_close() {

@@ -1,15 +1,22 @@
--- Where the code's counts stop: one more than the digits of a record hold, so that no record can tell the difference. Assumes nothing.
-use Prim.Native.Nat.{ℕ, min}
+-- What the digits of a trailer hold, and where the code's counts stop: one more than that, so that no record can tell the difference.
+-- Assumes nothing.
+use Prim.Native.Nat.{ℕ, suc, min}
 use Rattle.records.specs.Context.{Context}
 use Rattle.records.specs.declared.judged.Counts.{Counts}
 
--- one more than seven digits hold
-abbrev pub countLimit : ℕ
-countLimit = 10000000
+-- the most that seven digits hold: of dispositions, and of records; and the most that fifteen hold: of cents
+abbrev pub mostRecords : ℕ
+mostRecords = 9999999
 
--- one more than fifteen digits hold
+abbrev pub mostCents : ℕ
+mostCents = 999999999999999
+
+-- one more than each
+abbrev pub countLimit : ℕ
+countLimit = suc mostRecords
+
 abbrev pub centsLimit : ℕ
-centsLimit = 1000000000000000
+centsLimit = suc mostCents
 
 abbrev pub stoppedCounts : Counts → Counts
 stoppedCounts c = record { dispositions = min (c .dispositions) countLimit; cents = min (c .cents) centsLimit; records = c .records }

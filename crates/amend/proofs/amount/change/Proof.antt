@@ -6,7 +6,9 @@ use native.Mathlib.Omega.{arith}
 use lib.ListN.{length}
 use borrow.Author.Needs.{needs}
 use borrow.Author.Tests.{le-leb, lt-leb}
+use Rattle.fields.specs.Amount.{mostAmount}
 use Rattle.fields.specs.Digits.{digits}
+use Rattle.records.specs.Limits.{mostCents}
 use Rattle.flow.specs.Seek.{sought, seek}
 use Rattle.flow.specs.Verdict.{Verdict, accepted, refused}
 use Rattle.flow.specs.declared.answer.Answer.the-variants.{Refused}
@@ -72,7 +74,7 @@ same-length c = search needs
 returns : tie.Need-returns
 returns c =
     let at = c .before .before in
-    left-unchanged (Refused (c .refusal-of-call .result)) (length (flow at)) (flow at) (ap refused (c .refusal-of-call .ensures)) refl ∙ sym (change-so _ _ _ (there at) ∙ rw (lt-leb (new at) 9999999999999 (c .before .if1 .taken)))
+    left-unchanged (Refused (c .refusal-of-call .result)) (length (flow at)) (flow at) (ap refused (c .refusal-of-call .ensures)) refl ∙ sym (change-so _ _ _ (there at) ∙ rw (lt-leb (new at) mostAmount (c .before .if1 .taken)))
 
 sub-t15 : tie.Need-sub-t15
 sub-t15 c = known (c .before .before .before .before .before) .share
@@ -90,7 +92,7 @@ returns-2 : tie.Need-returns-2
 returns-2 c =
     let at = c .before .before .before .before .before .before .before .before in
     left-unchanged (Refused (c .refusal-of-call2 .result)) (length (flow at)) (flow at) (ap refused (c .refusal-of-call2 .ensures)) refl
-    ∙ sym (change-so _ _ _ (there at) ∙ rw (le-leb (new at) 9999999999999 (c .before .before .before .before .before .before .before .if1 .left), lt-leb (made at .cents) 999999999999999 (c .before .if2 .taken)))
+    ∙ sym (change-so _ _ _ (there at) ∙ rw (le-leb (new at) mostAmount (c .before .before .before .before .before .before .before .if1 .left), lt-leb (made at .cents) mostCents (c .before .if2 .taken)))
 
 place-number-requires : tie.Need-place-number-requires
 place-number-requires c κs =
@@ -119,7 +121,7 @@ returns-4 c =
     let first = c .before .before .before .before .before .before .place-number .ensures in
     let bytes : c .before .before .place-number2 .last .0 ≡ changed (found at .stand .first) (new at) t (flow at) = c .before .before .place-number2 .ensures ∙ ap (written (t .records) 53 (digits 15 (t .cents))) first in
     ap (λ (l : List ℕ). record { answer = accepted t; size = length (flow at); bytes = l }) bytes
-    ∙ sym (change-so _ _ _ (there at) ∙ rw (le-leb (new at) 9999999999999 (end .before .before .before .before .before .before .if1 .left), le-leb (t .cents) 999999999999999 (end .if2 .left)))
+    ∙ sym (change-so _ _ _ (there at) ∙ rw (le-leb (new at) mostAmount (end .before .before .before .before .before .before .if1 .left), le-leb (t .cents) mostCents (end .if2 .left)))
 
 pub change-spec : {M : Type 1} → statement M
 change-spec =

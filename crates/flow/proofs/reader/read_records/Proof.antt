@@ -11,7 +11,7 @@ use Rattle.records.specs.Context.{headerOf}
 use Rattle.records.specs.Finding.{finding}
 use Rattle.flow.specs.FastPath.{Numbered}
 use Rattle.flow.specs.Judge.{ended}
-use Rattle.flow.specs.Records.{recordAt, recordsOf, recordsFrom}
+use Rattle.flow.specs.Records.{recordAt, recordsOf, recordsFrom, mostBytes}
 use Rattle.flow.specs.Steps.{judgeRecord, stopped}
 use Rattle.flow.proofs.Lengths.{length-said}
 use Rattle.flow.proofs.Cut.{cut-next, cut-end, record-part, record-whole}
@@ -21,7 +21,7 @@ use Rattle.flow.proofs.reader.read_records.Statement.{statement}
 use Rattle.flow.proofs.reader.read_records.Tie as tie
 
 abbrev Inv-loop : tie.InvT-loop
-Inv-loop flow header walk₀ company₀ i₀ walk company i = (i ≤ length flow / 120) × (length flow ≤ 1199999880) × Reading ended (headerOf header) (recordsOf flow) walk company i (recordsFrom i flow)
+Inv-loop flow header walk₀ company₀ i₀ walk company i = (i ≤ length flow / 120) × (length flow ≤ mostBytes) × Reading ended (headerOf header) (recordsOf flow) walk company i (recordsFrom i flow)
 
 abbrev μ-loop : tie.MeasureT-loop
 μ-loop flow header walk₀ company₀ i₀ walk company i = length flow / 120 - i

@@ -6,6 +6,7 @@ use native.Mathlib.Omega.{arith}
 use lib.Dec.{leb}
 use borrow.Author.Needs.{needs}
 use borrow.Author.Tests.{not-true, not-false, le-leb, lt-leb}
+use Rattle.records.specs.Limits.{mostCents}
 use Rattle.flow.specs.Order.{permitted, mayClose}
 use Rattle.flow.specs.Verdict.{refused}
 use Rattle.list.proofs.writer.close.Statement.{statement}
@@ -28,7 +29,7 @@ refusal-of-call-requires c κs = search needs
 returns-2 : tie.Need-returns-2
 returns-2 c =
     let due : mayClose (permitted (c .before .before .before .before .before .args .walk .place .due)) ≡ true = sym (c .before .before .before .before .may-close .ensures) ∙ not-false _ (c .before .before .before .if1 .left) in
-    let over : leb (c .before .before .before .before .before .args .walk .cents) 999999999999999 ≡ false = lt-leb (c .before .before .before .before .before .args .walk .cents) 999999999999999 (omega (arith, c .before .if2 .taken)) in
+    let over : leb (c .before .before .before .before .before .args .walk .cents) mostCents ≡ false = lt-leb (c .before .before .before .before .before .args .walk .cents) mostCents (omega (arith, c .before .if2 .taken)) in
     rw (due, over) (ap refused (c .refusal-of-call .ensures))
 
 add-t8 : tie.Need-add-t8
@@ -37,7 +38,7 @@ add-t8 c = search needs
 returns-3 : tie.Need-returns-3
 returns-3 c =
     let due : mayClose (permitted (c .before .before .before .before .args .walk .place .due)) ≡ true = sym (c .before .before .before .may-close .ensures) ∙ not-false _ (c .before .before .if1 .left) in
-    let small : leb (c .before .before .before .before .args .walk .cents) 999999999999999 ≡ true = le-leb (c .before .before .before .before .args .walk .cents) 999999999999999 (omega (arith, c .if2 .left)) in
+    let small : leb (c .before .before .before .before .args .walk .cents) mostCents ≡ true = le-leb (c .before .before .before .before .args .walk .cents) mostCents (omega (arith, c .if2 .left)) in
     rw (due, small, add-one)
 
 pub close-spec : {M : Type 1} → statement M

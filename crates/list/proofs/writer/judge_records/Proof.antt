@@ -11,6 +11,7 @@ use Rattle.records.specs.Context.{Header, headerOf}
 use Rattle.records.specs.Field.{_to_, field}
 use Rattle.records.specs.Kinds.{heads, opened}
 use Rattle.records.specs.Finding.{finding}
+use Rattle.records.specs.Limits.{mostRecords}
 use Rattle.records.specs.declared.kind.Kind.{Kind}
 use Rattle.flow.specs.Steps.{latestOf, judgeRecord}
 use Rattle.list.specs.Encode.{carriedAt, encodeItem}
@@ -24,7 +25,7 @@ use Rattle.list.proofs.writer.judge_records.Tie as tie
 
 abbrev Inv-loop : tie.InvT-loop
 Inv-loop list im walk₀ company₀ header₀ dispositions₀ n₀ at₀ walk company header dispositions n i =
-    (i ≤ length list) × (length (itemsIn list) ≤ 9999998) × JudgingAt (headerOf im) list i n dispositions header walk company
+    (i ≤ length list) × (suc (length (itemsIn list)) ≤ mostRecords) × JudgingAt (headerOf im) list i n dispositions header walk company
 
 abbrev μ-loop : tie.MeasureT-loop
 μ-loop list im walk₀ company₀ header₀ dispositions₀ n₀ at₀ walk company header dispositions n i = length list - i
@@ -98,7 +99,7 @@ part-body-end : tie.Need-part-body-end Inv-loop μ-loop
 part-body-end c = omega (arith, turn-so c .ends)
 
 -- no more dispositions than items, and no more items than a flow has room for
-few-so : (a : tie.At-loop Inv-loop μ-loop) → (a .loop .dispositions ≤ a .loop .n) × (a .loop .n ≤ 9999998)
+few-so : (a : tie.At-loop Inv-loop μ-loop) → (a .loop .dispositions ≤ a .loop .n) × (suc (a .loop .n) ≤ mostRecords)
 few-so a =
     let j = a .loop .inv .2 in
     (j .few, omega (arith, a .loop .inv .1, j .count))

@@ -10,6 +10,7 @@ use borrow.Author.Needs.{needs}
 use Rattle.sequences.specs.Part.{put}
 use Rattle.sequences.proofs.Part.{put-length}
 use Rattle.records.specs.Kinds.{heads, opened}
+use Rattle.records.specs.Limits.{mostRecords}
 use Rattle.list.specs.Encode.{encodeItem, encodeTrailer, trailerFor, encode}
 use Rattle.list.specs.Items.{itemsIn}
 use Rattle.list.specs.Table.{recordOf, bodyLength}
@@ -23,7 +24,7 @@ use Rattle.list.proofs.writer.store_items.Tie as tie
 
 abbrev Inv-loop : tie.InvT-loop
 Inv-loop list out₀ totals header₀ dispositions₀ n₀ at₀ out header dispositions n j =
-    (j ≤ length list) × (length (itemsIn list) ≤ 9999998) × (length out ≡ length out₀) × StoringAt list (put 0 (encode (itemsIn list)) out₀) j n dispositions header out
+    (j ≤ length list) × (suc (length (itemsIn list)) ≤ mostRecords) × (length out ≡ length out₀) × StoringAt list (put 0 (encode (itemsIn list)) out₀) j n dispositions header out
 
 abbrev μ-loop : tie.MeasureT-loop
 μ-loop list out₀ totals header₀ dispositions₀ n₀ at₀ out header dispositions n j = length list - j
@@ -81,7 +82,7 @@ part-body-end : tie.Need-part-body-end Inv-loop μ-loop
 part-body-end c = omega (arith, turn-so c .ends)
 
 -- no more dispositions than items, and no more items than a flow has room for
-few-so : (a : tie.At-loop Inv-loop μ-loop) → (a .loop .dispositions ≤ a .loop .n) × (a .loop .n ≤ 9999998)
+few-so : (a : tie.At-loop Inv-loop μ-loop) → (a .loop .dispositions ≤ a .loop .n) × (suc (a .loop .n) ≤ mostRecords)
 few-so a =
     let s = a .loop .inv .3 in
     (s .few, omega (arith, a .loop .inv .1, s .count))
