@@ -11,6 +11,7 @@ use Rattle.sequences.proofs.All.{all-before}
 use Rattle.sequences.proofs.Append.{parted}
 use Rattle.sequences.proofs.Flatten.{flatten-append, flatten-flatten}
 use Rattle.sequences.proofs.Part.{put-part, put-front, put-back, part-put-behind, part-length, put-length}
+use Rattle.fields.specs.Amount.{mostAmount}
 use Rattle.fields.specs.Digits.{number, digits}
 use Rattle.fields.proofs.Decimal.{written-length}
 use Rattle.records.specs.Amount.{amountIn}
@@ -214,7 +215,7 @@ around-so p pre r rs post last =
     ∙ simp append-assoc
 
 -- what is left with another amount
-module _ (f : List ℕ) (k : ℕ) (v : Target) (w : Among f k v) (new : ℕ) (small : new < 10000000000000) where
+module _ (f : List ℕ) (k : ℕ) (v : Target) (w : Among f k v) (new : ℕ) (small : new < suc mostAmount) where
   abbrev own : Grammar f (v .totals)
   own = w .grammar
 

@@ -179,7 +179,7 @@ refused-untouched f k x = (λ new. changed-not new (change f k new) (changing f 
 
 -- what is left, as a flow of the grammar
 abbrev pub changed-grammar :
-    (f : List ℕ) (k : ℕ) (v : Target) (new : ℕ) (w : Among f k v) (small : new < 10000000000000) → totalsChanged v new .cents ≤ mostCents
+    (f : List ℕ) (k : ℕ) (v : Target) (new : ℕ) (w : Among f k v) (small : new < suc mostAmount) → totalsChanged v new .cents ≤ mostCents
     → Grammar (changed (v .stand .first) new (totalsChanged v new) f) (totalsChanged v new)
 changed-grammar f k v new w small fits =
     let g = w .grammar in

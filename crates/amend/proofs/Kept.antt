@@ -1,6 +1,6 @@
 -- A record of a disposition with another number, a 14 with another amount, and a trailer with other counts keep their rules. Assumes
 -- nothing.
-use Prim.Native.Nat.{ℕ, _+_, _^_, _≤_, _<_}
+use Prim.Native.Nat.{ℕ, suc, _+_, _^_, _≤_, _<_}
 use mathlib.Core.List.{List, List·Memᴰ}
 use mathlib.Core.Logic.{_⊎_, inl, inr}
 use mathlib.Core.Path.{_≡_, sym, _∙_, ap, subst}
@@ -9,6 +9,7 @@ use lib.ListN.{length, getD}
 use Rattle.sequences.specs.Part.{part, put}
 use Rattle.sequences.specs.Text.{text}
 use Rattle.sequences.proofs.Part.{put-length, part-put, part-put-before, part-put-behind, part-getD, all-put}
+use Rattle.fields.specs.Amount.{mostAmount}
 use Rattle.fields.specs.Digits.{digits, number}
 use Rattle.fields.proofs.Decimal.{written-length}
 use Rattle.records.specs.Amount.{amountIn}
@@ -121,7 +122,7 @@ module _ (k : Kind) (abi : List ℕ) (i j : ℕ) (rec : List ℕ) (formed : Form
 abbrev pub repriced : ℕ → List ℕ → List ℕ
 repriced new rec = put 33 (digits 13 new) rec
 
-module _ (abi : List ℕ) (i new : ℕ) (rec : List ℕ) (formed : Formed R14 rec) (small : new < 10000000000000) where
+module _ (abi : List ℕ) (i new : ℕ) (rec : List ℕ) (formed : Formed R14 rec) (small : new < suc mostAmount) where
   kept : (b n : ℕ) → (b + n ≤ 33) ⊎ (46 ≤ b) → part b n (repriced new rec) ≡ part b n rec
   kept = over-kept 33 13 new rec (formed .whole) (omega arith)
 

@@ -14,7 +14,8 @@ use Rattle.sequences.proofs.Part.{put-length, getD-put-elsewhere}
 use Rattle.fields.specs.Amount.{mostAmount}
 use Rattle.fields.specs.Digits.{digits}
 use Rattle.fields.proofs.Decimal.{written-length}
-use Rattle.records.specs.Field.{Span, _to_, byteAt}
+use Rattle.records.specs.Amount.{amountSpan}
+use Rattle.records.specs.Field.{Span, _to_, firstOf, width, byteAt}
 use Rattle.records.specs.Limits.{mostCents}
 use Rattle.flow.specs.Find.{dispositionsIn}
 use Rattle.flow.specs.Judge.{judge}
@@ -109,7 +110,7 @@ withdraw-leaves f k t same = go (withdraw f k) (withdrawing f k) same
 
 -- digits written over a record of a flow, and any index that does not lie there
 written-elsewhere :
-    (r p w v i : ℕ) (f : List ℕ) → 1 ≤ p → 120 * (r - 1) + (p - 1) + w ≤ length f → ¬ Lies i r p (p - 1 + w)
+    (r p w v i : ℕ) (f : List ℕ) → 1 ≤ p → 120 * (r - 1) + (p - 1) + w ≤ length f → ¬ Lies i r (p to (p - 1 + w))
     → getD (written r p (digits w v) f) i 0 ≡ getD f i 0
 written-elsewhere r p w v i f one fits outside =
     let size = written-length w v in
@@ -132,13 +133,13 @@ change-touches f k new t s read found = go (change f k new) (changing f k new)
         let first = g .stand .first in
         let n = g .totals .records in
         let total = totalsChanged g new .cents in
-        let one = written first 34 (digits 13 new) f in
-        let kept : length one ≡ length f = written-size first 34 13 new f (omega arith) in
+        let one = written first (firstOf amountSpan) (digits (width amountSpan) new) f in
+        let kept : length one ≡ length f = written-size first (firstOf amountSpan) (width amountSpan) new f (omega arith) in
         record {
           sizes = written-size n 53 15 total one (omega arith) ∙ kept;
           bytes = λ i u v.
-              written-elsewhere n 53 15 total i one (omega arith) (omega arith) (λ l. v (subst (λ (r : ℕ). Lies i r 53 67) count l))
-              ∙ written-elsewhere first 34 13 new i f (omega arith) (omega arith) (λ l. u (subst (λ (r : ℕ). Lies i r 34 46) place l));
+              written-elsewhere n 53 15 total i one (omega arith) (omega arith) (λ l. v (subst (λ (r : ℕ). Lies i r (53 to 67)) count l))
+              ∙ written-elsewhere first (firstOf amountSpan) (width amountSpan) new i f (omega arith) (omega arith) (λ l. u (subst (λ (r : ℕ). Lies i r amountSpan) place l));
         }
 
 -- a record with digits written over, and any byte that does not lie there

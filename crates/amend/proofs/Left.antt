@@ -11,6 +11,7 @@ use Rattle.sequences.specs.Sum.{sum}
 use Rattle.sequences.proofs.Counted.{counted-before, counted-behind, counted-append}
 use Rattle.sequences.proofs.Flatten.{map-flatten}
 use Rattle.sequences.proofs.Sum.{sum-append}
+use Rattle.fields.specs.Amount.{mostAmount}
 use Rattle.fields.specs.Digits.{number}
 use Rattle.records.specs.Context.{headerOf}
 use Rattle.records.specs.Limits.{centsLimit, countLimit}
@@ -138,7 +139,7 @@ pub record Retold (abi : List ℕ) (i new : ℕ) (d : List Typed) : Type 0 where
   pub code : codeOf (retold new d) ≡ codeOf d
   pub size : length (retold new d) ≡ length d
 
-pub retold-so : (abi : List ℕ) (i new : ℕ) (d : List Typed) → new < 10000000000000 → RightDisposition abi i d → Retold abi i new d
+pub retold-so : (abi : List ℕ) (i new : ℕ) (d : List Typed) → new < suc mostAmount → RightDisposition abi i d → Retold abi i new d
 retold-so abi i new d small r = go d (opened-so d (r .order)) (r .order) (r .records)
   where
     go : (d : List Typed) → Opened d → Disposition (kindsOf d) → All (Member abi i) d → Retold abi i new d
@@ -235,7 +236,7 @@ module _ (f : List ℕ) (t : Totals) (g : Grammar f t) (pre : List (List Typed))
       (omega (arith, rest-records))
 
   -- with another amount in the record that opens it
-  module _ (new : ℕ) (small : new < 10000000000000) where
+  module _ (new : ℕ) (small : new < suc mostAmount) where
     abbrev pub changed : List (List Typed)
     changed = pre ++ (retold new x ∷ post)
 

@@ -7,6 +7,8 @@ use lib.Dec.{leb}
 use lib.ListN.{length}
 use Rattle.fields.specs.Amount.{mostAmount}
 use Rattle.fields.specs.Digits.{digits}
+use Rattle.records.specs.Amount.{amountSpan}
+use Rattle.records.specs.Field.{firstOf, width}
 use Rattle.records.specs.Limits.{mostCents}
 use Rattle.flow.specs.Seek.{seek}
 use Rattle.flow.specs.Verdict.{Verdict, accepted, refused, ofCall}
@@ -22,7 +24,7 @@ totalsChanged v new =
 
 -- the flow with the new amount in record `first`, a 14, and the total in its last record, the trailer
 abbrev pub changed : ℕ → ℕ → Totals → List ℕ → List ℕ
-changed first new t f = written (t .records) 53 (digits 15 (t .cents)) (written first 34 (digits 13 new) f)
+changed first new t f = written (t .records) 53 (digits 15 (t .cents)) (written first (firstOf amountSpan) (digits (width amountSpan) new) f)
 
 -- disposition k stands in the flow: 16, then 17, then the change
 abbrev pub changeAt : Target → ℕ → List ℕ → Amended

@@ -5,7 +5,8 @@ use mathlib.Core.Logic.{_↔_}
 use mathlib.Core.Path.{_≡_}
 use lib.ListN.{length, take, getD, replicate}
 use Rattle.fields.specs.Amount.{mostAmount}
-use Rattle.records.specs.Field.{Span, _to_, byteAt}
+use Rattle.records.specs.Amount.{amountSpan}
+use Rattle.records.specs.Field.{Span, _to_, firstOf, lastOf, byteAt}
 use Rattle.records.specs.Limits.{mostCents}
 use Rattle.flow.specs.Find.{IsNumber, find}
 use Rattle.flow.specs.Judge.{judge}
@@ -67,15 +68,15 @@ ChangeLeaves = (f : List ℕ) (k new : ℕ) (t : Totals) → change f k new .ans
 abbrev pub WithdrawLeaves : Type 0
 WithdrawLeaves = (f : List ℕ) (k : ℕ) (t : Totals) → withdraw f k .answer ≡ accepted t → Leaves f (withdraw f k) t
 
--- index i of a flow lies in positions p to q of record r
-pub record Lies (i r p q : ℕ) : Type 0 where
-  pub starts : 120 * (r - 1) + (p - 1) ≤ i
-  pub ends : i < 120 * (r - 1) + q
+-- index i of a flow lies in positions of record r
+pub record Lies (i r : ℕ) (s : Span) : Type 0 where
+  pub starts : 120 * (r - 1) + (firstOf s - 1) ≤ i
+  pub ends : i < 120 * (r - 1) + lastOf s
 
 -- "only 34-46 of that record 14 and 53-67 of EF may differ", where the 14 is record `first` and EF record n
 pub record AmountOnly (f left : List ℕ) (n first : ℕ) : Type 0 where
   pub sizes : length left ≡ length f
-  pub bytes : (i : ℕ) → ¬ Lies i first 34 46 → ¬ Lies i n 53 67 → getD left i 0 ≡ getD f i 0
+  pub bytes : (i : ℕ) → ¬ Lies i first amountSpan → ¬ Lies i n (53 to 67) → getD left i 0 ≡ getD f i 0
 
 abbrev pub ChangeTouches : Type 0
 ChangeTouches =

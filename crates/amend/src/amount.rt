@@ -10,6 +10,8 @@ use flow::Answer;
 use flow::Sought;
 use flow::TOTAL_TOO_LARGE;
 use flow::Totals;
+use records::AMOUNT_FIRST;
+use records::AMOUNT_LAST;
 use records::MOST_CENTS;
 
 // Gives disposition k the amount, and answers the three numbers of the flow left. Refused, in this
@@ -35,7 +37,7 @@ pub fn change(flow: &mut [u8], k: u64, cents: u64) -> Answer
             if MOST_CENTS < totals.cents {
                 return Answer::Refused(flow::refusal_of_call(TOTAL_TOO_LARGE));
             }
-            place_number(flow, stand.first, 34, 46, cents);
+            place_number(flow, stand.first, AMOUNT_FIRST, AMOUNT_LAST, cents);
             place_number(flow, totals.records, 53, 67, totals.cents);
             Answer::Accepted(totals)
         }

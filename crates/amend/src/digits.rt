@@ -6,8 +6,8 @@ ghost use Rattle.sequences.specs.Part.{put};
 ghost use Rattle.fields.specs.Digits.{digits};
 ghost use Rattle.amend.specs.Amended.{written};
 
-// Writes the digits of a number in record r of the flow, from position first to last: the part of the
-// flow is lent to the one digit writer.
+// Writes the digits of a number in record r of the flow, from position first to last: positions of the
+// whole flow, 120 to a record.
 pub(crate) fn place_number(flow: &mut [u8], r: u64, first: usize, last: usize, value: u64)
     requires { ⌜ 1 ≤ r ⌝ }
     requires { ⌜ 120 * r ≤ length (now flow) ⌝ }
@@ -16,8 +16,8 @@ pub(crate) fn place_number(flow: &mut [u8], r: u64, first: usize, last: usize, v
     requires { ⌜ last ≤ 120 ⌝ }
     ensures { λ _. ⌜ now (flow .exit) ≡ written r first (digits (last - (first - 1)) value) (now (flow .entry)) ⌝ }
 {
-    let at = 120 * (index(r) - 1);
-    fields::write_digits(&mut flow[at + (first - 1)..at + last], value);
+    let at = 120 * (flow::index(r) - 1);
+    records::write_number(flow, at + first, at + last, value);
 }
 
 // The seven digits of a number, as they stand at 4-10 of a record.
@@ -35,11 +35,4 @@ pub(crate) fn place_seven(flow: &mut [u8], at: usize, shown: &[u8; 7])
     ensures { λ _. ⌜ now (flow .exit) ≡ put at (now (shown .entry)) (now (flow .entry)) ⌝ }
 {
     bytes::copy(shown, &mut flow[at..at + 7]);
-}
-
-// The same number, to count bytes and records of a slice with.
-pub(crate) fn index(n: u64) -> usize
-    ensures { λ r. ⌜ r ≡ n ⌝ }
-{
-    n as usize
 }

@@ -11,7 +11,6 @@ ghost use Rattle.flow.specs.Verdict.{refused as Verdict·refused};
 ghost use Rattle.amend.specs.Amended.{amended};
 ghost use Rattle.amend.specs.Withdraw.{renumberedFrom, countedAt};
 ghost use Rattle.amend.specs.Withdraw.{withdraw as Withdraw·withdraw};
-use crate::digits::index;
 use crate::digits::place_number;
 use crate::digits::place_seven;
 use crate::digits::seven_digits;
@@ -20,6 +19,7 @@ use flow::Answer;
 use flow::Refusal;
 use flow::Sought;
 use flow::Totals;
+use flow::index;
 
 // What a withdrawal answers: the totals of the flow left and its length; or the refusal, and the
 // length that it was lent.
@@ -66,7 +66,7 @@ fn refused(refusal: Refusal, length: usize) -> Withdrawn
 {
     Withdrawn {
         answer: Answer::Refused(refusal),
-        length: length as u64,
+        length: flow::count(length),
     }
 }
 

@@ -9,6 +9,7 @@ use Rattle.sequences.specs.All.{All}
 use Rattle.sequences.specs.Counted.{Counted}
 use Rattle.sequences.proofs.Append.{append-same}
 use Rattle.sequences.proofs.Counted.{counted-before, counted-behind, counted-append}
+use Rattle.fields.specs.Amount.{mostAmount}
 use Rattle.records.specs.Context.{headerOf}
 use Rattle.records.specs.Kinds.{heads, opens, opened}
 use Rattle.records.specs.Limits.{mostCents}
@@ -228,7 +229,7 @@ module _ (f : List ℕ) (k : ℕ) (v : Target) (w : Among f k v) (canonical : Ca
         trailer = recounted-trailer ds (left .totals);
       })
 
-  pub changed-canonical : (new : ℕ) (small : new < 10000000000000) (fits : totalsChanged v new .cents ≤ mostCents) → Canonical (changed (v .stand .first) new (totalsChanged v new) f)
+  pub changed-canonical : (new : ℕ) (small : new < suc mostAmount) (fits : totalsChanged v new .cents ≤ mostCents) → Canonical (changed (v .stand .first) new (totalsChanged v new) f)
   changed-canonical new small fits =
       let left = changed-grammar f k v new w small fits in
       let ds = changedOf f k v w new small in

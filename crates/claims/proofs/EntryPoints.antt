@@ -11,6 +11,7 @@ use Rattle.records.proofs.judge.Met.{met as record-judge-met}
 use Rattle.records.proofs.seen_right.Met.{met as seen-right-met}
 use Rattle.records.proofs.bad_byte.Met.{met as bad-byte-met}
 use Rattle.records.proofs.field.Met.{met as field-met}
+use Rattle.records.proofs.write_number.Met.{met as write-number-met}
 use Rattle.records.proofs.type_of.Met.{met as type-of-met}
 use Rattle.records.proofs.has_type.Met.{met as has-type-met}
 use Rattle.records.proofs.is_opening.Met.{met as is-opening-met}
@@ -28,6 +29,8 @@ use Rattle.flow.proofs.walk.Walk.may_close.Met.{met as walk-may-close-met}
 use Rattle.flow.proofs.find.Met.{met as find-met}
 use Rattle.flow.proofs.disposition.Met.{met as disposition-met}
 use Rattle.flow.proofs.seek.Met.{met as seek-met}
+use Rattle.flow.proofs.count.Met.{met as count-met}
+use Rattle.flow.proofs.index.Met.{met as index-met}
 use Rattle.flow.proofs.refusal_of_call.Met.{met as refusal-of-call-met}
 use Rattle.list.proofs.write.Met.{met as write-met}
 use Rattle.list.proofs.read_back.Met.{met as read-back-met}
@@ -57,6 +60,7 @@ entry-points =
       seen-right = (λ M. seen-right-met, λ κs a g w. refl);
       bad-byte = (λ M. bad-byte-met, λ κs a g w. refl);
       field = (λ M. field-met, λ κs a g w. refl);
+      write-number = (λ M. write-number-met, λ κs a g w. refl);
       type-of = (λ M. type-of-met, λ κs a g w. refl);
       has-type = (λ M. has-type-met, λ κs a g w. refl);
       is-opening = (λ M. is-opening-met, λ κs a g w. refl);
@@ -75,6 +79,8 @@ entry-points =
       disposition = (λ M. disposition-met, λ κs a g w. refl);
       seek = (λ M. seek-met, λ κs a g w. refl);
       refusal-of-call = (λ M. refusal-of-call-met, λ κs a g w. refl);
+      count = (λ M. count-met, λ κs a g w. refl);
+      index = (λ M. index-met, λ κs a g w. refl);
       write = (λ M. write-met, λ κs a g w. refl);
       read-back = (λ M. read-back-met, λ κs a g w. refl);
       change = (λ M. change-met, λ κs a g w. refl);

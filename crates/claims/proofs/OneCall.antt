@@ -133,7 +133,7 @@ module _ (f : List ℕ) (t : Totals) (read : judge f ≡ accepted t) where
     abbrev w : Among f k v
     w = among-so f k found
 
-    below : new < 10000000000000
+    below : new < suc mostAmount
     below = omega arith
 
     abbrev ds : List (List Typed)

@@ -23,6 +23,8 @@ use Rattle.records.proofs.bad_byte.Reads.{requires as bad-byte-requires}
 use Rattle.records.proofs.bad_byte.Statement.{statement as bad-byte-statement}
 use Rattle.records.proofs.field.Reads.{requires as field-requires}
 use Rattle.records.proofs.field.Statement.{statement as field-statement}
+use Rattle.records.proofs.write_number.Reads.{requires as write-number-requires}
+use Rattle.records.proofs.write_number.Statement.{statement as write-number-statement}
 use Rattle.records.proofs.type_of.Reads.{requires as type-of-requires}
 use Rattle.records.proofs.type_of.Statement.{statement as type-of-statement}
 use Rattle.records.proofs.has_type.Reads.{requires as has-type-requires}
@@ -57,6 +59,10 @@ use Rattle.flow.proofs.disposition.Reads.{requires as disposition-requires}
 use Rattle.flow.proofs.disposition.Statement.{statement as disposition-statement}
 use Rattle.flow.proofs.seek.Reads.{requires as seek-requires}
 use Rattle.flow.proofs.seek.Statement.{statement as seek-statement}
+use Rattle.flow.proofs.count.Reads.{requires as count-requires}
+use Rattle.flow.proofs.count.Statement.{statement as count-statement}
+use Rattle.flow.proofs.index.Reads.{requires as index-requires}
+use Rattle.flow.proofs.index.Statement.{statement as index-statement}
 use Rattle.flow.proofs.refusal_of_call.Reads.{requires as refusal-of-call-requires}
 use Rattle.flow.proofs.refusal_of_call.Statement.{statement as refusal-of-call-statement}
 use Rattle.list.proofs.write.Reads.{requires as write-requires}
@@ -104,6 +110,7 @@ pub record EntryPoints : Type 2 where
   pub seen-right : EntryPoint seen-right-statement seen-right-requires
   pub bad-byte : EntryPoint bad-byte-statement bad-byte-requires
   pub field : EntryPoint field-statement field-requires
+  pub write-number : EntryPoint write-number-statement write-number-requires
   pub type-of : EntryPoint type-of-statement type-of-requires
   pub has-type : EntryPoint has-type-statement has-type-requires
   pub is-opening : EntryPoint is-opening-statement is-opening-requires
@@ -123,6 +130,8 @@ pub record EntryPoints : Type 2 where
   pub disposition : EntryPoint disposition-statement disposition-requires
   pub seek : EntryPoint seek-statement seek-requires
   pub refusal-of-call : EntryPoint refusal-of-call-statement refusal-of-call-requires
+  pub count : EntryPoint count-statement count-requires
+  pub index : EntryPoint index-statement index-requires
   -- list: a list: writing it, and reading a flow back
   pub write : EntryPoint write-statement write-requires
   pub read-back : EntryPoint read-back-statement read-back-requires

@@ -6,6 +6,7 @@
 // The flow is read in place: each record is handed to the record rules as the part of 120 bytes that
 // it is, and nothing of it is copied. No public function has a `requires`, and none changes a byte.
 mod answer;
+mod counting;
 mod fast_path;
 mod limits;
 mod location;
@@ -18,6 +19,8 @@ pub use answer::Answer;
 pub use answer::Refusal;
 pub use answer::Totals;
 pub use answer::refusal_of_call;
+pub use counting::count;
+pub use counting::index;
 pub use location::Location;
 pub use location::Sought;
 pub use location::Stand;

@@ -15,7 +15,8 @@ use crate::answer::Answer;
 use crate::answer::Refusal;
 use crate::answer::Totals;
 use crate::answer::refusal_of_call;
-use crate::reader::count;
+use crate::counting::count;
+use crate::counting::index;
 use crate::reader::read;
 use crate::refusals::NO_DISPOSITION;
 use fields::Number;
@@ -158,11 +159,4 @@ fn amount(rec: &[u8]) -> u64
         Number::Value(cents) => cents,
         Number::Refused(_) => 0,
     }
-}
-
-// The same number, to count bytes and records of a slice with.
-fn index(n: u64) -> usize
-    ensures { λ r. ⌜ r ≡ n ⌝ }
-{
-    n as usize
 }

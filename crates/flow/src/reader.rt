@@ -16,6 +16,7 @@ use crate::answer::Answer;
 use crate::answer::Refusal;
 use crate::answer::Totals;
 use crate::answer::refusal_of_call;
+use crate::counting::count;
 use crate::fast_path::pass_over;
 use crate::limits::MOST_BYTES;
 use crate::refusals::ENDED;
@@ -116,10 +117,4 @@ fn end(walk: Walk, n: u64) -> Answer
         record: n + 1,
         position: 0,
     })
-}
-
-pub(crate) fn count(n: usize) -> u64
-    ensures { λ r. ⌜ r ≡ n ⌝ }
-{
-    n as u64
 }

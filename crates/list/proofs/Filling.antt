@@ -1,5 +1,5 @@
 -- A record filled by the code: place after place, and a body over its spans. Assumes nothing.
-use Prim.Native.Nat.{ℕ, zero, suc, _+_, _-_}
+use Prim.Native.Nat.{ℕ, zero, suc, _+_, _-_, _≤_}
 use mathlib.Core.List.{List, [], _∷_, _++_, map}
 use mathlib.Core.Path.{_≡_, refl, sym, _∙_, ap}
 use native.Mathlib.Omega.{arith}
@@ -8,7 +8,9 @@ use lib.Seq.{drop-drop}
 use Rattle.sequences.specs.Part.{part, put}
 use Rattle.sequences.specs.Sum.{sum}
 use Rattle.sequences.proofs.Part.{put-nothing}
-use Rattle.records.specs.Field.{Span, _to_, width}
+use Rattle.fields.specs.Digits.{digits}
+use Rattle.records.specs.Field.{Span, _to_, width, numberWritten}
+use Rattle.records.proofs.NumberWritten.{written-within}
 use Rattle.list.specs.Encode.{Placed, place, fill, bodyPlaced}
 use Rattle.list.specs.Table.{carried, fourOf}
 use Rattle.list.specs.declared.table.ItemKind.{ItemKind}
@@ -27,6 +29,12 @@ fills-none = record { done = refl }
 pub fills-place : {p : ℕ} {bs cs : List ℕ} {ps : List Placed} {rec behind out : List ℕ} → behind ≡ put (p - 1) cs rec → cs ≡ bs → Fills ps behind out → Fills (place p bs ∷ ps) rec out
 unfolding fill
 fills-place {p} {ps = ps} {rec = rec} here same rest = record { done = rest .done ∙ ap (fill ps) (here ∙ ap (λ (l : List ℕ). put (p - 1) l rec) same) }
+
+-- a number in a field that the record has, likewise
+pub fills-number :
+    (a e v : ℕ) {ps : List Placed} {rec behind out : List ℕ} → behind ≡ numberWritten (a to e) v rec → a - 1 ≤ e → e ≤ length rec → Fills ps behind out
+    → Fills (place a (digits (width (a to e)) v) ∷ ps) rec out
+fills-number a e v {rec = rec} here ordered within rest = fills-place (here ∙ written-within a e v rec ordered within) refl rest
 
 -- two lists of places, one after the other
 pub fills-both : {ps qs : List Placed} {rec behind out : List ℕ} → Fills ps rec behind → Fills qs behind out → Fills (ps ++ qs) rec out

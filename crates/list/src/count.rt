@@ -19,21 +19,14 @@ pub(crate) fn count_items(list: &[u8]) -> Count
     let mut at = 0;
     while at < list.len() {
         let Row::Of(kind) = row_of(list[at]) else {
-            return Count::Faulty(number(n + 1));
+            return Count::Faulty(flow::count(n + 1));
         };
         let size = body_length(kind);
         if list.len() - at - 1 < size {
-            return Count::Faulty(number(n + 1));
+            return Count::Faulty(flow::count(n + 1));
         }
         at += 1 + size;
         n += 1;
     }
     Count::Items(n)
-}
-
-// The same number, for an answer.
-pub(crate) fn number(n: usize) -> u64
-    ensures { λ r. ⌜ r ≡ n ⌝ }
-{
-    n as u64
 }

@@ -4,7 +4,6 @@ ghost use mathlib.Core.List.{_∷_, _++_};
 ghost use mathlib.Core.Path.{_≡_};
 ghost use lib.ListN.{length};
 ghost use Rattle.sequences.specs.Part.{put};
-ghost use Rattle.fields.specs.Digits.{digits};
 ghost use Rattle.records.specs.Kinds.{typeOf};
 ghost use Rattle.list.specs.Encode.{fill, supplied, bodyPlaced, carriedAt, encodeItem, encodeTrailer, trailerPlaced};
 ghost use Rattle.list.specs.Encode.{place as Encode·place};
@@ -21,6 +20,7 @@ use records::CURRENCY;
 use records::Kind;
 use records::SIGN;
 use records::field;
+use records::write_number;
 
 // The record of an item with the number; `header` is the body of the latest H before it, or empty.
 pub(crate) fn encode_item(kind: ItemKind, number: u64, header: &[u8], body: &[u8]) -> [u8; 120]
@@ -58,7 +58,7 @@ fn supply(rec: &mut [u8], kind: Kind, number: u64, abi: &[u8])
     match kind {
         Kind::Im => place(rec, 114, &CURRENCY),
         Kind::R14 => {
-            place_number(rec, 4, 10, number);
+            write_number(rec, 4, 10, number);
             place(rec, 29, &CAUSALE);
             place(rec, 47, &SIGN);
             place(rec, 48, abi);
@@ -72,7 +72,7 @@ fn supply(rec: &mut [u8], kind: Kind, number: u64, abi: &[u8])
         | Kind::R50
         | Kind::R59
         | Kind::R51
-        | Kind::R70 => place_number(rec, 4, 10, number),
+        | Kind::R70 => write_number(rec, 4, 10, number),
     }
 }
 
@@ -112,10 +112,10 @@ fn fill_trailer(rec: &mut [u8], copied: &[u8], totals: Totals)
     let code = records::type_of(Kind::Ef);
     place(rec, 2, &code);
     place(rec, 4, copied);
-    place_number(rec, 46, 52, totals.dispositions);
-    place_number(rec, 53, 67, totals.cents);
-    place_number(rec, 68, 82, 0);
-    place_number(rec, 83, 89, totals.records);
+    write_number(rec, 46, 52, totals.dispositions);
+    write_number(rec, 53, 67, totals.cents);
+    write_number(rec, 68, 82, 0);
+    write_number(rec, 83, 89, totals.records);
     place(rec, 114, &CURRENCY);
 }
 
@@ -127,14 +127,4 @@ pub(crate) fn place(out: &mut [u8], first: usize, content: &[u8])
 {
     let from = first - 1;
     bytes::copy(content, &mut out[from..from + content.len()]);
-}
-
-// Puts the digits of a number in the record from position first to last.
-fn place_number(rec: &mut [u8], first: usize, last: usize, value: u64)
-    requires { ⌜ 1 ≤ first ⌝ }
-    requires { ⌜ first - 1 ≤ last ⌝ }
-    requires { ⌜ last ≤ length (now rec) ⌝ }
-    ensures { λ _. ⌜ now (rec .exit) ≡ put (first - 1) (digits (last - (first - 1)) value) (now (rec .entry)) ⌝ }
-{
-    fields::write_digits(&mut rec[first - 1..last], value);
 }

@@ -9,7 +9,6 @@ ghost use Rattle.list.specs.Output.{outputOf};
 ghost use Rattle.list.specs.ReadBack.{gather, itemOf, itemLength, listOf, readBack};
 ghost use Rattle.list.specs.Table.{bodyLength, rowIn};
 ghost use Rattle.list.specs.Table.{carried as Table·carried};
-use crate::count::number;
 use crate::filled::Filled;
 use crate::table::ItemKind;
 use crate::table::Row;
@@ -35,7 +34,7 @@ pub fn read_back(flow: &[u8], out: &mut [u8]) -> Filled
                 return Filled::refused(flow::refusal_of_call(NO_ROOM));
             }
             store_list(flow, out);
-            Filled::accepted(totals, number(length))
+            Filled::accepted(totals, flow::count(length))
         }
     }
 }

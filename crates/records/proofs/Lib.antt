@@ -5,6 +5,7 @@ pub mod EachKind
 pub mod FirstFault
 pub mod Found
 pub mod Listed
+pub mod NumberWritten
 pub mod Numbers
 pub mod Printable
 pub mod Rows

@@ -4,7 +4,8 @@ use mathlib.Core.Bool.{cond, _&&_}
 use mathlib.Core.List.{List}
 use lib.Dec.{ltb}
 use lib.ListN.{length, getD}
-use Rattle.sequences.specs.Part.{part}
+use Rattle.sequences.specs.Part.{part, put}
+use Rattle.fields.specs.Digits.{digits}
 
 -- positions a to e, both with
 abbrev pub field : ℕ → ℕ → List ℕ → List ℕ
@@ -33,6 +34,10 @@ width (a to e) = e - (a - 1)
 -- what stands there
 abbrev pub fieldAt : Span → List ℕ → List ℕ
 fieldAt (a to e) rec = field a e rec
+
+-- the record with the digits of a number written over them, zeros in front; where it is shorter, over what there is of them
+abbrev pub numberWritten : Span → ℕ → List ℕ → List ℕ
+numberWritten (a to e) v rec = put (fieldStart a e rec) (digits (length (field a e rec)) v) rec
 
 -- the byte at position p
 abbrev pub byteAt : ℕ → List ℕ → ℕ

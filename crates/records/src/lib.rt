@@ -4,7 +4,7 @@
 //
 // A record is judged by its own bytes. What a rule needs from elsewhere in the flow, the header,
 // the company code so far and the counts so far, is handed in as slices and numbers. No
-// public function has a `requires`, and none changes a byte.
+// public function has a `requires`, and none but `write_number` changes a byte.
 mod bytes;
 mod constants;
 mod coordinates;
@@ -40,6 +40,7 @@ pub use kind::type_of;
 pub use limits::MOST_CENTS;
 pub use limits::MOST_RECORDS;
 pub use position::field;
+pub use position::write_number;
 pub use record::judge;
 pub use refusals::WRONG_LENGTH;
 pub use rules::amount;

@@ -1,8 +1,9 @@
-// The fields of a record, by their positions as document 01 counts them: from 1, both ends with.
-ghost use Prim.Native.Nat.{_-_};
+// The fields of a record, by their positions as document 01 counts them: from 1, both ends with; read, and
+// a number written in one.
+ghost use Prim.Native.Nat.{_-_, min};
 ghost use mathlib.Core.Path.{_≡_};
 ghost use Rattle.sequences.specs.Slice.{StartsAt};
-ghost use Rattle.records.specs.Field.{fieldStart};
+ghost use Rattle.records.specs.Field.{_to_, fieldStart, numberWritten};
 ghost use Rattle.records.specs.Field.{field as Field·field};
 
 // Positions first to last of the record; where it is shorter, what there is of them.
@@ -21,6 +22,25 @@ pub fn field(rec: &[u8], first: usize, last: usize) -> &[u8]
         return &rec[from..];
     }
     &rec[from..last]
+}
+
+// Writes the digits of a number over positions first to last of the record, zeros in front; where it is
+// shorter, over what there is of them. It changes no other byte.
+pub fn write_number(rec: &mut [u8], first: usize, last: usize, value: u64)
+    ensures { λ _. ⌜ now (rec .exit) ≡ numberWritten (first to last) value (now (rec .entry)) ⌝ }
+{
+    let from = before(first);
+    let to = least(last, rec.len());
+    if to <= from {
+        return;
+    }
+    fields::write_digits(&mut rec[from..to], value);
+}
+
+fn least(a: usize, b: usize) -> usize
+    ensures { λ r. ⌜ r ≡ min a b ⌝ }
+{
+    if a < b { a } else { b }
 }
 
 fn before(position: usize) -> usize

@@ -1,13 +1,12 @@
 -- `amend::place_number` meets its contract. Assumes nothing.
 use Prim.Native.Nat.{ℕ, _+_, _-_, _*_}
-use mathlib.Core.Path.{_≡_, _∙_, ap}
+use mathlib.Core.Path.{_≡_, _∙_}
 use native.Mathlib.Omega.{arith}
-use lib.ListN.{length}
 use borrow.Author.Needs.{needs}
-use Rattle.sequences.specs.Part.{part, put}
-use Rattle.sequences.proofs.Part.{part-length, lent-is-put}
+use Rattle.sequences.specs.Part.{put}
 use Rattle.fields.specs.Digits.{digits}
-use Rattle.fields.proofs.Decimal.{written-length}
+use Rattle.records.specs.Field.{_to_, width}
+use Rattle.records.proofs.NumberWritten.{written-within}
 use Rattle.amend.proofs.digits.place_number.Statement.{statement}
 use Rattle.amend.proofs.digits.place_number.Tie as tie
 
@@ -20,26 +19,14 @@ sub-at c = search needs
 mul-at : tie.Need-mul-at
 mul-at c = search needs
 
-sub-write-digits : tie.Need-sub-write-digits
-sub-write-digits c = search needs
+add-write-number : tie.Need-add-write-number
+add-write-number c = search needs
 
-add-write-digits : tie.Need-add-write-digits
-add-write-digits c = search needs
+add-write-number-2 : tie.Need-add-write-number-2
+add-write-number-2 c = search needs
 
-add-write-digits-2 : tie.Need-add-write-digits-2
-add-write-digits-2 c = search needs
-
-sub-write-digits-2 : tie.Need-sub-write-digits-2
-sub-write-digits-2 c = search needs
-
-part-write-digits-start : tie.Need-part-write-digits-start
-part-write-digits-start c = search needs
-
-part-write-digits-end : tie.Need-part-write-digits-end
-part-write-digits-end c = search needs
-
-write-digits-requires : tie.Need-write-digits-requires
-write-digits-requires c κs = search needs
+write-number-requires : tie.Need-write-number-requires
+write-number-requires c κs = search needs
 
 same-length : tie.Need-same-length
 same-length c = search needs
@@ -48,17 +35,13 @@ returns : tie.Need-returns
 returns c =
     let r = c .before .before .before .before .index in
     let args = c .before .before .before .before .before .before .args in
-    let flow = args .flow .now in
-    let from = 120 * (r .result - 1) + (args .first - 1) in
-    let to = 120 * (r .result - 1) + args .last in
-    let n = args .last - (args .first - 1) in
-    let left = c .before .before .write-digits .last .0 in
+    let at = 120 * (r .result - 1) in
     let same = r .ensures in
-    let width : to - from ≡ n = omega arith in
-    let size : length (part from (to - from) flow) ≡ n = part-length from (to - from) flow (omega arith) ∙ width in
-    let written : left ≡ digits n (args .value) = c .before .before .write-digits .ensures ∙ ap (λ (m : ℕ). digits m (args .value)) size in
-    let sized : length left ≡ to - from = ap length written ∙ written-length n (args .value) ∙ omega arith in
-    lent-is-put from to flow left sized ∙ (λ j. put (120 * (same j - 1) + (args .first - 1)) (written j) flow)
+    let from : at + args .first - 1 ≡ 120 * (args .r - 1) + (args .first - 1) = omega arith in
+    let size : width ((at + args .first) to (at + args .last)) ≡ args .last - (args .first - 1) = omega arith in
+    c .before .before .write-number .ensures
+    ∙ written-within (at + args .first) (at + args .last) (args .value) (args .flow .now) (omega arith) (omega arith)
+    ∙ (λ i. put (from i) (digits (size i) (args .value)) (args .flow .now))
 
 pub place-number-spec : {M : Type 1} → statement M
 place-number-spec =
@@ -67,12 +50,8 @@ place-number-spec =
     index-requires
     sub-at
     mul-at
-    sub-write-digits
-    add-write-digits
-    add-write-digits-2
-    sub-write-digits-2
-    part-write-digits-start
-    part-write-digits-end
-    write-digits-requires
+    add-write-number
+    add-write-number-2
+    write-number-requires
     same-length
     returns)

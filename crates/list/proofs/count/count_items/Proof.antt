@@ -37,17 +37,17 @@ enum-known-kind c = search needs
 enum-told : tie.Need-enum-told Inv-loop μ-loop
 enum-told c = search needs
 
-add-number : tie.Need-add-number Inv-loop μ-loop
-add-number c = omega arith
+add-count : tie.Need-add-count Inv-loop μ-loop
+add-count c = omega arith
 
-number-requires : tie.Need-number-requires Inv-loop μ-loop
-number-requires c κs = search needs
+count-requires : tie.Need-count-requires Inv-loop μ-loop
+count-requires c κs = search needs
 
 returns : tie.Need-returns Inv-loop μ-loop
 returns c =
     let here = c .before .before .before .before .before .before in
     let missing : rowOf (getD (here .before .before .args .list .now) (here .loop .at) 0) ≡ Missing = sym (c .before .before .before .row-of .ensures) ∙ c .before .enum-told .given .1 in
-    let told : c .number .result ≡ suc (here .loop .n) = c .number .ensures ∙ add-one (here .loop .n) in
+    let told : c .count .result ≡ suc (here .loop .n) = c .count .ensures ∙ add-one (here .loop .n) in
     rw told (sym (here .loop .inv .2 ∙ counted-none _ _ _ (c .before .before .before .before .before .loop-test .taken) missing))
 
 body-length-requires : tie.Need-body-length-requires Inv-loop μ-loop
@@ -72,11 +72,11 @@ sub-if1 c = omega arith
 sub-if1-2 : tie.Need-sub-if1-2 Inv-loop μ-loop
 sub-if1-2 c = omega arith
 
-add-number-2 : tie.Need-add-number-2 Inv-loop μ-loop
-add-number-2 c = omega arith
+add-count-2 : tie.Need-add-count-2 Inv-loop μ-loop
+add-count-2 c = omega arith
 
-number-requires-2 : tie.Need-number-requires-2 Inv-loop μ-loop
-number-requires-2 c κs = search needs
+count-requires-2 : tie.Need-count-requires-2 Inv-loop μ-loop
+count-requires-2 c κs = search needs
 
 returns-2 : tie.Need-returns-2 Inv-loop μ-loop
 returns-2 c =
@@ -85,7 +85,7 @@ returns-2 c =
     let rest = length (here .before .before .args .list .now) - (here .loop .at + 1) in
     let size = read .body-length .result in
     let short : leb size rest ≡ false = lt-leb size rest (omega arith) in
-    let told : c .number2 .result ≡ suc (here .loop .n) = c .number2 .ensures ∙ add-one (here .loop .n) in
+    let told : c .count2 .result ≡ suc (here .loop .n) = c .count2 .ensures ∙ add-one (here .loop .n) in
     rw told (sym (rw short at (decides read)))
 
 add-at : tie.Need-add-at Inv-loop μ-loop
@@ -127,14 +127,14 @@ count-items-spec =
     row-of-requires
     enum-known-kind
     enum-told
-    add-number
-    number-requires
+    add-count
+    count-requires
     returns
     body-length-requires
     sub-if1
     sub-if1-2
-    add-number-2
-    number-requires-2
+    add-count-2
+    count-requires-2
     returns-2
     add-at
     add-at-2

@@ -1,8 +1,9 @@
 -- `list::fill_trailer` meets its contract. Assumes nothing.
 use mathlib.Core.Path.{refl}
+use native.Mathlib.Omega.{arith}
 use borrow.Author.Needs.{needs}
 use Rattle.list.specs.Encode.{trailerPlaced}
-use Rattle.list.proofs.Filling.{Fills, fills-none, fills-place}
+use Rattle.list.proofs.Filling.{Fills, fills-none, fills-place, fills-number}
 use Rattle.list.proofs.encode.fill_trailer.Statement.{statement}
 use Rattle.list.proofs.encode.fill_trailer.Tie as tie
 
@@ -18,17 +19,17 @@ place-requires c κs = search needs
 place-requires-2 : tie.Need-place-requires-2
 place-requires-2 c κs = search needs
 
-place-number-requires : tie.Need-place-number-requires
-place-number-requires c κs = search needs
+write-number-requires : tie.Need-write-number-requires
+write-number-requires c κs = search needs
 
-place-number-requires-2 : tie.Need-place-number-requires-2
-place-number-requires-2 c κs = search needs
+write-number-requires-2 : tie.Need-write-number-requires-2
+write-number-requires-2 c κs = search needs
 
-place-number-requires-3 : tie.Need-place-number-requires-3
-place-number-requires-3 c κs = search needs
+write-number-requires-3 : tie.Need-write-number-requires-3
+write-number-requires-3 c κs = search needs
 
-place-number-requires-4 : tie.Need-place-number-requires-4
-place-number-requires-4 c κs = search needs
+write-number-requires-4 : tie.Need-write-number-requires-4
+write-number-requires-4 c κs = search needs
 
 slice-aggregate-place-2 : tie.Need-slice-aggregate-place-2
 slice-aggregate-place-2 c = search needs
@@ -53,9 +54,9 @@ returns c =
     let all : Fills (trailerPlaced (args .copied .now) (args .totals)) (args .rec .now) (seventh .place3 .last .0) =
     fills-place (first .place .ensures) (typed .type-of .ensures)
     (fills-place (second .place2 .ensures) refl
-    (fills-place (third .place-number .ensures) refl
-    (fills-place (fourth .place-number2 .ensures) refl
-    (fills-place (fifth .place-number3 .ensures) refl (fills-place (sixth .place-number4 .ensures) refl (fills-place (seventh .place3 .ensures) refl fills-none)))))) in
+    (fills-number 46 52 (args .totals .dispositions) (third .write-number .ensures) (omega arith) (search needs)
+    (fills-number 53 67 (args .totals .cents) (fourth .write-number2 .ensures) (omega arith) (search needs)
+    (fills-number 68 82 0 (fifth .write-number3 .ensures) (omega arith) (search needs) (fills-number 83 89 (args .totals .records) (sixth .write-number4 .ensures) (omega arith) (search needs) (fills-place (seventh .place3 .ensures) refl fills-none)))))) in
     all .done
 
 pub fill-trailer-spec : {M : Type 1} → statement M
@@ -66,10 +67,10 @@ fill-trailer-spec =
     slice-aggregate-place
     place-requires
     place-requires-2
-    place-number-requires
-    place-number-requires-2
-    place-number-requires-3
-    place-number-requires-4
+    write-number-requires
+    write-number-requires-2
+    write-number-requires-3
+    write-number-requires-4
     slice-aggregate-place-2
     place-requires-3
     same-length

@@ -2,6 +2,7 @@
 use Prim.Native.Nat.{ℕ}
 use mathlib.Core.List.{List, [], _∷_}
 use mathlib.Core.Path.{_≡_, refl, sym, _∙_, ap}
+use native.Mathlib.Omega.{arith}
 use borrow.Author.Needs.{needs}
 use denote.Enum.Declared.{tagOf}
 use types.Run.{OneOf, miss}
@@ -11,7 +12,7 @@ use Rattle.records.specs.declared.kind.Kind.the-variants.{Im, R14, Ef}
 use Rattle.records.proofs.EachKind.{each-kind}
 use Rattle.records.proofs.kind.Kind.{the-type}
 use Rattle.list.specs.Encode.{Placed, place, fill, supplied}
-use Rattle.list.proofs.Filling.{Fills, fills-none, fills-place}
+use Rattle.list.proofs.Filling.{Fills, fills-none, fills-place, fills-number}
 use Rattle.list.proofs.encode.supply.Statement.{statement}
 use Rattle.list.proofs.encode.supply.Tie as tie
 
@@ -27,8 +28,8 @@ place-requires c κs = search needs
 enum-told-2 : tie.Need-enum-told-2
 enum-told-2 c = search needs
 
-place-number-requires : tie.Need-place-number-requires
-place-number-requires c κs = search needs
+write-number-requires : tie.Need-write-number-requires
+write-number-requires c κs = search needs
 
 slice-aggregate-place-2 : tie.Need-slice-aggregate-place-2
 slice-aggregate-place-2 c = search needs
@@ -54,8 +55,8 @@ place-requires-5 c κs = search needs
 enum-told-3 : tie.Need-enum-told-3
 enum-told-3 c = search needs
 
-place-number-requires-2 : tie.Need-place-number-requires-2
-place-number-requires-2 c κs = search needs
+write-number-requires-2 : tie.Need-write-number-requires-2
+write-number-requires-2 c κs = search needs
 
 same-length : tie.Need-same-length
 same-length c = search needs
@@ -82,7 +83,7 @@ returns-2 c =
     let rec = at .args .rec .now in
     let abi = at .args .abi .now in
     let all : Fills (supplied R14 (at .args .number) abi) rec (fifth .place5 .last .0) =
-    fills-place (first .place-number .ensures) refl
+    fills-number 4 10 (at .args .number) (first .write-number .ensures) (omega arith) (search needs)
     (fills-place (second .place2 .ensures) refl
     (fills-place (third .place3 .ensures) refl (fills-place (fourth .place4 .ensures) refl (fills-place (fifth .place5 .ensures) refl fills-none)))) in
     all .done ∙ ap (λ (k : Kind). fill (supplied k (at .args .number) abi) rec) (sym (first .before .before .enum-told2 .given .1))
@@ -112,7 +113,7 @@ returns-4 c =
     let at = c .before .before .before .before .before .before .before in
     let n = at .args .number in
     let rec = at .args .rec .now in
-    let all : Fills (place 4 (digits 7 n) ∷ []) rec (c .before .before .place-number2 .last .0) = fills-place (c .before .before .place-number2 .ensures) refl fills-none in
+    let all : Fills (place 4 (digits 7 n) ∷ []) rec (c .before .before .write-number2 .last .0) = fills-number 4 10 n (c .before .before .write-number2 .ensures) (omega arith) (search needs) fills-none in
     all .done ∙ ap (λ (ps : List Placed). fill ps rec) (sym (numbered n (at .args .abi .now) (at .args .kind) (c .before .before .before .before .match .keys4)))
 
 pub supply-spec : {M : Type 1} → statement M
@@ -123,7 +124,7 @@ supply-spec =
     slice-aggregate-place
     place-requires
     enum-told-2
-    place-number-requires
+    write-number-requires
     slice-aggregate-place-2
     place-requires-2
     slice-aggregate-place-3
@@ -132,7 +133,7 @@ supply-spec =
     slice-aggregate-place-4
     place-requires-5
     enum-told-3
-    place-number-requires-2
+    write-number-requires-2
     same-length
     returns
     same-length-2

@@ -50,8 +50,8 @@ returns c =
 store-list-requires : tie.Need-store-list-requires
 store-list-requires c κs = search needs
 
-number-requires : tie.Need-number-requires
-number-requires c κs = search needs
+count-requires : tie.Need-count-requires
+count-requires c κs = search needs
 
 accepted-requires : tie.Need-accepted-requires
 accepted-requires c κs = search needs
@@ -75,7 +75,7 @@ returns-3 c =
     let size = c .before .before .before .before .before .before .before .list-length .ensures in
     let fits : leb (length (listOf (a .flow .now))) (length (a .out .now)) ≡ true = le-leb _ _ (rw size at (c .before .before .before .before .before .before .if1 .left)) in
     let said = c .accepted .ensures in
-    let written : c .accepted .result .length ≡ length (listOf (a .flow .now)) = said .1 ∙ c .before .number .ensures ∙ size in
+    let written : c .accepted .result .length ≡ length (listOf (a .flow .now)) = said .1 ∙ c .before .count .ensures ∙ size in
     rw (read told, fits) (λ i. record { answer = said .0 i; written = written i; bytes = c .before .before .before .before .store-list .ensures i })
 
 pub read-back-spec : {M : Type 1} → statement M
@@ -91,7 +91,7 @@ read-back-spec =
     refused-requires-2
     returns
     store-list-requires
-    number-requires
+    count-requires
     accepted-requires
     returns-2
     same-length
