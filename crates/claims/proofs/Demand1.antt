@@ -1,6 +1,7 @@
 -- Demand 1, from the laws of each crate. Assumes nothing.
 use Rattle.fields.proofs.DigitField.{field-refused, amount-refused}
 use Rattle.fields.proofs.Gregorian.{date-refused}
+use Rattle.records.proofs.Amounts.{amount-rows}
 use Rattle.records.proofs.Found.{checks-in-order, broken-exact}
 use Rattle.records.proofs.Numbers.{one-for-length}
 use Rattle.flow.proofs.Accepted.{length-refused}
@@ -30,6 +31,7 @@ demand1 =
       checks-in-order = checks-in-order;
       broken = broken-exact;
       one-for-length = one-for-length;
+      amount-rows = amount-rows;
       at-place = place-fault-exact;
       read = first-fault-exact;
       right-or-faulty = right-or-faulty;

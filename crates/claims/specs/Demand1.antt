@@ -12,7 +12,7 @@ use Rattle.records.specs.Checks.{isListed}
 use Rattle.records.specs.Context.{Header, Context}
 use Rattle.records.specs.Finding.{refused as Finding·refused}
 use Rattle.records.specs.Judge.{judge as Record·judge}
-use Rattle.records.specs.Laws.{ChecksInOrder, BrokenExact, OneForLength}
+use Rattle.records.specs.Laws.{ChecksInOrder, BrokenExact, OneForLength, AmountRows}
 use Rattle.records.specs.declared.kind.Kind.{Kind}
 use Rattle.flow.specs.Find.{find}
 use Rattle.flow.specs.Judge.{judge}
@@ -92,6 +92,8 @@ pub record Demand1 : Type 2 where
   pub checks-in-order : ChecksInOrder
   pub broken : BrokenExact
   pub one-for-length : OneForLength
+  -- and its rows at the amount are the field rule of the amount
+  pub amount-rows : AmountRows
   -- the same at its place in the flow, where 2 and 3 come first
   pub at-place : PlaceFaultExact
   -- a flow is refused exactly by its first fault: every record before it is right at its place, every earlier check of its record holds and

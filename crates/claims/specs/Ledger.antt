@@ -1,10 +1,10 @@
 -- The ledger of demand 3 (document 01, "Questions and changes"; its word is "sheet"): a request list that is fed with the calls alone. It
 -- knows items and calls, and no flow: it shares with reading one the shape of an answer alone. Assumes nothing.
-use Prim.Native.Nat.{ℕ, suc, _-_, _*_}
+use Prim.Native.Nat.{ℕ, _-_, _*_}
 use mathlib.Core.Bool.{Bool, cond, _&&_}
 use mathlib.Core.List.{List, [], _∷_, _++_, flatten}
 use lib.Dec.{leb, ltb}
-use lib.ListN.{length, take, drop, getD}
+use lib.ListN.{take, drop, getD}
 use Rattle.sequences.specs.Groups.{lead, groups}
 use Rattle.sequences.specs.Part.{put}
 use Rattle.fields.specs.Amount.{mostAmount}

@@ -24,7 +24,6 @@ use Rattle.records.specs.declared.kind.Kind.{Kind}
 use Rattle.records.specs.declared.kind.Kind.the-variants.{Im, Ef}
 use Rattle.records.proofs.Amounts.{right-amount}
 use Rattle.records.proofs.ByKind.{opens-type}
-use Rattle.records.proofs.FirstFault.{behind}
 use Rattle.flow.specs.Find.{dispositionsIn, startsAt, IsNumber, standsAt, find, bytesAt, partOf, offsetAt, offsetOf, Stands, openingFrom}
 use Rattle.flow.specs.Judge.{after, ended, go, judge}
 use Rattle.flow.specs.Records.{isLength, recordAt, recordsOf, mostBytes}

@@ -1,7 +1,6 @@
 -- What a call that fills an output comes to, whatever it tells. Assumes nothing.
-use Prim.Native.Nat.{ℕ, _+_, _≤_, _<_}
+use Prim.Native.Nat.{_+_, _≤_, _<_}
 use mathlib.Core.Bool.{Bool, true, false, cond}
-use mathlib.Core.List.{List}
 use mathlib.Core.Logic.{_⊎_, inl, inr}
 use mathlib.Core.Path.{_≡_, refl, sym, _∙_, ap, subst}
 use native.Mathlib.Omega.{arith}
@@ -13,7 +12,7 @@ use Rattle.flow.specs.Laws.{OutputLeaves, RoomExact}
 use Rattle.flow.specs.Output.{output, withRoom, Leaves, LeavesAlone}
 use Rattle.flow.specs.Verdict.{Verdict, accepted, refused, ofCall}
 use Rattle.flow.specs.declared.answer.Refusal.{Refusal}
-use Rattle.flow.proofs.Accepted.{accepted-not-refused, accepted-same, refused-same}
+use Rattle.flow.proofs.Accepted.{accepted-not-refused, refused-same}
 
 pub output-leaves : OutputLeaves
 output-leaves A v bytes out = (answered v, accepts, λ x e. subst (λ (u : Verdict A). LeavesAlone (output u bytes out) out) (sym e) (refl, refl))

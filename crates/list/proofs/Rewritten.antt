@@ -20,7 +20,7 @@ use Rattle.fields.specs.Digits.{number}
 use Rattle.records.specs.Checked.{checked, Alike}
 use Rattle.records.specs.Context.{Header, headerOf}
 use Rattle.records.specs.Field.{field}
-use Rattle.records.specs.Kinds.{typeOf, heads, opened, closes}
+use Rattle.records.specs.Kinds.{typeOf, heads, closes}
 use Rattle.records.specs.Limits.{mostCents}
 use Rattle.records.specs.declared.kind.Kind.{Kind}
 use Rattle.records.specs.declared.kind.Kind.the-variants.{Im, Ef}

@@ -4,7 +4,7 @@ use Prim.Native.Nat.{ℕ, suc, _*_, _≤_, _<_}
 use mathlib.Core.List.{List, _∷_, _++_, dropLast, flatten}
 use mathlib.Core.Logic.{_↔_, _⊎_}
 use mathlib.Core.Path.{_≡_}
-use lib.ListN.{length, take, drop}
+use lib.ListN.{length, take}
 use Rattle.sequences.specs.All.{All}
 use Rattle.sequences.specs.Pairs.{Pairs}
 use Rattle.records.specs.Checked.{checked, Alike}

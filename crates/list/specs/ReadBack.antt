@@ -1,6 +1,5 @@
 -- Reading a flow back to its list (document 01, "Our request list": the reader's refusals, then 21). Assumes nothing.
 use Prim.Native.Nat.{ℕ, suc}
-use mathlib.Core.Bool.{cond}
 use mathlib.Core.List.{List, [], _∷_, map, flatten}
 use mathlib.Core.Path.{_≡_}
 use lib.ListN.{length}

@@ -5,7 +5,7 @@ ghost use mathlib.Core.Path.{_≡_};
 ghost use lib.ListN.{length};
 ghost use Rattle.sequences.specs.Part.{put};
 ghost use Rattle.records.specs.Kinds.{typeOf};
-ghost use Rattle.list.specs.Encode.{fill, supplied, bodyPlaced, carriedAt, encodeItem, encodeTrailer, trailerPlaced};
+ghost use Rattle.list.specs.Encode.{fill, supplied, bodyPlaced, encodeItem, encodeTrailer, trailerPlaced};
 ghost use Rattle.list.specs.Encode.{place as Encode·place};
 ghost use Rattle.list.specs.Items.{item};
 ghost use Rattle.list.specs.Table.{recordOf, bodyLength};
