@@ -100,16 +100,45 @@ function first_error(function_path,   log_file, line, from, error) {
 }
 
 # The function, by its path in proofs/, in whose body a text of a source file stands; of a constant that
-# one function cites and that is not public, this function; else nothing.
-function place_of(path, text,   module, type, name, body, line, n, lines, owner, word, i, k, found) {
+# one function of the crate cites and that no other crate sees, this function; else nothing.
+function place_of(path, text,   i) {
+    read_source(path)
+    for (i = 1; i <= lines && !index(line_of[i], text); i++) {}
+    if (i > lines || owner[i] != "" || line_of[i] !~ /^(pub\(crate\) )?const /) return owner[i]
+    return cited_by(line_of[i])
+}
+
+# The function that alone cites the constant that a line defines, in any file of the crate.
+function cited_by(definition,   name, list, file, path, i, found) {
+    name = definition
+    gsub(/^(pub\(crate\) )?const |:.*$/, "", name)
+    list = "ls crates/" crate "/src/*.rt"
+    while ((list | getline file) > 0) {
+        path = file
+        sub(/^crates\/[^\/]*\//, "", path)
+        read_source(path)
+        for (i = 1; i <= lines; i++) {
+            if (line_of[i] == definition || line_of[i] ~ /^use /) continue
+            if ((" " line_of[i] " ") !~ ("[^A-Z0-9_]" name "[^A-Z0-9_]")) continue
+            if (owner[i] == "" || (found != "" && found != owner[i])) found = "no function alone"
+            else found = owner[i]
+        }
+    }
+    close(list)
+    return found
+}
+
+# The lines of a source file, and of each the function in whose body it stands.
+function read_source(path,   module, type, name, body, line, word) {
     module = path
     gsub(/^src\/|\.rt$/, "", module)
     module = module == "lib" ? "" : module "/"
     path = "crates/" crate "/" path
-    split("", lines)
+    split("", line_of)
     split("", owner)
+    lines = 0
     while ((getline line < path) > 0) {
-        lines[++n] = line
+        line_of[++lines] = line
         if (line ~ /^impl /) {
             split(line, word, " ")
             type = word[2] "/"
@@ -119,19 +148,9 @@ function place_of(path, text,   module, type, name, body, line, n, lines, owner,
             name = module type name
             body = 0
         }
-        owner[n] = body ? name : ""
+        owner[lines] = body ? name : ""
         if (line ~ /^ *\{$|\) (-> .*)?\{$/) body = 1
         if (line ~ /^\}/) type = body = ""
     }
     close(path)
-    for (i = 1; i <= n && !index(lines[i], text); i++) {}
-    if (i > n || owner[i] != "" || lines[i] !~ /^const /) return owner[i]
-    name = lines[i]
-    gsub(/^const |:.*$/, "", name)
-    for (k = 1; k <= n; k++) {
-        if (k == i || (" " lines[k] " ") !~ ("[^A-Z0-9_]" name "[^A-Z0-9_]")) continue
-        if (owner[k] == "" || (found != "" && found != owner[k])) return ""
-        found = owner[k]
-    }
-    return found
 }

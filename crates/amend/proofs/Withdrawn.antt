@@ -13,9 +13,7 @@ use Rattle.sequences.specs.Part.{put}
 use Rattle.sequences.proofs.All.{all-behind}
 use Rattle.sequences.proofs.Flatten.{flatten-append}
 use Rattle.sequences.proofs.Groups.{Opens, groups-open}
-use Rattle.sequences.proofs.Part.{put-at, put-between, drop-two}
-use Rattle.fields.specs.Digits.{digits}
-use Rattle.fields.proofs.Decimal.{written-length}
+use Rattle.sequences.proofs.Part.{put-at, drop-two}
 use Rattle.records.specs.Kinds.{isOpening}
 use Rattle.flow.specs.Find.{dispositionsIn}
 use Rattle.flow.specs.Records.{cut, recordAt}
@@ -23,10 +21,9 @@ use Rattle.flow.specs.declared.answer.Totals.{Totals}
 use Rattle.flow.specs.declared.location.Target.{Target}
 use Rattle.flow.proofs.Cut.{cut-front, flatten-length, records-joined}
 use Rattle.flow.proofs.Dispositions.{untilTrailer}
-use Rattle.amend.specs.Amended.{written}
 use Rattle.amend.specs.Withdraw.{renumbered, numberedFrom, renumberedFrom, without, totalsLeft, recounted, countedAt, recordsLeft, withdrawn}
 use Rattle.amend.proofs.Around.{before, own, behind, trailer, records-split, pieces}
-use Rattle.amend.proofs.Kept.{over-length, recounted-length}
+use Rattle.amend.proofs.Kept.{recounted-length}
 use Rattle.amend.proofs.Renumbering.{renumbered-bytes}
 use Rattle.amend.proofs.Standing.{Standing}
 
@@ -51,20 +48,15 @@ dispositions-numbered j (d ∷ ds) opens =
     ∙ ap (λ (l : List (List ℕ)). map (renumbered i) l ++ renumberedFrom i (flatten ds)) (sym (o .whole))
     ∙ ap (λ (l : List (List ℕ)). map (renumbered i) d ++ l) (dispositions-numbered i ds (opens .1))
 
--- a trailer gets its counts one after the other, and no byte before it or behind it differs
-module _ (t : Totals) (rec : List ℕ) (whole : length rec ≡ 120) where
-  trailer-counted :
-      (xs zs : List ℕ) → length xs ≡ 120 * (t .records - 1)
-      → countedAt t (xs ++ (rec ++ zs)) ≡ xs ++ (recounted t rec ++ zs)
-  trailer-counted xs zs place =
-      let at = 120 * (t .records - 1) in
-      let one = put 45 (digits 7 (t .dispositions)) rec in
-      let two = put 52 (digits 15 (t .cents)) one in
-      let one-length : length one ≡ 120 = over-length 45 7 (t .dispositions) rec whole (omega arith) in
-      let two-length : length two ≡ 120 = over-length 52 15 (t .cents) one one-length (omega arith) in
-      ap (λ (l : List ℕ). written (t .records) 83 (digits 7 (t .records)) (written (t .records) 53 (digits 15 (t .cents)) l)) (put-between at 45 xs rec zs (digits 7 (t .dispositions)) place (omega (arith, written-length 7 (t .dispositions))))
-      ∙ ap (written (t .records) 83 (digits 7 (t .records))) (put-between at 52 xs one zs (digits 15 (t .cents)) place (omega (arith, written-length 15 (t .cents))))
-      ∙ put-between at 82 xs two zs (digits 7 (t .records)) place (omega (arith, written-length 7 (t .records)))
+-- a trailer gets its totals, and no byte before it or behind it differs
+trailer-counted :
+    (t : Totals) (rec : List ℕ) → length rec ≡ 120 → (xs zs : List ℕ) → length xs ≡ 120 * (t .records - 1)
+    → countedAt t (xs ++ (rec ++ zs)) ≡ xs ++ (recounted t rec ++ zs)
+trailer-counted t rec whole xs zs place =
+    let at = 120 * (t .records - 1) in
+    let own : recordAt (t .records - 1) (xs ++ (rec ++ zs)) ≡ rec = ap (take 120) (drop-at xs (rec ++ zs) at place) ∙ take-at rec zs 120 whole in
+    ap (λ (l : List ℕ). put at (recounted t l) (xs ++ (rec ++ zs))) own
+    ∙ put-at at xs rec zs (recounted t rec) place (whole ∙ sym (recounted-length t rec whole))
 
 -- the bytes of the records around the disposition
 module _ {f : List ℕ} {k : ℕ} {v : Target} (s : Standing f k v) where

@@ -6,6 +6,7 @@ use mathlib.Core.Bool.{cond}
 use mathlib.Core.List.{List, [], _∷_, _++_, map, flatten}
 use lib.Dec.{ltb}
 use lib.ListN.{length, take, drop, replicate}
+use Rattle.sequences.specs.Part.{put}
 use Rattle.fields.specs.Digits.{digits}
 use Rattle.records.specs.Kinds.{isOpening}
 use Rattle.flow.specs.Find.{dispositionsIn}
@@ -14,7 +15,7 @@ use Rattle.flow.specs.Seek.{seek}
 use Rattle.flow.specs.Verdict.{Verdict, accepted, refused, ofCall}
 use Rattle.flow.specs.declared.answer.Totals.{Totals}
 use Rattle.flow.specs.declared.location.Target.{Target}
-use Rattle.amend.specs.Amended.{Amended, unchanged, writtenAt, written}
+use Rattle.amend.specs.Amended.{Amended, unchanged, writtenAt}
 
 -- a record with another number at 4-10
 abbrev pub renumbered : ℕ → List ℕ → List ℕ
@@ -46,9 +47,7 @@ recounted t rec = writtenAt 83 (digits 7 (t .records)) (writtenAt 53 (digits 15 
 
 -- for the contract of a private function: a flow of t's records with these totals in the last of them
 abbrev pub countedAt : Totals → List ℕ → List ℕ
-countedAt t f =
-    let n = t .records in
-    written n 83 (digits 7 n) (written n 53 (digits 15 (t .cents)) (written n 46 (digits 7 (t .dispositions)) f))
+countedAt t f = let last = t .records - 1 in put (120 * last) (recounted t (recordAt last f)) f
 
 -- the records that are left, of a flow of n records: the header, the other dispositions, and the trailer with the totals t
 abbrev pub recordsLeft : List ℕ → ℕ → ℕ → Totals → List (List ℕ)

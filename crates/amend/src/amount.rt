@@ -14,7 +14,7 @@ use records::AMOUNT_FIRST;
 use records::AMOUNT_LAST;
 use records::MOST_CENTS;
 
-// Gives disposition k the amount, and answers the three numbers of the flow left. Refused, in this
+// Gives disposition k the amount, and answers the totals of the flow left. Refused, in this
 // order: what the reader refuses; 15, no such disposition; 16, an amount of more than thirteen digits;
 // 17, a total of more than fifteen. It writes 34-46 of the disposition's record 14 and 53-67 of the
 // trailer, and where it is refused nothing.

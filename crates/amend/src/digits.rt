@@ -6,8 +6,7 @@ ghost use Rattle.sequences.specs.Part.{put};
 ghost use Rattle.fields.specs.Digits.{digits};
 ghost use Rattle.amend.specs.Amended.{written};
 
-// Writes the digits of a number in record r of the flow, from position first to last: positions of the
-// whole flow, 120 to a record.
+// Writes the digits of a number in record r of the flow, from position first to last.
 pub(crate) fn place_number(flow: &mut [u8], r: u64, first: usize, last: usize, value: u64)
     requires { ⌜ 1 ≤ r ⌝ }
     requires { ⌜ 120 * r ≤ length (now flow) ⌝ }
@@ -17,7 +16,7 @@ pub(crate) fn place_number(flow: &mut [u8], r: u64, first: usize, last: usize, v
     ensures { λ _. ⌜ now (flow .exit) ≡ written r first (digits (last - (first - 1)) value) (now (flow .entry)) ⌝ }
 {
     let at = 120 * (flow::index(r) - 1);
-    records::write_number(flow, at + first, at + last, value);
+    records::write_number(&mut flow[at..at + 120], first, last, value);
 }
 
 // The seven digits of a number, as they stand at 4-10 of a record.

@@ -9,9 +9,8 @@ ghost use Rattle.flow.specs.Records.{cut};
 ghost use Rattle.flow.specs.Verdict.{verdict};
 ghost use Rattle.flow.specs.Verdict.{refused as Verdict·refused};
 ghost use Rattle.amend.specs.Amended.{amended};
-ghost use Rattle.amend.specs.Withdraw.{renumberedFrom, countedAt};
+ghost use Rattle.amend.specs.Withdraw.{renumberedFrom, recounted, countedAt};
 ghost use Rattle.amend.specs.Withdraw.{withdraw as Withdraw·withdraw};
-use crate::digits::place_number;
 use crate::digits::place_seven;
 use crate::digits::seven_digits;
 use crate::refusals::ONLY_DISPOSITION;
@@ -20,6 +19,7 @@ use flow::Refusal;
 use flow::Sought;
 use flow::Totals;
 use flow::index;
+use records::write_number;
 
 // What a withdrawal answers: the totals of the flow left and its length; or the refusal, and the
 // length that it was lent.
@@ -29,7 +29,7 @@ pub struct Withdrawn {
 }
 
 // Takes disposition k out of the flow: its records go, later ones move up in order and are numbered
-// anew, the trailer gets the new counts, and the freed bytes at the end become blanks. Refused, in this
+// anew, the trailer gets the new totals, and the freed bytes at the end become blanks. Refused, in this
 // order: what the reader refuses; 15, no such disposition; 18, the only one. Where it is refused it
 // writes nothing.
 pub fn withdraw(flow: &mut [u8], k: u64) -> Withdrawn
@@ -115,10 +115,17 @@ fn recount(flow: &mut [u8], totals: Totals)
     requires { ⌜ 120 * totals .records ≤ length (now flow) ⌝ }
     ensures { λ _. ⌜ now (flow .exit) ≡ countedAt totals (now (flow .entry)) ⌝ }
 {
-    let n = totals.records;
-    place_number(flow, n, 46, 52, totals.dispositions);
-    place_number(flow, n, 53, 67, totals.cents);
-    place_number(flow, n, 83, 89, n);
+    let at = 120 * (index(totals.records) - 1);
+    write_totals(&mut flow[at..at + 120], totals);
+}
+
+fn write_totals(rec: &mut [u8], totals: Totals)
+    requires { ⌜ length (now rec) ≡ 120 ⌝ }
+    ensures { λ _. ⌜ now (rec .exit) ≡ recounted totals (now (rec .entry)) ⌝ }
+{
+    write_number(rec, 46, 52, totals.dispositions);
+    write_number(rec, 53, 67, totals.cents);
+    write_number(rec, 83, 89, totals.records);
 }
 
 // Makes the bytes from an index on blanks.

@@ -23,14 +23,16 @@ replied s es = record { status = s; entries = es }
 abbrev pub reply : ℕ → ℕ → ℕ → ℕ → ℕ → Reply
 reply s a b c l = replied s (a ∷ b ∷ c ∷ l ∷ 0 ∷ 0 ∷ 0 ∷ 0 ∷ [])
 
--- accepted is 1, refused 0
+-- refused is 0
 abbrev pub ofRefusal : Refusal → ℕ → Reply
 ofRefusal x l = reply 0 (x .number) (x .«record») (x .position) l
 
+-- accepted is 1: the totals
 abbrev pub ofVerdict : Verdict Totals → ℕ → Reply
 ofVerdict (Verdict·accepted t) l = reply 1 (t .dispositions) (t .cents) (t .records) l
 ofVerdict (Verdict·refused x) l = ofRefusal x l
 
+-- or where a disposition stands: its first record, its records and its cents
 abbrev pub ofLocated : Verdict Stand → Reply
 ofLocated (Verdict·accepted s) = reply 1 (s .first) (s .records) (s .cents) 0
 ofLocated (Verdict·refused x) = ofRefusal x 0

@@ -16,7 +16,7 @@ use Rattle.fields.specs.Digits.{digits}
 use Rattle.fields.proofs.Decimal.{written-length}
 use Rattle.records.specs.Constants.{causale, sign, currency}
 use Rattle.records.specs.Field.{_to_}
-use Rattle.records.specs.Kinds.{typeOf, heads}
+use Rattle.records.specs.Kinds.{typeOf, Opens, role, heads}
 use Rattle.records.specs.declared.kind.Kind.{Kind}
 use Rattle.records.specs.declared.kind.Kind.the-variants.{R14, Ef}
 use Rattle.records.proofs.EachKind.{each-kind}
@@ -84,8 +84,8 @@ pub detail-heads : (k : Kind) → Detail k → heads k ≡ false
 detail-heads = each-detail (λ (k : Kind). heads k ≡ false) (refl, (refl, (refl, (refl, (refl, (refl, (refl, (refl, tt))))))))
 
 -- what a record that is neither a 14 nor header nor trailer has beside its type and its body
-detail-supplied : (k : Kind) (n : ℕ) (abi : List ℕ) → Detail k → supplied k n abi ≡ place 4 (digits 7 n) ∷ []
-detail-supplied k n abi = each-detail (λ (l : Kind). supplied l n abi ≡ place 4 (digits 7 n) ∷ []) (refl, (refl, (refl, (refl, (refl, (refl, (refl, (refl, tt)))))))) k
+detail-supplied : (k : Kind) (n : ℕ) (abi : List ℕ) → Detail k → supplied (role k) n abi ≡ place 4 (digits 7 n) ∷ []
+detail-supplied k n abi = each-detail (λ (l : Kind). supplied (role l) n abi ≡ place 4 (digits 7 n) ∷ []) (refl, (refl, (refl, (refl, (refl, (refl, (refl, (refl, tt)))))))) k
 
 type-fits : (k : Kind) → Fits (place 2 (typeOf k))
 type-fits = each-kind (λ (k : Kind). Fits (place 2 (typeOf k))) (omega arith, (omega arith, (omega arith, (omega arith, (omega arith, (omega arith, (omega arith, (omega arith, (omega arith, (omega arith, (omega arith, tt)))))))))))
@@ -102,9 +102,9 @@ number-again k i j qs fits outside =
 -- the record of a D
 encoded-d :
     (header : List ℕ) (it : Item) → it .kind ≡ kindFor R14 → (n : ℕ)
-    → encodeItem n header it ≡ fill (place 2 (typeOf R14) ∷ (supplied R14 n (abiIn header) ++ bodyPlaced (carried (kindFor R14)) (it .body))) blanks
+    → encodeItem n header it ≡ fill (place 2 (typeOf R14) ∷ (supplied Opens n (abiIn header) ++ bodyPlaced (carried (kindFor R14)) (it .body))) blanks
 unfolding encodeItem
-encoded-d header it e n = λ i. fill (place 2 (typeOf (recordOf (e i))) ∷ (supplied (recordOf (e i)) n (abiIn header) ++ bodyPlaced (carried (e i)) (it .body))) blanks
+encoded-d header it e n = λ i. fill (place 2 (typeOf (recordOf (e i))) ∷ (supplied (role (recordOf (e i))) n (abiIn header) ++ bodyPlaced (carried (e i)) (it .body))) blanks
 
 -- what a 14 has behind its number and before its body: the fixed values and the ABI
 abbrev fixed : List ℕ → List Placed
@@ -137,7 +137,7 @@ module _ (i j : ℕ) (header : List ℕ) (it : Item) (proper : Proper it) where
   pub opening-renumbered : recordKind it ≡ R14 → renumbered j (encodeItem i header it) ≡ encodeItem j header it
   unfolding encodeItem
   opening-renumbered e =
-      let told : (n : ℕ) → encodeItem n header it ≡ fill (place 2 (typeOf R14) ∷ place 4 (digits 7 n) ∷ (fixed header ++ placed)) blanks = λ n. ap (λ (k : Kind). fill (place 2 (typeOf k) ∷ (supplied k n (abiIn header) ++ placed)) blanks) e in
+      let told : (n : ℕ) → encodeItem n header it ≡ fill (place 2 (typeOf R14) ∷ place 4 (digits 7 n) ∷ (fixed header ++ placed)) blanks = λ n. ap (λ (k : Kind). fill (place 2 (typeOf k) ∷ (supplied (role k) n (abiIn header) ++ placed)) blanks) e in
       let outside : All (Outside 3 7) (fixed header) = (inl (omega arith), (inl (omega arith), (inl (omega arith), (inl (omega arith), tt)))) in
       ap (renumbered j) (told i)
       ∙ number-again R14 i j (fixed header ++ placed) (all-append Fits (fixed header) placed (fixed-fits header) placed-fits) (all-append (Outside 3 7) (fixed header) placed outside (placed-outside (ap heads e)))
@@ -184,5 +184,5 @@ module _ (n new : ℕ) (header : List ℕ) (it : Item) (proper : Proper it) (e :
       let rest : drop 13 (drop 6 body) ≡ drop 13 (drop 6 (other .body)) = drop-drop 13 6 body ∙ sym (drop-drop 13 6 (other .body) ∙ drop-put 6 (digits 13 new) body within (6 + 13) (omega arith)) in
       ap (put 33 (digits 13 new)) (encoded-d header it e n)
       ∙ fill-again before 34 amount (digits 13 new) behind blanks before-fits fits (omega arith) refl (thirteen ∙ sym own) outside
-      ∙ (λ i. fill (place 2 (typeOf R14) ∷ (supplied R14 n (abiIn header) ++ (place 23 (date i) ∷ place 34 (cents i) ∷ bodyPlaced ((53 to 69) ∷ (92 to 113) ∷ []) (rest i)))) blanks)
+      ∙ (λ i. fill (place 2 (typeOf R14) ∷ (supplied Opens n (abiIn header) ++ (place 23 (date i) ∷ place 34 (cents i) ∷ bodyPlaced ((53 to 69) ∷ (92 to 113) ∷ []) (rest i)))) blanks)
       ∙ sym (encoded-d header other e n)

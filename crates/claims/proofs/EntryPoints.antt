@@ -18,7 +18,6 @@ use Rattle.records.proofs.is_opening.Met.{met as is-opening-met}
 use Rattle.records.proofs.amount.Met.{met as amount-met}
 use Rattle.records.proofs.heads.Met.{met as heads-met}
 use Rattle.records.proofs.opens.Met.{met as opens-met}
-use Rattle.records.proofs.closes.Met.{met as closes-met}
 use Rattle.flow.proofs.read.Met.{met as read-met}
 use Rattle.flow.proofs.latest_company.Met.{met as latest-company-met}
 use Rattle.flow.proofs.walk.Walk.start.Met.{met as walk-start-met}
@@ -26,6 +25,7 @@ use Rattle.flow.proofs.walk.Walk.judge.Met.{met as walk-judge-met}
 use Rattle.flow.proofs.walk.Walk.next.Met.{met as walk-next-met}
 use Rattle.flow.proofs.walk.Walk.complete.Met.{met as walk-complete-met}
 use Rattle.flow.proofs.walk.Walk.may_close.Met.{met as walk-may-close-met}
+use Rattle.flow.proofs.walk.Walk.totals.Met.{met as walk-totals-met}
 use Rattle.flow.proofs.find.Met.{met as find-met}
 use Rattle.flow.proofs.disposition.Met.{met as disposition-met}
 use Rattle.flow.proofs.seek.Met.{met as seek-met}
@@ -67,7 +67,6 @@ entry-points =
       amount = (λ M. amount-met, λ κs a g w. refl);
       heads = (λ M. heads-met, λ κs a g w. refl);
       opens = (λ M. opens-met, λ κs a g w. refl);
-      closes = (λ M. closes-met, λ κs a g w. refl);
       read = (λ M. read-met, λ κs a g w. refl);
       latest-company = (λ M. latest-company-met, λ κs a g w. refl);
       walk-start = (λ M. walk-start-met, λ κs a g w. refl);
@@ -75,6 +74,7 @@ entry-points =
       walk-next = (λ M. walk-next-met, λ κs a g w. refl);
       walk-complete = (λ M. walk-complete-met, λ κs a g w. refl);
       walk-may-close = (λ M. walk-may-close-met, λ κs a g w. refl);
+      walk-totals = (λ M. walk-totals-met, λ κs a g w. refl);
       find = (λ M. find-met, λ κs a g w. refl);
       disposition = (λ M. disposition-met, λ κs a g w. refl);
       seek = (λ M. seek-met, λ κs a g w. refl);

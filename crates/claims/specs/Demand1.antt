@@ -92,7 +92,7 @@ pub record Demand1 : Type 2 where
   pub checks-in-order : ChecksInOrder
   pub broken : BrokenExact
   pub one-for-length : OneForLength
-  -- and its rows at the amount are the field rule of the amount
+  -- and what the table says at the amount's place is the field rule of the amount
   pub amount-rows : AmountRows
   -- the same at its place in the flow, where 2 and 3 come first
   pub at-place : PlaceFaultExact

@@ -19,7 +19,7 @@ pub record Demand2 : Type 0 where
   pub list-accepted : WriteAccepted
   pub list-answered : WriteAnswers
   pub list-written : WriteLeaves
-  -- the flow written is accepted with the same numbers, is canonical and gives back the list
+  -- the flow written is accepted with the same totals, is canonical and gives back the list
   pub flow-written : WrittenExact
   -- "an accepted flow gives back its list": one item for each record but EF, and the output then has exactly these at its front
   pub own-list : OwnList
@@ -27,7 +27,7 @@ pub record Demand2 : Type 0 where
   pub flow-accepted : ReadBackAccepted
   pub flow-answered : ReadBackAnswers
   pub list-read-back : ReadBackLeaves
-  -- "and a clean flow comes again byte for byte": its list is accepted with the same numbers, and gives the same bytes exactly where the
+  -- "and a clean flow comes again byte for byte": its list is accepted with the same totals, and gives the same bytes exactly where the
   -- flow was canonical
   pub accepted-again : RewrittenExact
   pub same-again : RewrittenSame

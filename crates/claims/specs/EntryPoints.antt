@@ -37,8 +37,6 @@ use Rattle.records.proofs.heads.Reads.{requires as heads-requires}
 use Rattle.records.proofs.heads.Statement.{statement as heads-statement}
 use Rattle.records.proofs.opens.Reads.{requires as opens-requires}
 use Rattle.records.proofs.opens.Statement.{statement as opens-statement}
-use Rattle.records.proofs.closes.Reads.{requires as closes-requires}
-use Rattle.records.proofs.closes.Statement.{statement as closes-statement}
 use Rattle.flow.proofs.read.Reads.{requires as read-requires}
 use Rattle.flow.proofs.read.Statement.{statement as read-statement}
 use Rattle.flow.proofs.latest_company.Reads.{requires as latest-company-requires}
@@ -53,6 +51,8 @@ use Rattle.flow.proofs.walk.Walk.complete.Reads.{requires as walk-complete-requ
 use Rattle.flow.proofs.walk.Walk.complete.Statement.{statement as walk-complete-statement}
 use Rattle.flow.proofs.walk.Walk.may_close.Reads.{requires as walk-may-close-requires}
 use Rattle.flow.proofs.walk.Walk.may_close.Statement.{statement as walk-may-close-statement}
+use Rattle.flow.proofs.walk.Walk.totals.Reads.{requires as walk-totals-requires}
+use Rattle.flow.proofs.walk.Walk.totals.Statement.{statement as walk-totals-statement}
 use Rattle.flow.proofs.find.Reads.{requires as find-requires}
 use Rattle.flow.proofs.find.Statement.{statement as find-statement}
 use Rattle.flow.proofs.disposition.Reads.{requires as disposition-requires}
@@ -117,7 +117,6 @@ pub record EntryPoints : Type 2 where
   pub amount : EntryPoint amount-statement amount-requires
   pub heads : EntryPoint heads-statement heads-requires
   pub opens : EntryPoint opens-statement opens-requires
-  pub closes : EntryPoint closes-statement closes-requires
   -- flow: a flow: reading it, the walk, and where a disposition is
   pub read : EntryPoint read-statement read-requires
   pub latest-company : EntryPoint latest-company-statement latest-company-requires
@@ -126,6 +125,7 @@ pub record EntryPoints : Type 2 where
   pub walk-next : EntryPoint walk-next-statement walk-next-requires
   pub walk-complete : EntryPoint walk-complete-statement walk-complete-requires
   pub walk-may-close : EntryPoint walk-may-close-statement walk-may-close-requires
+  pub walk-totals : EntryPoint walk-totals-statement walk-totals-requires
   pub find : EntryPoint find-statement find-requires
   pub disposition : EntryPoint disposition-statement disposition-requires
   pub seek : EntryPoint seek-statement seek-requires

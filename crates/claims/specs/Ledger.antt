@@ -9,6 +9,8 @@ use Rattle.sequences.specs.Groups.{lead, groups}
 use Rattle.sequences.specs.Part.{put}
 use Rattle.fields.specs.Amount.{mostAmount}
 use Rattle.fields.specs.Digits.{digits}
+use Rattle.records.specs.Amount.{amountSpan}
+use Rattle.records.specs.Field.{width}
 use Rattle.records.specs.Limits.{mostCents}
 use Rattle.flow.specs.Verdict.{ofCall}
 use Rattle.flow.specs.declared.answer.Refusal.{Refusal}
@@ -36,7 +38,7 @@ dispositions is = groups isD is
 
 -- "34-46 of the k-th D become the new amount, zeros in front"
 abbrev pub repriced : ℕ → Item → Item
-repriced new it = item (it .kind) (put amountIndex (digits 13 new) (it .body))
+repriced new it = item (it .kind) (put amountIndex (digits (width amountSpan) new) (it .body))
 
 abbrev pub firstRepriced : ℕ → List Item → List Item
 firstRepriced new [] = []

@@ -56,6 +56,7 @@ second =
 abbrev pub twoRents : List ℕ
 twoRents = flowOf ((headerIm ∷ firstOpened) ++ (firstClosed ++ (second ++ (trailerEf ∷ []))))
 
+-- "accepted dispositions 2 cents 83050 records 16"
 abbrev pub twoRentTotals : Totals
 twoRentTotals = record { dispositions = 2; cents = 83050; records = 16 }
 

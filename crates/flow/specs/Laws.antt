@@ -32,7 +32,7 @@ LengthRefused =
 abbrev pub Ceiling : Type 0
 Ceiling = (f : List ℕ) → mostBytes < length f → judge f ≡ refused (ofCall 1)
 
--- an accepted flow is answered its exact counts, summed over its records
+-- an accepted flow is answered its exact totals, summed over its records
 abbrev pub AcceptedExact : Type 0
 AcceptedExact =
     (f : List ℕ) (t : Totals) → judge f ≡ accepted t
@@ -46,7 +46,7 @@ OutputLeaves =
     × ((a : A) → v ≡ accepted a → length bytes ≤ length out → Leaves (output v bytes out) bytes out)
     × ((x : Refusal) → v ≡ refused x → LeavesAlone (output v bytes out) out)
 
--- and for want of room it is refused by 21, where it would be accepted
+-- and where 21 comes last, it is refused for want of room where it would be accepted else
 abbrev pub RoomExact : Type 1
 RoomExact =
     (A : Type 0) (v : Verdict A) (size room : ℕ)

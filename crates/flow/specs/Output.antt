@@ -20,7 +20,7 @@ abbrev pub output : {A : Type 0} → Verdict A → List ℕ → List ℕ → Out
 output (accepted a) bytes out = record { answer = accepted a; written = length bytes; bytes = put 0 bytes out }
 output (refused x) bytes out = record { answer = refused x; written = 0; bytes = out }
 
--- the answer of a call that has so many bytes to write and so much room
+-- the answer of a call that has so many bytes to write and so much room, where 21 comes last
 abbrev pub withRoom : {A : Type 0} → Verdict A → ℕ → ℕ → Verdict A
 withRoom {A} v size room = andThen v (λ (a : A). cond (leb size room) (accepted a) (refused (ofCall 21)))
 

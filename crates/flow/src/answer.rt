@@ -15,8 +15,9 @@ pub struct Totals {
     pub records: u64,
 }
 
-// The number of a refusal, and the record and the position of the fault: both 0 where it is a fault of
-// the call and of no record, and the position where it is of the record's place.
+// The number of a refusal, and the record and the position of the fault: both 0 where it is of the call
+// and of no record. The position is 0 too where a record is missing (4), or where an item is none (20,
+// whose record is the item).
 pub struct Refusal {
     pub number: u64,
     pub record: u64,

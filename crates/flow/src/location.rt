@@ -40,13 +40,14 @@ pub enum Sought {
     Refused(Refusal),
 }
 
+// What is sought: the flow's totals, and where one of its dispositions stands.
 pub struct Target {
     pub totals: Totals,
     pub stand: Stand,
 }
 
-// Where disposition k of the flow stands, counted from 1. What the reader refuses is refused with its
-// three numbers, and then a k of 0 or above the count by 15.
+// Where disposition k of the flow stands, counted from 1. What the reader refuses is refused alike, and
+// then a k of 0 or above the count by 15.
 pub fn find(flow: &[u8], k: u64) -> Location
     ensures { λ r. ⌜ located r ≡ Find·find (now (flow .entry)) k ⌝ }
 {

@@ -14,7 +14,6 @@ ghost use Rattle.flow.specs.Steps.{start, latestBy, latestOf};
 ghost use Rattle.flow.specs.Verdict.{verdict};
 use crate::answer::Answer;
 use crate::answer::Refusal;
-use crate::answer::Totals;
 use crate::answer::refusal_of_call;
 use crate::counting::count;
 use crate::fast_path::pass_over;
@@ -26,7 +25,7 @@ use records::Kind;
 use records::WRONG_LENGTH;
 use records::field;
 
-// The answer to a flow: its counts where it keeps the rules, and else its first fault. Any bytes, of
+// The answer to a flow: its totals where it keeps the rules, and else its first fault. Any bytes, of
 // any length.
 pub fn read(flow: &[u8]) -> Answer
     ensures { λ r. ⌜ verdict r ≡ Judge·judge (now (flow .entry)) ⌝ }
@@ -106,11 +105,7 @@ fn end(walk: Walk, n: u64) -> Answer
     ensures { λ r. ⌜ verdict r ≡ ended walk n ⌝ }
 {
     if walk.complete() {
-        return Answer::Accepted(Totals {
-            dispositions: walk.dispositions,
-            cents: walk.cents,
-            records: n,
-        });
+        return Answer::Accepted(walk.totals(n));
     }
     Answer::Refused(Refusal {
         number: ENDED,

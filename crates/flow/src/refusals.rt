@@ -1,5 +1,6 @@
-// The numbers of the refusals that a flow gives, and those of calls on it that more than one crate above
-// gives (document 01, "Numbers a clerk may see").
+// The numbers of the refusals that a flow gives, and two of calls above it: 17, which an amendment and a
+// list both give, and 21, of any call that fills an output (document 01, "Numbers a clerk may see").
+
 pub(crate) const BAD_BYTE: u64 = 2;
 
 pub const WRONG_TYPE: u64 = 3;

@@ -6,9 +6,11 @@ ghost use Rattle.records.specs.Context.{headerOf};
 ghost use Rattle.records.specs.Finding.{finding};
 ghost use Rattle.records.specs.Kinds.{opens};
 ghost use Rattle.records.specs.Limits.{countLimit};
+ghost use Rattle.flow.specs.Judge.{totals as Judge·totals};
 ghost use Rattle.flow.specs.Order.{isDue, mayClose, permitted};
 ghost use Rattle.flow.specs.Steps.{step, stopped, counted, judgeRecord};
 ghost use Rattle.flow.specs.Steps.{start as Steps·start};
+use crate::answer::Totals;
 use crate::limits::CENTS_LIMIT;
 use crate::limits::COUNT_LIMIT;
 use crate::order::Due;
@@ -124,6 +126,19 @@ impl Walk {
         let place = self.place;
         let due = place.due;
         if let Due::R14OrEf = due { true } else { false }
+    }
+
+    // The totals of n records that the walk has gone over.
+    pub fn totals(self, n: u64) -> Totals
+        ensures { λ r. ⌜ r ≡ Judge·totals self n ⌝ }
+    {
+        let dispositions = self.dispositions;
+        let cents = self.cents;
+        Totals {
+            dispositions,
+            cents,
+            records: n,
+        }
     }
 
     // The dispositions up to and with a record of the kind.

@@ -1,6 +1,6 @@
 -- The dispositions found in a flow are those of the grammar; their parts are the bytes between header and trailer. Assumes nothing.
 use Prim.Native.Nat.{ℕ, zero, suc, _+_, _-_, _*_, _≤_, _<_}
-use mathlib.Core.Bool.{true, false}
+use mathlib.Core.Bool.{false}
 use mathlib.Core.List.{List, [], _∷_, _++_, append-assoc, map, map-map, map-append, flatten, dropLast}
 use mathlib.Core.Path.{_≡_, refl, sym, _∙_, ap, subst}
 use native.Mathlib.Nat.{le-of-suc-le-suc, not-suc-le-zero}
@@ -20,9 +20,9 @@ use Rattle.fields.specs.Digits.{number}
 use Rattle.records.specs.Amount.{amountIn}
 use Rattle.records.specs.Context.{headerOf}
 use Rattle.records.specs.Field.{field}
-use Rattle.records.specs.Kinds.{isOpening, opens}
+use Rattle.records.specs.Kinds.{typeOf, isOpening, opens}
 use Rattle.records.specs.declared.kind.Kind.{Kind}
-use Rattle.records.specs.declared.kind.Kind.the-variants.{Im, Ef}
+use Rattle.records.specs.declared.kind.Kind.the-variants.{Im, R14, Ef}
 use Rattle.records.proofs.ByKind.{type-tested, opens-type}
 use Rattle.flow.specs.Find.{dispositionsIn, startsAt, find, bytesAt, partOf}
 use Rattle.flow.specs.Judge.{judge}
@@ -223,13 +223,13 @@ numbered-at abi n (d ∷ ds) (suc k) h each =
     let same : suc n + k ≡ n + suc k = omega arith in
     subst (λ (m : ℕ). RightDisposition abi m (getD ds k [])) same (numbered-at abi (suc n) ds k (le-of-suc-le-suc h) (each .1))
 
-opening-says : (abi : List ℕ) (n : ℕ) (d : List Typed) → RightDisposition abi n d → (isOpening (opening d) ≡ true) × Says n (field 4 10 (opening d)) × Digits (amountIn (opening d))
+opening-says : (abi : List ℕ) (n : ℕ) (d : List Typed) → RightDisposition abi n d → (field 2 3 (opening d) ≡ typeOf R14) × Says n (field 4 10 (opening d)) × Digits (amountIn (opening d))
 opening-says abi n d r = go d (opened-so d (r .order)) (r .records)
   where
-    go : (d : List Typed) → Opened d → All (Member abi n) d → (isOpening (opening d) ≡ true) × Says n (field 4 10 (opening d)) × Digits (amountIn (opening d))
+    go : (d : List Typed) → Opened d → All (Member abi n) d → (field 2 3 (opening d) ≡ typeOf R14) × Says n (field 4 10 (opening d)) × Digits (amountIn (opening d))
     go d (opened-by x xs e details) members =
         let rules = subst (λ (k : Kind). MemberRules k abi n (x .bytes)) e (members .0 .1) in
-        (opening-so (x .kind) (x .bytes) (members .0 .0) ∙ ap opens e, rules .number-said, rules .others .amount)
+        (members .0 .0 .type ∙ ap typeOf e, rules .number-said, rules .others .amount)
 
 pub opening-exact : OpeningExact
 opening-exact f k place e =
@@ -251,4 +251,4 @@ opening-exact f k place e =
     let amount = ap (λ (r : List ℕ). number (amountIn r)) (sym here ∙ sym own) ∙ sym (ap (λ (x : Stand). x .cents) (found .1)) in
     let number-said = subst (λ (r : List ℕ). Says (1 + (k - 1)) (field 4 10 r)) here (says .1) in
     let digits = subst (λ (r : List ℕ). Digits (amountIn r)) here (says .2) in
-    (ap isOpening (sym here) ∙ says .0, subst (λ (m : ℕ). Says m (field 4 10 (recordAt (place .first - 1) f))) one number-said, (digits, amount), ap (λ (l : Verdict Stand). bytesAt l f) e)
+    (ap (field 2 3) (sym here) ∙ says .0, subst (λ (m : ℕ). Says m (field 4 10 (recordAt (place .first - 1) f))) one number-said, (digits, amount), ap (λ (l : Verdict Stand). bytesAt l f) e)

@@ -1,7 +1,6 @@
 -- What is proved of reading a flow and of finding a disposition, against statements that know neither the walk nor a search for the
 -- first fault. `proofs/` has its proof under the law's name in small letters. Assumes nothing.
 use Prim.Native.Nat.{ℕ, suc, _+_, _-_, _*_, _≤_, _<_}
-use mathlib.Core.Bool.{true}
 use mathlib.Core.List.{List, [], map, flatten}
 use mathlib.Core.Logic.{_↔_, _⊎_}
 use mathlib.Core.Path.{_≡_}
@@ -12,8 +11,9 @@ use Rattle.records.specs.Amount.{amountIn}
 use Rattle.records.specs.Context.{Header, context}
 use Rattle.records.specs.Field.{field}
 use Rattle.records.specs.Finding.{refused as Finding·refused}
-use Rattle.records.specs.Kinds.{isOpening}
+use Rattle.records.specs.Kinds.{typeOf}
 use Rattle.records.specs.declared.kind.Kind.{Kind}
+use Rattle.records.specs.declared.kind.Kind.the-variants.{R14}
 use Rattle.flow.specs.Find.{dispositionsIn, find, partOf}
 use Rattle.flow.specs.Judge.{judge}
 use Rattle.flow.specs.Order.{In, permitted}
@@ -79,11 +79,11 @@ PlacesExact =
     (f : List ℕ) (t : Totals) → judge f ≡ accepted t
     → (firstAt (find f 1) ≡ 2) × ((k : ℕ) → 1 ≤ k → k < t .dispositions → firstAt (find f (suc k)) ≡ endAt (find f k)) × (endAt (find f (t .dispositions)) ≡ t .records)
 
--- what is found of k starts with a record that opens a disposition and says k and the amount, and its part is those records
+-- what is found of k starts with a 14 that says k and the amount, and its part is those records
 abbrev pub OpeningExact : Type 0
 OpeningExact =
     (f : List ℕ) (k : ℕ) (s : Stand) → find f k ≡ accepted s → let rec = recordAt (s .first - 1) f in
-    (isOpening rec ≡ true) × Says k (field 4 10 rec) × Says (s .cents) (amountIn rec) × (partOf f k ≡ part (120 * (s .first - 1)) (120 * s .records) f)
+    (field 2 3 rec ≡ typeOf R14) × Says k (field 4 10 rec) × Says (s .cents) (amountIn rec) × (partOf f k ≡ part (120 * (s .first - 1)) (120 * s .records) f)
 
 -- a part is empty exactly where the question is refused
 abbrev pub PartEmpty : Type 0

@@ -16,8 +16,8 @@ use Rattle.sequences.proofs.Part.{part-length, part-getD}
 use Rattle.fields.proofs.Decimal.{written-length}
 use Rattle.records.specs.Checked.{checked, Alike}
 use Rattle.records.specs.Field.{Span, _to_, width, field}
+use Rattle.records.specs.Kinds.{Role, Heads, Opens, GoesOn, Closes, role, byRole}
 use Rattle.records.specs.declared.kind.Kind.{Kind}
-use Rattle.records.specs.declared.kind.Kind.the-variants.{Im, R14, R16, R20, R30, R40, R50, R59, R51, R70, Ef}
 use Rattle.records.proofs.EachKind.{each-kind}
 use Rattle.list.specs.Encode.{Placed, place, supplied, bodyPlaced}
 use Rattle.list.specs.Table.{recordOf, carried}
@@ -84,28 +84,22 @@ body-spanned ((a to f) ∷ ss) body e =
     let sizes = split-first (a to f) ss body e in
     ((refl, sizes .0), body-spanned ss (drop (width (a to f)) body) (sizes .1))
 
--- what is supplied, by kind
-abbrev suppliedSpans : Kind → List Span
-suppliedSpans Im = (114 to 114) ∷ []
-suppliedSpans R14 = (4 to 10) ∷ (29 to 33) ∷ (47 to 47) ∷ (48 to 52) ∷ (120 to 120) ∷ []
-suppliedSpans R16 = (4 to 10) ∷ []
-suppliedSpans R20 = (4 to 10) ∷ []
-suppliedSpans R30 = (4 to 10) ∷ []
-suppliedSpans R40 = (4 to 10) ∷ []
-suppliedSpans R50 = (4 to 10) ∷ []
-suppliedSpans R59 = (4 to 10) ∷ []
-suppliedSpans R51 = (4 to 10) ∷ []
-suppliedSpans R70 = (4 to 10) ∷ []
-suppliedSpans Ef = []
+-- what is supplied, by what the record does in a flow
+abbrev suppliedSpans : Role → List Span
+suppliedSpans Heads = (114 to 114) ∷ []
+suppliedSpans Opens = (4 to 10) ∷ (29 to 33) ∷ (47 to 47) ∷ (48 to 52) ∷ (120 to 120) ∷ []
+suppliedSpans GoesOn = (4 to 10) ∷ []
+suppliedSpans Closes = []
 
-pub supplied-spanned : (n : ℕ) (abi : List ℕ) (k : Kind) → (k ≡ R14 → length abi ≡ 5) → Spanned (supplied k n abi) (suppliedSpans k)
-supplied-spanned n abi =
-    let number = written-length 7 n in
-    each-kind (λ (k : Kind). (k ≡ R14 → length abi ≡ 5) → Spanned (supplied k n abi) (suppliedSpans k)) (λ five. ((refl, refl), tt), (λ five. ((refl, number), ((refl, refl), ((refl, refl), ((refl, five refl), ((refl, refl), tt))))), (λ five. ((refl, number), tt), (λ five. ((refl, number), tt), (λ five. ((refl, number), tt), (λ five. ((refl, number), tt), (λ five. ((refl, number), tt), (λ five. ((refl, number), tt), (λ five. ((refl, number), tt), (λ five. ((refl, number), tt), (λ five. tt, tt)))))))))))
+pub supplied-spanned : (n : ℕ) (abi : List ℕ) (r : Role) → (byRole r false true false false ≡ true → length abi ≡ 5) → Spanned (supplied r n abi) (suppliedSpans r)
+supplied-spanned n abi Heads five = ((refl, refl), tt)
+supplied-spanned n abi Opens five = ((refl, written-length 7 n), ((refl, refl), ((refl, refl), ((refl, five refl), ((refl, refl), tt)))))
+supplied-spanned n abi GoesOn five = ((refl, written-length 7 n), tt)
+supplied-spanned n abi Closes five = tt
 
 -- all that is written in the record of an item
 abbrev pub writtenSpans : ItemKind → List Span
-writtenSpans k = (2 to 3) ∷ (suppliedSpans (recordOf k) ++ carried k)
+writtenSpans k = (2 to 3) ∷ (suppliedSpans (role (recordOf k)) ++ carried k)
 
 pub written-within : (k : ItemKind) → All Within (writtenSpans k)
 written-within k = all-within (writtenSpans k) (each-item (λ (k : ItemKind). are-within (writtenSpans k) ≡ true) (refl, (refl, (refl, (refl, (refl, (refl, (refl, (refl, (refl, (refl, tt)))))))))) k)

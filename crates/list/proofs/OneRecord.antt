@@ -13,7 +13,7 @@ use Rattle.sequences.proofs.Part.{part-at-most, part-put, put-length}
 use Rattle.fields.specs.Digits.{digits}
 use Rattle.fields.proofs.Decimal.{written-length}
 use Rattle.records.specs.Field.{_to_, field}
-use Rattle.records.specs.Kinds.{typeOf, heads}
+use Rattle.records.specs.Kinds.{typeOf, Role, Heads, Opens, GoesOn, Closes, role, byRole, heads}
 use Rattle.records.specs.declared.kind.Kind.{Kind}
 use Rattle.records.proofs.EachKind.{each-kind}
 use Rattle.list.specs.Encode.{Placed, place, fill, blanks, carriedAt, abiIn, supplied, bodyPlaced, encodeItem}
@@ -22,7 +22,7 @@ use Rattle.list.specs.ReadBack.{gather}
 use Rattle.list.specs.Table.{recordOf, carried, bodyLength}
 use Rattle.list.specs.declared.table.ItemKind.{ItemKind}
 use Rattle.list.proofs.Carried.{body-fits, body-outside, gather-placed, inOne, gather-at}
-use Rattle.list.proofs.ItemKinds.{each-item}
+use Rattle.list.proofs.ItemKinds.{item-open}
 use Rattle.list.proofs.Placing.{Fits, Outside, fill-length, fill-outside, fill-append}
 use Rattle.list.proofs.TableSpans.{carried-within, carried-rising, carried-behind, carried-behind-number}
 
@@ -35,14 +35,20 @@ module _ (n : ℕ) (abi : List ℕ) (short : length abi ≤ 5) where
   number-length : length (digits 7 n) ≡ 7
   number-length = written-length 7 n
 
-  supplied-fits : (k : Kind) → All Fits (supplied k n abi)
-  supplied-fits =
-      let number : 3 + length (digits 7 n) ≤ 120 = omega (arith, number-length) in
-      let bank : 47 + length abi ≤ 120 = omega arith in
-      each-kind (λ (k : Kind). All Fits (supplied k n abi)) ((omega arith, tt), ((number, (omega arith, (omega arith, (bank, (omega arith, tt))))), ((number, tt), ((number, tt), ((number, tt), ((number, tt), ((number, tt), ((number, tt), ((number, tt), ((number, tt), (tt, tt)))))))))))
+  number-fits : 3 + length (digits 7 n) ≤ 120
+  number-fits = omega (arith, number-length)
 
-supplied-outside : (n : ℕ) (abi : List ℕ) (k : Kind) → All (Outside 1 2) (supplied k n abi)
-supplied-outside n abi = each-kind (λ (k : Kind). All (Outside 1 2) (supplied k n abi)) ((inl (omega arith), tt), ((inl (omega arith), (inl (omega arith), (inl (omega arith), (inl (omega arith), (inl (omega arith), tt))))), ((inl (omega arith), tt), ((inl (omega arith), tt), ((inl (omega arith), tt), ((inl (omega arith), tt), ((inl (omega arith), tt), ((inl (omega arith), tt), ((inl (omega arith), tt), ((inl (omega arith), tt), (tt, tt)))))))))))
+  supplied-fits : (r : Role) → All Fits (supplied r n abi)
+  supplied-fits Heads = (omega arith, tt)
+  supplied-fits Opens = (number-fits, (omega arith, (omega arith, (omega arith, (omega arith, tt)))))
+  supplied-fits GoesOn = (number-fits, tt)
+  supplied-fits Closes = tt
+
+supplied-outside : (n : ℕ) (abi : List ℕ) (r : Role) → All (Outside 1 2) (supplied r n abi)
+supplied-outside n abi Heads = (inl (omega arith), tt)
+supplied-outside n abi Opens = (inl (omega arith), (inl (omega arith), (inl (omega arith), (inl (omega arith), (inl (omega arith), tt)))))
+supplied-outside n abi GoesOn = (inl (omega arith), tt)
+supplied-outside n abi Closes = tt
 
 -- a record of a disposition is supplied with its number, and with nothing more at 4-10
 record NumberFirst (n : ℕ) (ps : List Placed) : Type 0 where
@@ -50,10 +56,14 @@ record NumberFirst (n : ℕ) (ps : List Placed) : Type 0 where
   first : ps ≡ place 4 (digits 7 n) ∷ others
   outside : All (Outside 3 7) others
 
-supplied-number : (n : ℕ) (abi : List ℕ) (k : ItemKind) → heads (recordOf k) ≡ false → NumberFirst n (supplied (recordOf k) n abi)
-supplied-number n abi =
-    let alone : NumberFirst n (place 4 (digits 7 n) ∷ []) = record { others = []; first = refl; outside = tt } in
-    each-item (λ (k : ItemKind). heads (recordOf k) ≡ false → NumberFirst n (supplied (recordOf k) n abi)) (λ e. absurd (true≢false e), (λ e. record { others = _; first = refl; outside = (inl (omega arith), (inl (omega arith), (inl (omega arith), (inl (omega arith), tt)))) }, (λ e. alone, (λ e. alone, (λ e. alone, (λ e. alone, (λ e. alone, (λ e. alone, (λ e. alone, (λ e. alone, tt))))))))))
+supplied-number : (n : ℕ) (abi : List ℕ) (k : ItemKind) → heads (recordOf k) ≡ false → NumberFirst n (supplied (role (recordOf k)) n abi)
+supplied-number n abi k e = by (role (recordOf k)) e (item-open k)
+  where
+    by : (r : Role) → byRole r true false false false ≡ false → byRole r false false false true ≡ false → NumberFirst n (supplied r n abi)
+    by Heads head last = absurd (true≢false head)
+    by Opens head last = record { others = _; first = refl; outside = (inl (omega arith), (inl (omega arith), (inl (omega arith), (inl (omega arith), tt)))) }
+    by GoesOn head last = record { others = []; first = refl; outside = tt }
+    by Closes head last = absurd (true≢false last)
 
 -- the ABI that is copied has five bytes, or none
 pub abi-short : (header : List ℕ) → length (abiIn header) ≤ 5
@@ -69,7 +79,7 @@ module _ (n : ℕ) (header : List ℕ) (it : Item) (proper : Proper it) where
 
   -- what is placed behind the type
   abbrev own : List Placed
-  own = supplied own-kind n (abiIn header)
+  own = supplied (role own-kind) n (abiIn header)
 
   abbrev body : List Placed
   body = bodyPlaced (carried kind) (it .body)
@@ -87,7 +97,7 @@ module _ (n : ℕ) (header : List ℕ) (it : Item) (proper : Proper it) where
   body-size = sym (proper .sized)
 
   own-fits : All Fits own
-  own-fits = supplied-fits n (abiIn header) (abi-short header) own-kind
+  own-fits = supplied-fits n (abiIn header) (abi-short header) (role own-kind)
 
   all-fit : All Fits (own ++ body)
   all-fit = all-append Fits own body own-fits (body-fits (carried kind) (it .body) (carried-within kind) body-size)
@@ -99,7 +109,7 @@ module _ (n : ℕ) (header : List ℕ) (it : Item) (proper : Proper it) where
   pub encoded-type : field 2 3 (encodeItem n header it) ≡ typeOf own-kind
   unfolding encodeItem fill
   encoded-type =
-      let outside : All (Outside 1 2) (own ++ body) = all-append (Outside 1 2) own body (supplied-outside n (abiIn header) own-kind) (body-outside 1 2 (carried kind) (it .body) (carried-behind kind)) in
+      let outside : All (Outside 1 2) (own ++ body) = all-append (Outside 1 2) own body (supplied-outside n (abiIn header) (role own-kind)) (body-outside 1 2 (carried kind) (it .body) (carried-behind kind)) in
       fill-outside 1 2 (own ++ body) withType all-fit type-size outside
       ∙ ap (λ (m : ℕ). part 1 m withType) (sym (type-length own-kind))
       ∙ part-put 1 (typeOf own-kind) blanks type-within

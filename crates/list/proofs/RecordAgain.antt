@@ -21,11 +21,11 @@ use Rattle.records.specs.Context.{Header}
 use Rattle.records.specs.Field.{field}
 use Rattle.records.specs.Finding.{Hold}
 use Rattle.records.specs.Judge.{asked}
-use Rattle.records.specs.Kinds.{typeOf, heads, closes}
+use Rattle.records.specs.Kinds.{typeOf, Opens, role, heads, opens, closes}
 use Rattle.records.specs.declared.kind.Kind.{Kind}
 use Rattle.records.specs.declared.kind.Kind.the-variants.{Im, R14, R16, R20, R30, R40, R50, R59, R51, R70, Ef}
 use Rattle.records.proofs.Checked.{checks-by-position}
-use Rattle.records.proofs.EachKind.{each-kind, heads-im}
+use Rattle.records.proofs.EachKind.{each-kind, heads-im, opens-14}
 use Rattle.flow.specs.Steps.{counted, latestOf, latest}
 use Rattle.flow.specs.declared.walk.Walk.{Walk}
 use Rattle.grammar.specs.Rules.{Says, Printable, Formed, MemberRules}
@@ -57,12 +57,12 @@ module _ (n : ℕ) (bank abi rec : List ℕ) (same : bank ≡ abi) (whole : leng
   abi-length : field 48 52 rec ≡ bank → length abi ≡ 5
   abi-length e = ap (λ (l : List ℕ). length l) (sym (e ∙ same)) ∙ part-length 47 5 rec (omega (arith, whole))
 
-  disposition-stands : MemberRules R14 bank n rec → All (Matches rec) (supplied R14 n abi)
+  disposition-stands : MemberRules R14 bank n rec → All (Matches rec) (supplied Opens n abi)
   disposition-stands m =
       let bank-said = m .others .bank .1 in
       (number-stands (m .number-said), (m .others .causale-code, (m .others .sign-code, (stands rec 48 5 abi (abi-length bank-said) (bank-said ∙ same), (m .others .currency-code, tt)))))
 
-  member-stands : (k : Kind) → (heads k ≡ true → ⊥) → MemberRules k bank n rec → All (Matches rec) (supplied k n abi)
+  member-stands : (k : Kind) → (heads k ≡ true → ⊥) → MemberRules k bank n rec → All (Matches rec) (supplied (role k) n abi)
   member-stands Im f m = absurd (f refl)
   member-stands R14 f m = disposition-stands m
   member-stands R16 f m = (number-stands (m .number-said), tt)
@@ -75,20 +75,17 @@ module _ (n : ℕ) (bank abi rec : List ℕ) (same : bank ≡ abi) (whole : leng
   member-stands R70 f m = (number-stands (m .number-said), tt)
   member-stands Ef f m = tt
 
-  member-abi : (k : Kind) → k ≡ R14 → MemberRules k bank n rec → length abi ≡ 5
-  member-abi k e m = abi-length (subst (λ (l : Kind). MemberRules l bank n rec) e m .others .bank .1)
+  member-abi : (k : Kind) → opens k ≡ true → MemberRules k bank n rec → length abi ≡ 5
+  member-abi k o m = abi-length (subst (λ (l : Kind). MemberRules l bank n rec) (opens-14 k o) m .others .bank .1)
 
 -- what is supplied to a record, by the rules that it keeps
 pub record Supplied (k : Kind) (n : ℕ) (abi rec : List ℕ) : Type 0 where
-  pub places : All (Matches rec) (supplied k n abi)
-  pub bank : k ≡ R14 → length abi ≡ 5
+  pub places : All (Matches rec) (supplied (role k) n abi)
+  pub bank : opens k ≡ true → length abi ≡ 5
 
 header-supplied : (k : Kind) (n : ℕ) (abi rec : List ℕ) → k ≡ Im → field 114 114 rec ≡ currency → Supplied k n abi rec
 header-supplied k n abi rec e code =
-    record { places = subst (λ (l : Kind). All (Matches rec) (supplied l n abi)) (sym e) (code, tt); bank = λ f. absurd (im-not-14 (sym e ∙ f)) }
-  where
-    im-not-14 : Im ≡ R14 → ⊥
-    im-not-14 e = true≢false (ap heads e)
+    record { places = subst (λ (l : Kind). All (Matches rec) (supplied (role l) n abi)) (sym e) (code, tt); bank = λ o. absurd (true≢false (sym o ∙ ap opens e)) }
 
 -- a record that an item of kind k encodes, right at its place; `header` is the body of the header meant, whose ABI is the header's
 module _
@@ -132,15 +129,15 @@ module _
             }
 
     abbrev placed : List Placed
-    placed = place 2 (typeOf kind) ∷ (supplied kind (counted w kind) abi ++ bodyPlaced (carried k) (gather (carried k) rec))
+    placed = place 2 (typeOf kind) ∷ (supplied (role kind) (counted w kind) abi ++ bodyPlaced (carried k) (gather (carried k) rec))
 
     all-stand : All (Matches rec) placed
     all-stand =
         let type : part 1 (length (typeOf kind)) rec ≡ typeOf kind = ap (λ (n : ℕ). part 1 n rec) (type-length kind) ∙ right-at .formed .type in
-        (type, all-append (Matches rec) (supplied kind (counted w kind) abi) (bodyPlaced (carried k) (gather (carried k) rec)) (supplied-so .places) (gather-matches (carried k) rec (carried-within k) whole))
+        (type, all-append (Matches rec) (supplied (role kind) (counted w kind) abi) (bodyPlaced (carried k) (gather (carried k) rec)) (supplied-so .places) (gather-matches (carried k) rec (carried-within k) whole))
 
     all-spanned : Spanned placed (writtenSpans k)
-    all-spanned = ((refl, type-length kind), spanned-append (supplied kind (counted w kind) abi) (bodyPlaced (carried k) (gather (carried k) rec)) _ (carried k) (supplied-spanned (counted w kind) abi kind (supplied-so .bank)) (body-spanned (carried k) (gather (carried k) rec) (gather-length (carried k) rec (carried-within k) whole)))
+    all-spanned = ((refl, type-length kind), spanned-append (supplied (role kind) (counted w kind) abi) (bodyPlaced (carried k) (gather (carried k) rec)) _ (carried k) (supplied-spanned (counted w kind) abi (role kind) (supplied-so .bank)) (body-spanned (carried k) (gather (carried k) rec) (gather-length (carried k) rec (carried-within k) whole)))
 
     all-agree : (j : ℕ) (ps : List Placed) → All (Matches rec) ps → All (Agrees j rec) ps
     all-agree j [] stand = tt

@@ -9,9 +9,8 @@ use Rattle.fields.specs.Digits.{number, digits}
 use Rattle.records.specs.Amount.{amountSpan}
 use Rattle.records.specs.Constants.{causale, sign, currency}
 use Rattle.records.specs.Field.{Span, _to_, width, firstOf}
-use Rattle.records.specs.Kinds.{typeOf, heads, opened}
-use Rattle.records.specs.declared.kind.Kind.{Kind}
-use Rattle.records.specs.declared.kind.Kind.the-variants.{Im, R14, R16, R20, R30, R40, R50, R59, R51, R70, Ef}
+use Rattle.records.specs.Kinds.{typeOf, Role, Heads, Opens, GoesOn, Closes, role, heads, opened}
+use Rattle.records.specs.declared.kind.Kind.the-variants.{Ef}
 use Rattle.flow.specs.declared.answer.Totals.{Totals}
 use Rattle.list.specs.Items.{Item, recordKind, isD}
 use Rattle.list.specs.Table.{carried}
@@ -47,20 +46,13 @@ abiIn header = carriedAt H (9 to 13) header
 abbrev pub copiedIn : List ℕ → List ℕ
 copiedIn header = carriedAt H (4 to 45) header
 
--- what a record of the kind has beside its type and the carried bytes: "its number", which IM has not, "the fixed 07000, -, E", and "the
--- ABI copied from H to 14 at 48-52"
-abbrev pub supplied : Kind → ℕ → List ℕ → List Placed
-supplied Im n abi = place 114 currency ∷ []
-supplied R14 n abi = place 4 (digits 7 n) ∷ place 29 causale ∷ place 47 sign ∷ place 48 abi ∷ place 120 currency ∷ []
-supplied R16 n abi = place 4 (digits 7 n) ∷ []
-supplied R20 n abi = place 4 (digits 7 n) ∷ []
-supplied R30 n abi = place 4 (digits 7 n) ∷ []
-supplied R40 n abi = place 4 (digits 7 n) ∷ []
-supplied R50 n abi = place 4 (digits 7 n) ∷ []
-supplied R59 n abi = place 4 (digits 7 n) ∷ []
-supplied R51 n abi = place 4 (digits 7 n) ∷ []
-supplied R70 n abi = place 4 (digits 7 n) ∷ []
-supplied Ef n abi = []
+-- what a record has beside its type and the carried bytes, by what it does in a flow: "its number", which IM has not, "the fixed 07000,
+-- -, E", and "the ABI copied from H to 14 at 48-52"; EF is no item's
+abbrev pub supplied : Role → ℕ → List ℕ → List Placed
+supplied Heads n abi = place 114 currency ∷ []
+supplied Opens n abi = place 4 (digits 7 n) ∷ place 29 causale ∷ place 47 sign ∷ place 48 abi ∷ place 120 currency ∷ []
+supplied GoesOn n abi = place 4 (digits 7 n) ∷ []
+supplied Closes n abi = []
 
 -- "the carried bytes": the body over the spans, in order
 unfoldable pub bodyPlaced : List Span → List ℕ → List Placed
@@ -71,7 +63,7 @@ bodyPlaced ((a to e) ∷ ss) body = place a (take (width (a to e)) body) ∷ bod
 unfoldable pub encodeItem : ℕ → List ℕ → Item → List ℕ
 encodeItem n header it =
     let k = recordKind it in
-    fill (place 2 (typeOf k) ∷ (supplied k n (abiIn header) ++ bodyPlaced (carried (it .kind)) (it .body))) blanks
+    fill (place 2 (typeOf k) ∷ (supplied (role k) n (abiIn header) ++ bodyPlaced (carried (it .kind)) (it .body))) blanks
 
 -- EF: 4-45 of the header, the counts, the sum, zeros, "E"
 abbrev pub trailerPlaced : List ℕ → Totals → List Placed

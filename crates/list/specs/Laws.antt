@@ -129,7 +129,7 @@ OwnList = (f : List ℕ) (t : Totals) → judge f ≡ accepted t → Pairs OwnIt
 abbrev pub OwnItems : Type 0
 OwnItems = (f : List ℕ) (t : Totals) → judge f ≡ accepted t → parse (listOf f) ≡ items (itemsOf f)
 
--- reading back is accepted exactly where the reader accepts, with its numbers, and there is room; and refused exactly where the reader
+-- reading back is accepted exactly where the reader accepts, with its totals, and there is room; and refused exactly where the reader
 -- refuses, by the same, or by 21
 abbrev pub ReadBackAccepted : Type 0
 ReadBackAccepted = (f : List ℕ) (room : ℕ) (t : Totals) → (judgeRoom f room ≡ accepted t) ↔ ((judge f ≡ accepted t) × (length (listOf f) ≤ room))
@@ -146,7 +146,7 @@ ReadBackLeaves =
     → ((t : Totals) → judgeRoom f (length out) ≡ accepted t → Leaves (readBack f out) (listOf f) out)
     × ((x : Refusal) → judgeRoom f (length out) ≡ refused x → LeavesAlone (readBack f out) out)
 
--- an accepted flow's list, written again, is accepted with the same numbers; a flow's total is one that EF's digits hold
+-- an accepted flow's list, written again, is accepted with the same totals; a flow's total is one that EF's digits hold
 abbrev pub RewrittenExact : Type 0
 RewrittenExact = (f : List ℕ) (t : Totals) (room : ℕ) → judge f ≡ accepted t → length f ≤ room → judgeList (listOf f) room ≡ accepted t
 

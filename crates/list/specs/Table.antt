@@ -89,7 +89,7 @@ abbrev pub rowIn : List ℕ → Row
 rowIn rec = firstRow (λ (k : ItemKind). hasType (recordOf k) rec) rows
 
 -- what is made of a row, and what stands where there is none
-abbrev pub withRow : {A : Type 0} → Row → (ItemKind → A) → A → A
+abbrev pub withRow : {T : Type 0} → Row → (ItemKind → T) → T → T
 withRow (Of k) some none = some k
 withRow Missing some none = none
 

@@ -4,7 +4,7 @@ ghost use mathlib.Core.List.{_∷_, _++_};
 ghost use mathlib.Core.Path.{_≡_};
 ghost use lib.ListN.{length};
 ghost use Rattle.sequences.specs.Part.{put};
-ghost use Rattle.records.specs.Kinds.{typeOf};
+ghost use Rattle.records.specs.Kinds.{typeOf, role};
 ghost use Rattle.list.specs.Encode.{fill, supplied, bodyPlaced, encodeItem, encodeTrailer, trailerPlaced};
 ghost use Rattle.list.specs.Encode.{place as Encode·place};
 ghost use Rattle.list.specs.Items.{item};
@@ -39,7 +39,7 @@ fn fill_item(rec: &mut [u8], kind: ItemKind, number: u64, abi: &[u8], body: &[u8
     requires { ⌜ length (now abi) ≤ 5 ⌝ }
     requires { ⌜ length (now body) ≡ bodyLength kind ⌝ }
     ensures { λ _. ⌜ now (rec .exit) ≡ fill
-        (Encode·place 2 (typeOf (recordOf kind)) ∷ (supplied (recordOf kind) number (now (abi .entry)) ++ bodyPlaced (Table·carried kind) (now (body .entry))))
+        (Encode·place 2 (typeOf (recordOf kind)) ∷ (supplied (role (recordOf kind)) number (now (abi .entry)) ++ bodyPlaced (Table·carried kind) (now (body .entry))))
         (now (rec .entry)) ⌝ }
 {
     let own = record_of(kind);
@@ -53,7 +53,7 @@ fn fill_item(rec: &mut [u8], kind: ItemKind, number: u64, abi: &[u8], body: &[u8
 fn supply(rec: &mut [u8], kind: Kind, number: u64, abi: &[u8])
     requires { ⌜ length (now rec) ≡ 120 ⌝ }
     requires { ⌜ length (now abi) ≤ 5 ⌝ }
-    ensures { λ _. ⌜ now (rec .exit) ≡ fill (supplied kind number (now (abi .entry))) (now (rec .entry)) ⌝ }
+    ensures { λ _. ⌜ now (rec .exit) ≡ fill (supplied (role kind) number (now (abi .entry))) (now (rec .entry)) ⌝ }
 {
     match kind {
         Kind::Im => place(rec, 114, &CURRENCY),

@@ -173,11 +173,7 @@ fn close(walk: Walk, n: u64) -> Answer
     if MOST_CENTS < walk.cents {
         return Answer::Refused(flow::refusal_of_call(TOTAL_TOO_LARGE));
     }
-    Answer::Accepted(Totals {
-        dispositions: walk.dispositions,
-        cents: walk.cents,
-        records: n + 1,
-    })
+    Answer::Accepted(walk.totals(n + 1))
 }
 
 // Each record, and then EF with the totals, at the front of out.

@@ -10,14 +10,15 @@ use borrow.Author.Tests.{eq-eqb, eqb-true}
 use Rattle.fields.specs.Amount.{amountField}
 use Rattle.fields.specs.Answer.{Answer, accepted, refused, notDigits}
 use Rattle.fields.specs.Digits.{isDigits, number, digitsFrom}
-use Rattle.records.specs.Amount.{amountIn, HasAmount}
+use Rattle.records.specs.Amount.{amountSpan, amountIn, HasAmount}
 use Rattle.records.specs.Checks.{amountChecks, checks}
 use Rattle.records.specs.Context.{Context}
-use Rattle.records.specs.Finding.{Finding, right, firstFault}
+use Rattle.records.specs.Field.{firstOf}
+use Rattle.records.specs.Finding.{Finding, right, Check, firstFault, checksAt}
 use Rattle.records.specs.Finding.{refused as Finding·refused}
 use Rattle.records.specs.Judge.{asked, judge}
 use Rattle.records.specs.Kinds.{opens}
-use Rattle.records.specs.Laws.{AmountRows}
+use Rattle.records.specs.Laws.{AmountBy, AmountRows}
 use Rattle.records.specs.Rows.{Fits}
 use Rattle.records.specs.declared.kind.Kind.{Kind}
 use Rattle.records.specs.declared.kind.Kind.the-variants.{R14}
@@ -60,23 +61,35 @@ amount-found rec whole = ap asFinding read ∙ by (isDigits bs)
     by true = refl
     by false = refl
 
-pub amount-rows : AmountRows
+pub amount-by : (rec : List ℕ) → length rec ≡ 120 → AmountBy (amountChecks rec) rec
 unfolding firstFault
-amount-rows rec whole =
+amount-by rec whole =
     let x = amountField (amountIn rec) in
     let so = amount-found rec whole in
     let v = number (amountIn rec) in
     let cs = amountChecks rec in
-    let rest = right R14 v in (
-      λ n. (λ e. broken cs R14 v n 34 (sym so ∙ ap asFinding e), λ b. found-refusal x n (so ∙ broken-front cs [] rest n 34 b)),
-      λ w. (
-        λ e. let kept = sym so ∙ ap asFinding e in (kept-front cs [] rest kept, same w (kept-all cs rest kept)),
-        λ h. found-value x w (so ∙ held cs [] rest (h .0) ∙ ap (right R14) (sym (h .1))),
-      ),
-    )
+    let rest = right R14 v in
+    record {
+      refuses = λ n. (λ e. broken cs R14 v n 34 (sym so ∙ ap asFinding e), λ b. found-refusal x n (so ∙ broken-front cs [] rest n 34 b));
+      reads =
+          λ w. (
+            λ e. let kept = sym so ∙ ap asFinding e in (kept-front cs [] rest kept, same w (kept-all cs rest kept)),
+            λ h. found-value x w (so ∙ held cs [] rest (h .0) ∙ ap (right R14) (sym (h .1))),
+          );
+    }
   where
     same : (w : ℕ) → right R14 (number (amountIn rec)) ≡ right R14 w → w ≡ number (amountIn rec)
     same w e = cc
+
+-- these are all that the table has at the amount's place
+checks-at-amount : (ctx : Context) (rec : List ℕ) → checksAt (firstOf amountSpan) (checks R14 ctx rec) ≡ amountChecks rec
+unfolding checks checksAt
+checks-at-amount ctx rec = refl
+
+pub amount-rows : AmountRows
+amount-rows k ctx rec o whole =
+    let own = ap (λ (l : Kind). checksAt (firstOf amountSpan) (checks l ctx rec)) (opens-14 k o) ∙ checks-at-amount ctx rec in
+    subst (λ (cs : List Check). AmountBy cs rec) (sym own) (amount-by rec whole)
 
 -- a right record that opens a disposition has an amount
 pub right-amount : (k l : Kind) (ctx : Context) (rec : List ℕ) (c : ℕ) → opens k ≡ true → judge k ctx rec ≡ right l c → HasAmount rec
@@ -88,5 +101,5 @@ right-amount k l ctx rec c o e = by (eqb (length rec) 120) refl (subst (λ (m : 
         → HasAmount rec
     by true t x =
         let rows = kept-front (amountChecks rec) _ (right R14 (asked R14 rec)) (behind 5 (checks R14 ctx rec) (right R14 (asked R14 rec)) x) in
-        amount-rows rec (eqb-true (length rec) 120 t) .1 (number (amountIn rec)) .1 (rows, refl)
+        amount-by rec (eqb-true (length rec) 120 t) .reads (number (amountIn rec)) .1 (rows, refl)
     by false t x = absurd (right-not-refused x)

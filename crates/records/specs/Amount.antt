@@ -16,6 +16,6 @@ amountSpan = 34 to 46
 abbrev pub amountIn : List ℕ → List ℕ
 amountIn rec = fieldAt amountSpan rec
 
--- it is an amount, and its number is the disposition's
+-- for the contract of a private function: it is an amount, and its number is the disposition's
 abbrev pub HasAmount : List ℕ → Type 0
 HasAmount rec = amountField (amountIn rec) ≡ accepted (number (amountIn rec))

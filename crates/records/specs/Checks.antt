@@ -55,7 +55,7 @@ numberChecks n rec =
     ∷ check (eqb (number (field 4 10 rec)) n) 9 4
     ∷ []
 
--- 34-46 of row 14, the amount. `AmountRows` holds these rows against the rule of the field alone
+-- 34-46 of row 14, the amount. `AmountRows` holds what the table says at 34 against the rule of the field alone
 abbrev pub amountChecks : List ℕ → List Check
 amountChecks rec = check (isDigits (field 34 46 rec)) 5 34 ∷ []
 

@@ -42,6 +42,11 @@ inOrder [] = true
 inOrder (check holds n p ∷ []) = true
 inOrder (check holds n p ∷ check holds′ m q ∷ cs) = precedes n p q && inOrder (check holds′ m q ∷ cs)
 
+-- the checks at a position, in their order
+unfoldable pub checksAt : ℕ → List Check → List Check
+checksAt p [] = []
+checksAt p (check holds n q ∷ cs) = cond (eqb q p) (check holds n q ∷ checksAt p cs) (checksAt p cs)
+
 -- the paper's values for each case of `records::Judged`
 abbrev pub finding : Judged → Finding
 finding (Right r) = right (r .kind) (r .cents)

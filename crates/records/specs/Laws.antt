@@ -9,13 +9,13 @@ use Rattle.fields.specs.Amount.{amountField}
 use Rattle.fields.specs.Answer.{accepted}
 use Rattle.fields.specs.Answer.{refused as Answer·refused}
 use Rattle.fields.specs.Digits.{isDigits, number}
-use Rattle.records.specs.Amount.{amountIn}
+use Rattle.records.specs.Amount.{amountSpan, amountIn}
 use Rattle.records.specs.Bytes.{badByte}
 use Rattle.records.specs.Checked.{checked, Alike}
-use Rattle.records.specs.Checks.{amountChecks, checks}
+use Rattle.records.specs.Checks.{checks}
 use Rattle.records.specs.Context.{Context}
-use Rattle.records.specs.Field.{field}
-use Rattle.records.specs.Finding.{right, refused, Hold, FirstBroken, inOrder, finding}
+use Rattle.records.specs.Field.{field, firstOf}
+use Rattle.records.specs.Finding.{right, refused, Check, Hold, FirstBroken, inOrder, checksAt, finding}
 use Rattle.records.specs.Judge.{asked, judge}
 use Rattle.records.specs.Kinds.{typeOf, opens, closes}
 use Rattle.records.specs.Limits.{countLimit, centsLimit, stopped}
@@ -48,13 +48,15 @@ RightExact = (k : Kind) (ctx : Context) (rec : List ℕ) → length rec ≡ 120 
 abbrev pub BrokenExact : Type 0
 BrokenExact = (k : Kind) (ctx : Context) (rec : List ℕ) (n p : ℕ) → length rec ≡ 120 → (judge k ctx rec ≡ refused n p) ↔ FirstBroken (checks k ctx rec) n p
 
--- the rows of the amount are what the field's own rule says: it refuses by the number of the first row that fails, and where every row
--- holds it gives the number that stands there
+-- checks say of a record's amount what the field's own rule does: it refuses by the number of the first of them that fails, and where
+-- all hold it gives the number that stands there
+pub record AmountBy (cs : List Check) (rec : List ℕ) : Type 0 where
+  pub refuses : (n : ℕ) → (amountField (amountIn rec) ≡ Answer·refused n) ↔ FirstBroken cs n (firstOf amountSpan)
+  pub reads : (v : ℕ) → (amountField (amountIn rec) ≡ accepted v) ↔ (Hold cs × (v ≡ number (amountIn rec)))
+
+-- as those do that the table has at the amount's place
 abbrev pub AmountRows : Type 0
-AmountRows =
-    (rec : List ℕ) → length rec ≡ 120
-    → ((n : ℕ) → (amountField (amountIn rec) ≡ Answer·refused n) ↔ FirstBroken (amountChecks rec) n 34)
-    × ((v : ℕ) → (amountField (amountIn rec) ≡ accepted v) ↔ (Hold (amountChecks rec) × (v ≡ number (amountIn rec))))
+AmountRows = (k : Kind) (ctx : Context) (rec : List ℕ) → opens k ≡ true → length rec ≡ 120 → AmountBy (checksAt (firstOf amountSpan) (checks k ctx rec)) rec
 
 -- number 1 is given exactly to a record that is not 120 bytes long, at position 0
 abbrev pub OneForLength : Type 0

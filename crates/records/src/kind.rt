@@ -1,7 +1,7 @@
 // The eleven record types of a request flow.
 ghost use mathlib.Core.Path.{_≡_};
 ghost use Rattle.records.specs.Kinds.{typeOf, hasType, isOpening};
-ghost use Rattle.records.specs.Kinds.{heads as Kinds·heads, opens as Kinds·opens, closes as Kinds·closes};
+ghost use Rattle.records.specs.Kinds.{heads as Kinds·heads, opens as Kinds·opens};
 use crate::constants;
 use crate::position::field;
 
@@ -65,11 +65,4 @@ pub fn opens(kind: Kind) -> bool
     ensures { λ r. ⌜ r ≡ Kinds·opens kind ⌝ }
 {
     if let Kind::R14 = kind { true } else { false }
-}
-
-// Whether a record of the kind closes the flow.
-pub fn closes(kind: Kind) -> bool
-    ensures { λ r. ⌜ r ≡ Kinds·closes kind ⌝ }
-{
-    if let Kind::Ef = kind { true } else { false }
 }

@@ -31,7 +31,6 @@ pub use judged::Counts;
 pub use judged::Judged;
 pub use judged::Record;
 pub use kind::Kind;
-pub use kind::closes;
 pub use kind::has_type;
 pub use kind::heads;
 pub use kind::is_opening;

@@ -136,6 +136,15 @@ put-part a n xs h = rw (part-length, ← drop-drop n a xs, take-append-drop, tak
 pub lent-is-put : (a e : ℕ) (xs ys : List ℕ) → length ys ≡ e - a → putMid a (e - a) xs ys ≡ put a ys xs
 lent-is-put a e xs ys l = rw (drop-drop, l)
 
+-- and so is one of n elements, lent as `&mut xs[a..a + n]`, that comes back with g done to it
+pub lent-changed :
+    (a n : ℕ) (xs back : List ℕ) (g : List ℕ → List ℕ) → length (g (part a n xs)) ≡ n → back ≡ g (part a (a + n - a) xs)
+    → putMid a (a + n - a) xs back ≡ put a (g (part a n xs)) xs
+lent-changed a n xs back g size came =
+    let lent : a + n - a ≡ n = omega arith in
+    let whole : back ≡ g (part a n xs) = came ∙ ap (λ (m : ℕ). g (part a m xs)) lent in
+    ap (putMid a (a + n - a) xs) whole ∙ lent-is-put a (a + n) xs (g (part a n xs)) (size ∙ sym lent)
+
 -- bytes that `bytes::copy` copied to a part of their length, lent so, are written over
 pub copied-over :
     (a e : ℕ) (xs ys back : List ℕ) → a ≤ e → e ≤ length xs → length ys ≡ e - a

@@ -1,10 +1,14 @@
 -- `amend::place_number` meets its contract. Assumes nothing.
-use Prim.Native.Nat.{_+_, _-_, _*_}
-use mathlib.Core.Path.{_≡_, _∙_}
+use Prim.Native.Nat.{ℕ, _+_, _-_, _*_, _≤_}
+use mathlib.Core.List.{List}
+use mathlib.Core.Path.{_≡_, sym, _∙_, ap}
 use native.Mathlib.Omega.{arith}
+use lib.ListN.{length}
 use borrow.Author.Needs.{needs}
-use Rattle.sequences.specs.Part.{put}
+use Rattle.sequences.specs.Part.{part, put}
+use Rattle.sequences.proofs.Part.{part-length, put-length, put-within, lent-changed}
 use Rattle.fields.specs.Digits.{digits}
+use Rattle.fields.proofs.Decimal.{written-length}
 use Rattle.records.specs.Field.{_to_, width}
 use Rattle.records.proofs.NumberWritten.{written-within}
 use Rattle.amend.proofs.digits.place_number.Statement.{statement}
@@ -22,8 +26,14 @@ mul-at c = search needs
 add-write-number : tie.Need-add-write-number
 add-write-number c = search needs
 
-add-write-number-2 : tie.Need-add-write-number-2
-add-write-number-2 c = search needs
+sub-write-number : tie.Need-sub-write-number
+sub-write-number c = search needs
+
+part-write-number-start : tie.Need-part-write-number-start
+part-write-number-start c = search needs
+
+part-write-number-end : tie.Need-part-write-number-end
+part-write-number-end c = search needs
 
 write-number-requires : tie.Need-write-number-requires
 write-number-requires c κs = search needs
@@ -35,13 +45,19 @@ returns : tie.Need-returns
 returns c =
     let r = c .before .before .before .before .index in
     let args = c .before .before .before .before .before .before .args in
+    let f = args .flow .now in
     let at = 120 * (r .result - 1) in
+    let shown = digits (width (args .first to args .last)) (args .value) in
+    let write : List ℕ → List ℕ = put (args .first - 1) shown in
     let same = r .ensures in
-    let from : at + args .first - 1 ≡ 120 * (args .r - 1) + (args .first - 1) = omega arith in
-    let size : width ((at + args .first) to (at + args .last)) ≡ args .last - (args .first - 1) = omega arith in
-    c .before .before .write-number .ensures
-    ∙ written-within (at + args .first) (at + args .last) (args .value) (args .flow .now) (omega arith) (omega arith)
-    ∙ (λ i. put (from i) (digits (size i) (args .value)) (args .flow .now))
+    let ends : at + 120 ≤ length f = omega arith in
+    let lent : length (part at (at + 120 - at) f) ≡ at + 120 - at = part-length at (at + 120 - at) f (omega arith) in
+    let inner : args .first - 1 + length shown ≤ 120 = omega (arith, written-length (width (args .first to args .last)) (args .value)) in
+    let whole = part-length at 120 f ends in
+    let size : length (write (part at 120 f)) ≡ 120 = put-length (args .first - 1) shown (part at 120 f) (omega arith) ∙ whole in
+    let came = c .before .before .write-number .ensures ∙ written-within (args .first) (args .last) (args .value) (part at (at + 120 - at) f) (omega arith) (omega arith) in
+    lent-changed at 120 f (c .before .before .write-number .last .0) write size came ∙ sym (put-within at 120 (args .first - 1) shown f inner ends)
+    ∙ ap (λ (m : ℕ). put (120 * (m - 1) + (args .first - 1)) shown f) same
 
 pub place-number-spec : {M : Type 1} → statement M
 place-number-spec =
@@ -51,7 +67,9 @@ place-number-spec =
     sub-at
     mul-at
     add-write-number
-    add-write-number-2
+    sub-write-number
+    part-write-number-start
+    part-write-number-end
     write-number-requires
     same-length
     returns)

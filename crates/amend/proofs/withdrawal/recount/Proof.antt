@@ -1,37 +1,67 @@
 -- `amend::recount` meets its contract. Assumes nothing.
-use mathlib.Core.Path.{_∙_, ap}
+use Prim.Native.Nat.{ℕ, _+_, _-_, _*_, _≤_}
+use mathlib.Core.Path.{_≡_, _∙_, ap}
+use native.Mathlib.Omega.{arith}
+use lib.ListN.{length}
 use borrow.Author.Needs.{needs}
-use Rattle.fields.specs.Digits.{digits}
-use Rattle.amend.specs.Amended.{written}
+use Rattle.sequences.specs.Part.{part, put}
+use Rattle.sequences.proofs.Part.{part-length, lent-changed}
+use Rattle.amend.specs.Withdraw.{recounted}
+use Rattle.amend.proofs.Kept.{recounted-length}
 use Rattle.amend.proofs.withdrawal.recount.Statement.{statement}
 use Rattle.amend.proofs.withdrawal.recount.Tie as tie
 
-place-number-requires : tie.Need-place-number-requires
-place-number-requires c κs = search needs
+index-requires : tie.Need-index-requires
+index-requires c κs = search needs
 
-place-number-requires-2 : tie.Need-place-number-requires-2
-place-number-requires-2 c κs = search needs
+sub-at : tie.Need-sub-at
+sub-at c = search needs
 
-place-number-requires-3 : tie.Need-place-number-requires-3
-place-number-requires-3 c κs = search needs
+mul-at : tie.Need-mul-at
+mul-at c = search needs
+
+add-write-totals : tie.Need-add-write-totals
+add-write-totals c = search needs
+
+sub-write-totals : tie.Need-sub-write-totals
+sub-write-totals c = search needs
+
+part-write-totals-start : tie.Need-part-write-totals-start
+part-write-totals-start c = search needs
+
+part-write-totals-end : tie.Need-part-write-totals-end
+part-write-totals-end c = search needs
+
+write-totals-requires : tie.Need-write-totals-requires
+write-totals-requires c κs = search needs
 
 same-length : tie.Need-same-length
 same-length c = search needs
 
 returns : tie.Need-returns
 returns c =
-    let first = c .before .before .before .before .before .before .before .before .before .before in
-    let t = first .before .before .before .args .totals in
-    let second = c .before .before .before .before .before .before .place-number2 .ensures in
-    let third = c .before .before .place-number3 .ensures in
-    third ∙ ap (written (t .records) 83 (digits 7 (t .records))) (second ∙ ap (written (t .records) 53 (digits 15 (t .cents))) (first .place-number .ensures))
+    let r = c .before .before .before .before .index in
+    let args = c .before .before .before .before .before .before .args in
+    let f = args .flow .now in
+    let t = args .totals in
+    let at = 120 * (r .result - 1) in
+    let same = r .ensures in
+    let ends : at + 120 ≤ length f = omega arith in
+    let size : length (recounted t (part at 120 f)) ≡ 120 = recounted-length t (part at 120 f) (part-length at 120 f ends) in
+    lent-changed at 120 f (c .before .before .write-totals .last .0) (recounted t) size (c .before .before .write-totals .ensures)
+    ∙ ap (λ (m : ℕ). put (120 * (m - 1)) (recounted t (part (120 * (m - 1)) 120 f)) f) same
 
 pub recount-spec : {M : Type 1} → statement M
 recount-spec =
     tie.close
     (tie.spec
-    place-number-requires
-    place-number-requires-2
-    place-number-requires-3
+    index-requires
+    sub-at
+    mul-at
+    add-write-totals
+    sub-write-totals
+    part-write-totals-start
+    part-write-totals-end
+    write-totals-requires
     same-length
     returns)

@@ -1,20 +1,25 @@
 -- `flow::end` meets its contract. Assumes nothing.
 use mathlib.Core.Bool.{true, false}
-use mathlib.Core.Path.{_≡_, sym, _∙_}
+use mathlib.Core.Path.{_≡_, sym, _∙_, ap}
 use native.Mathlib.Numerals.{add-one}
 use borrow.Author.Needs.{needs}
 use borrow.Author.Tests.{not-true, not-false}
 use Rattle.flow.specs.Order.{permitted, isDue}
+use Rattle.flow.specs.Verdict.{accepted}
 use Rattle.flow.proofs.reader.end.Statement.{statement}
 use Rattle.flow.proofs.reader.end.Tie as tie
 
 complete-requires : tie.Need-complete-requires
 complete-requires c κs = search needs
 
+totals-requires : tie.Need-totals-requires
+totals-requires c κs = search needs
+
 returns : tie.Need-returns
 returns c =
-    let none : isDue (permitted (c .before .before .args .walk .place .due)) ≡ false = not-true _ (sym (c .before .complete .ensures) ∙ c .if1 .taken) in
-    rw none
+    let told = c .before in
+    let none : isDue (permitted (told .before .before .args .walk .place .due)) ≡ false = not-true _ (sym (told .before .complete .ensures) ∙ told .if1 .taken) in
+    rw none (ap accepted (c .totals .ensures))
 
 add-t5 : tie.Need-add-t5
 add-t5 c = search needs
@@ -25,4 +30,4 @@ returns-2 c =
     rw (one, add-one)
 
 pub end-spec : {M : Type 1} → statement M
-end-spec = tie.close (tie.spec complete-requires returns add-t5 returns-2)
+end-spec = tie.close (tie.spec complete-requires totals-requires returns add-t5 returns-2)

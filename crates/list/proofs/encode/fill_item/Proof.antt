@@ -1,7 +1,7 @@
 -- `list::fill_item` meets its contract. Assumes nothing.
 use mathlib.Core.List.{_∷_, _++_}
 use borrow.Author.Needs.{needs}
-use Rattle.records.specs.Kinds.{typeOf}
+use Rattle.records.specs.Kinds.{typeOf, role}
 use Rattle.list.specs.Encode.{place, supplied, bodyPlaced}
 use Rattle.list.specs.Table.{carried}
 use Rattle.list.proofs.Filling.{Fills, fills-place, fills-both}
@@ -38,7 +38,7 @@ returns c =
     let own = typed .before .record-of in
     let args = typed .before .before .before .before .before .args in
     let kind = args .kind in
-    let all : Fills (place 2 (typeOf (own .result)) ∷ (supplied (own .result) (args .number) (args .abi .now) ++ bodyPlaced (carried kind) (args .body .now))) (args .rec .now) (carrying .place-body .last .0) =
+    let all : Fills (place 2 (typeOf (own .result)) ∷ (supplied (role (own .result)) (args .number) (args .abi .now) ++ bodyPlaced (carried kind) (args .body .now))) (args .rec .now) (carrying .place-body .last .0) =
     fills-place (first .place .ensures) (typed .type-of .ensures) (fills-both (record { done = supplying .supply .ensures }) (record { done = carrying .place-body .ensures })) in
     rw (own .ensures) at (all .done)
 

@@ -7,8 +7,8 @@ use borrow.Author.Needs.{needs}
 use denote.Enum.Declared.{tagOf}
 use types.Run.{OneOf, miss}
 use Rattle.fields.specs.Digits.{digits}
+use Rattle.records.specs.Kinds.{Heads, Opens, Closes, role}
 use Rattle.records.specs.declared.kind.Kind.{Kind}
-use Rattle.records.specs.declared.kind.Kind.the-variants.{Im, R14, Ef}
 use Rattle.records.proofs.EachKind.{each-kind}
 use Rattle.records.proofs.kind.Kind.{the-type}
 use Rattle.list.specs.Encode.{Placed, place, fill, supplied}
@@ -66,8 +66,8 @@ returns c =
     let at = c .before .before .before .before .before .before .before .before .before in
     let rec = at .args .rec .now in
     let abi = at .args .abi .now in
-    let all : Fills (supplied Im (at .args .number) abi) rec (c .before .before .place .last .0) = fills-place (c .before .before .place .ensures) refl fills-none in
-    all .done ∙ ap (λ (k : Kind). fill (supplied k (at .args .number) abi) rec) (sym (c .before .before .before .before .before .enum-told .given .1))
+    let all : Fills (supplied Heads (at .args .number) abi) rec (c .before .before .place .last .0) = fills-place (c .before .before .place .ensures) refl fills-none in
+    all .done ∙ ap (λ (k : Kind). fill (supplied (role k) (at .args .number) abi) rec) (sym (c .before .before .before .before .before .enum-told .given .1))
 
 same-length-2 : tie.Need-same-length-2
 same-length-2 c = search needs
@@ -82,19 +82,19 @@ returns-2 c =
     let at = first .before .before .before .before .before .before in
     let rec = at .args .rec .now in
     let abi = at .args .abi .now in
-    let all : Fills (supplied R14 (at .args .number) abi) rec (fifth .place5 .last .0) =
+    let all : Fills (supplied Opens (at .args .number) abi) rec (fifth .place5 .last .0) =
     fills-number 4 10 (at .args .number) (first .write-number .ensures) (omega arith) (search needs)
     (fills-place (second .place2 .ensures) refl
     (fills-place (third .place3 .ensures) refl (fills-place (fourth .place4 .ensures) refl (fills-place (fifth .place5 .ensures) refl fills-none)))) in
-    all .done ∙ ap (λ (k : Kind). fill (supplied k (at .args .number) abi) rec) (sym (first .before .before .enum-told2 .given .1))
+    all .done ∙ ap (λ (k : Kind). fill (supplied (role k) (at .args .number) abi) rec) (sym (first .before .before .enum-told2 .given .1))
 
 returns-3 : tie.Need-returns-3
 returns-3 c =
     let at = c .before .before .before .before in
     let rec = at .args .rec .now in
     let abi = at .args .abi .now in
-    let all : Fills (supplied Ef (at .args .number) abi) rec rec = fills-none in
-    all .done ∙ ap (λ (k : Kind). fill (supplied k (at .args .number) abi) rec) (sym (c .enum-told3 .given .1))
+    let all : Fills (supplied Closes (at .args .number) abi) rec rec = fills-none in
+    all .done ∙ ap (λ (k : Kind). fill (supplied (role k) (at .args .number) abi) rec) (sym (c .enum-told3 .given .1))
 
 same-length-3 : tie.Need-same-length-3
 same-length-3 c = search needs
@@ -103,9 +103,9 @@ same-length-3 c = search needs
 abbrev others : List ℕ
 others = 2 ∷ 3 ∷ 4 ∷ 5 ∷ 6 ∷ 7 ∷ 8 ∷ 9 ∷ []
 
-numbered : (n : ℕ) (abi : List ℕ) (k : Kind) → OneOf others (tagOf the-type k) → supplied k n abi ≡ place 4 (digits 7 n) ∷ []
+numbered : (n : ℕ) (abi : List ℕ) (k : Kind) → OneOf others (tagOf the-type k) → supplied (role k) n abi ≡ place 4 (digits 7 n) ∷ []
 numbered n abi =
-    each-kind (λ (k : Kind). OneOf others (tagOf the-type k) → supplied k n abi ≡ place 4 (digits 7 n) ∷ [])
+    each-kind (λ (k : Kind). OneOf others (tagOf the-type k) → supplied (role k) n abi ≡ place 4 (digits 7 n) ∷ [])
     (λ o. absurd (miss others 0 tt o), (λ o. absurd (miss others 1 tt o), (λ o. refl, (λ o. refl, (λ o. refl, (λ o. refl, (λ o. refl, (λ o. refl, (λ o. refl, (λ o. refl, (λ o. absurd (miss others 10 tt o), tt)))))))))))
 
 returns-4 : tie.Need-returns-4

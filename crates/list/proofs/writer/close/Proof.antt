@@ -7,8 +7,9 @@ use lib.Dec.{leb}
 use borrow.Author.Needs.{needs}
 use borrow.Author.Tests.{not-true, not-false, le-leb, lt-leb}
 use Rattle.records.specs.Limits.{mostCents}
+use Rattle.flow.specs.Judge.{totals}
 use Rattle.flow.specs.Order.{permitted, mayClose}
-use Rattle.flow.specs.Verdict.{refused}
+use Rattle.flow.specs.Verdict.{accepted, refused}
 use Rattle.list.proofs.writer.close.Statement.{statement}
 use Rattle.list.proofs.writer.close.Tie as tie
 
@@ -32,15 +33,19 @@ returns-2 c =
     let over : leb (c .before .before .before .before .before .args .walk .cents) mostCents ≡ false = lt-leb (c .before .before .before .before .before .args .walk .cents) mostCents (omega (arith, c .before .if2 .taken)) in
     rw (due, over) (ap refused (c .refusal-of-call .ensures))
 
-add-t8 : tie.Need-add-t8
-add-t8 c = search needs
+add-totals : tie.Need-add-totals
+add-totals c = search needs
+
+totals-requires : tie.Need-totals-requires
+totals-requires c κs = search needs
 
 returns-3 : tie.Need-returns-3
 returns-3 c =
-    let due : mayClose (permitted (c .before .before .before .before .args .walk .place .due)) ≡ true = sym (c .before .before .before .may-close .ensures) ∙ not-false _ (c .before .before .if1 .left) in
-    let small : leb (c .before .before .before .before .args .walk .cents) mostCents ≡ true = le-leb (c .before .before .before .before .args .walk .cents) mostCents (omega (arith, c .if2 .left)) in
-    rw (due, small, add-one)
+    let told = c .before in
+    let due : mayClose (permitted (told .before .before .before .before .args .walk .place .due)) ≡ true = sym (told .before .before .before .may-close .ensures) ∙ not-false _ (told .before .before .if1 .left) in
+    let small : leb (told .before .before .before .before .args .walk .cents) mostCents ≡ true = le-leb (told .before .before .before .before .args .walk .cents) mostCents (omega (arith, told .if2 .left)) in
+    rw (due, small) (ap accepted (c .totals .ensures ∙ ap (totals (told .before .before .before .before .args .walk)) (add-one _)))
 
 pub close-spec : {M : Type 1} → statement M
 close-spec =
-    tie.close (tie.spec may-close-requires add-t5 returns refusal-of-call-requires returns-2 add-t8 returns-3)
+    tie.close (tie.spec may-close-requires add-t5 returns refusal-of-call-requires returns-2 add-totals totals-requires returns-3)

@@ -5,14 +5,15 @@ use mathlib.Core.Path.{_≡_, refl, sym, _∙_, ap}
 use native.Mathlib.Omega.{arith}
 use borrow.Author.Needs.{needs}
 use borrow.Author.Tests.{not-true, not-false}
-use Rattle.fields.specs.Answer.{accepted, refused, numberAnswer, dateAnswer}
+use Rattle.fields.specs.Answer.{numberAnswer, dateAnswer}
 use Rattle.fields.specs.Digits.{number}
 use Rattle.records.specs.Amount.{amountIn}
 use Rattle.records.specs.Checks.{agrees, numberChecks, amountChecks, dispositionChecks}
 use Rattle.records.specs.Context.{headerOf}
-use Rattle.records.specs.Finding.{right, Hold, FirstBroken}
+use Rattle.records.specs.Finding.{right, Hold}
+use Rattle.records.specs.Laws.{AmountBy}
 use Rattle.records.specs.declared.kind.Kind.the-variants.{R14}
-use Rattle.records.proofs.Amounts.{amount-rows}
+use Rattle.records.proofs.Amounts.{amount-by}
 use Rattle.records.proofs.FirstFault.{Reached, enter, pass, pass-row, pass-all, stop, stop-all, done}
 use Rattle.records.proofs.Rows.{fits, digits-both, date-both, stop-digits, stop-date}
 use Rattle.records.proofs.disposition.judge_disposition.Statement.{statement}
@@ -72,22 +73,17 @@ enum-known-number-3 c = search needs
 abbrev past-29 : tie.Else1 → Reached
 past-29 c = pass (past-23 (c .before .before .before)) (sym (c .before .same .ensures) ∙ not-false _ (c .if1 .left))
 
--- what the rule of the amount says of its rows
+-- the amount's own rule, of its checks
 abbrev rec-of : tie.After-amount → List ℕ
 rec-of c = c .before .before .before .before .before .before .before .before .before .before .before .before .before .args .rec .now
 
-rows :
-    (c : tie.After-amount)
-    → ((n : ℕ) → (numberAnswer (c .amount .result) ≡ refused n) → FirstBroken (amountChecks (rec-of c)) n 34)
-    × ((v : ℕ) → (numberAnswer (c .amount .result) ≡ accepted v) → Hold (amountChecks (rec-of c)) × (v ≡ number (amountIn (rec-of c))))
-rows c =
-    let so = amount-rows (rec-of c) (c .before .before .before .before .before .before .before .before .before .before .before .before .before .pre) in
-    (λ n e. so .0 n .0 (sym (c .amount .ensures) ∙ e), λ v e. so .1 v .0 (sym (c .amount .ensures) ∙ e))
+by-rule : (c : tie.After-amount) → AmountBy (amountChecks (rec-of c)) (rec-of c)
+by-rule c = amount-by (rec-of c) (c .before .before .before .before .before .before .before .before .before .before .before .before .before .pre)
 
 returns-4 : tie.Need-returns-4
 returns-4 c =
     let told = c .before .before .before in
-    stop-all (past-29 (told .before)) (amountChecks (rec-of told)) _ _ 34 refl (rows told .0 _ (ap numberAnswer (c .before .number3 .given .1)))
+    stop-all (past-29 (told .before)) (amountChecks (rec-of told)) _ _ 34 refl (by-rule told .refuses _ .0 (sym (told .amount .ensures) ∙ ap numberAnswer (c .before .number3 .given .1)))
 
 slice-aggregate-same-2 : tie.Need-slice-aggregate-same-2
 slice-aggregate-same-2 c = search needs
@@ -97,7 +93,7 @@ same-requires-2 c κs = search needs
 
 -- the amount, where its rows hold
 read : (c : tie.After-known-told3) → let rec = rec-of (c .before .before .before) in Hold (amountChecks rec) × (c .before .cents .given .0 .0 ≡ number (amountIn rec))
-read c = rows (c .before .before .before) .1 _ (ap numberAnswer (c .before .cents .given .1))
+read c = by-rule (c .before .before .before) .reads _ .0 (sym (c .before .before .before .amount .ensures) ∙ ap numberAnswer (c .before .cents .given .1))
 
 abbrev past-34 : tie.After-known-told3 → Reached
 past-34 c = pass-all (past-29 (c .before .before .before .before)) (amountChecks (rec-of (c .before .before .before))) _ refl (read c .0)
