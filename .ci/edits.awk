@@ -77,7 +77,7 @@ function judge_file(   i, k, own, meant, error, found, named) {
         error = first_error(place[i])
         if (error == "") {
             fault(label[i], "nothing was refused in " (place[i] == "" ? "the crate" : place[i]))
-        } else if (error ~ /no occurrence|has no `Need-|was not admitted|not in scope/) {
+        } else if (error ~ /no occurrence|has no `Need-|has no field|was not admitted|not in scope/) {
             fault(label[i], "refused in " (place[i] == "" ? "the crate" : place[i]) ", but for no fact: " error)
         } else if (error !~ ("^target/must-fail/" crate "/" file "/proofs/")) {
             fault(label[i], "refused in no proof: " error)

@@ -119,6 +119,7 @@ fn recount(flow: &mut [u8], totals: Totals)
     write_totals(&mut flow[at..at + 120], totals);
 }
 
+// Writes 46-52, 53-67 and 83-89 of a trailer.
 fn write_totals(rec: &mut [u8], totals: Totals)
     requires { ⌜ length (now rec) ≡ 120 ⌝ }
     ensures { λ _. ⌜ now (rec .exit) ≡ recounted totals (now (rec .entry)) ⌝ }
