@@ -5,14 +5,8 @@ use Rattle.capi.specs.Reply.{ofNumber}
 use Rattle.capi.proofs.mav_amount.Statement.{statement}
 use Rattle.capi.proofs.mav_amount.Tie as tie
 
-read-amount-requires : tie.Need-read-amount-requires
-read-amount-requires c κs = search needs
-
-tell-number-requires : tie.Need-tell-number-requires
-tell-number-requires c κs = search needs
-
 returns : tie.Need-returns
 returns c = c .tell-number .ensures ∙ ap ofNumber (c .before .read-amount .ensures)
 
 pub mav-amount-spec : {M : Type 1} → statement M
-mav-amount-spec = tie.close (tie.spec read-amount-requires tell-number-requires returns)
+mav-amount-spec = tie.close (tie.spec (search needs) (search needs) returns)

@@ -6,19 +6,10 @@ use Rattle.capi.specs.Reply.{ofChange}
 use Rattle.capi.proofs.mav_change.Statement.{statement}
 use Rattle.capi.proofs.mav_change.Tie as tie
 
-change-requires : tie.Need-change-requires
-change-requires c κs = search needs
-
-tell-requires : tie.Need-tell-requires
-tell-requires c κs = search needs
-
-same-length : tie.Need-same-length
-same-length c = search needs
-
 returns : tie.Need-returns
 returns c =
     let changed = c .before .before .before .change .ensures in
     (c .tell .ensures ∙ ap ofChange changed, ap (λ (a : Amended). a .bytes) changed)
 
 pub mav-change-spec : {M : Type 1} → statement M
-mav-change-spec = tie.close (tie.spec change-requires tell-requires same-length returns)
+mav-change-spec = tie.close (tie.spec (search needs) (search needs) (search needs) returns)

@@ -8,24 +8,6 @@ use Rattle.capi.specs.Reply.{ofRefusal, ofDay}
 use Rattle.capi.proofs.mav_date.Statement.{statement}
 use Rattle.capi.proofs.mav_date.Tie as tie
 
-read-date-requires : tie.Need-read-date-requires
-read-date-requires c κs = search needs
-
-enum-told : tie.Need-enum-told
-enum-told c = search needs
-
-accept-requires : tie.Need-accept-requires
-accept-requires c κs = search needs
-
-enum-known-number : tie.Need-enum-known-number
-enum-known-number c = search needs
-
-refusal-of-call-requires : tie.Need-refusal-of-call-requires
-refusal-of-call-requires c κs = search needs
-
-refuse-requires : tie.Need-refuse-requires
-refuse-requires c κs = search needs
-
 returns : tie.Need-returns
 returns c = c .accept .ensures ∙ sym (ap (λ (t : Date). ofDay (dateAnswer t)) (c .before .before .enum-told .given .1)) ∙ ap ofDay (c .before .before .before .before .read-date .ensures)
 
@@ -36,11 +18,11 @@ pub mav-date-spec : {M : Type 1} → statement M
 mav-date-spec =
     tie.close
     (tie.spec
-    read-date-requires
-    enum-told
-    accept-requires
-    enum-known-number
-    refusal-of-call-requires
-    refuse-requires
+    (search needs)
+    (search needs)
+    (search needs)
+    (search needs)
+    (search needs)
+    (search needs)
     returns
     returns-2)

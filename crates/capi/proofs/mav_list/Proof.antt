@@ -7,19 +7,10 @@ use Rattle.capi.specs.Reply.{ofOutput}
 use Rattle.capi.proofs.mav_list.Statement.{statement}
 use Rattle.capi.proofs.mav_list.Tie as tie
 
-read-back-requires : tie.Need-read-back-requires
-read-back-requires c κs = search needs
-
-tell-requires : tie.Need-tell-requires
-tell-requires c κs = search needs
-
-same-length : tie.Need-same-length
-same-length c = search needs
-
 returns : tie.Need-returns
 returns c =
     let filled = c .before .before .before .before .read-back .ensures in
     (c .tell .ensures ∙ ap ofOutput filled, ap (λ (o : Output Totals). o .bytes) filled)
 
 pub mav-list-spec : {M : Type 1} → statement M
-mav-list-spec = tie.close (tie.spec read-back-requires tell-requires same-length returns)
+mav-list-spec = tie.close (tie.spec (search needs) (search needs) (search needs) returns)

@@ -7,14 +7,8 @@ use Rattle.capi.specs.Reply.{ofVerdict}
 use Rattle.capi.proofs.mav_read.Statement.{statement}
 use Rattle.capi.proofs.mav_read.Tie as tie
 
-read-requires : tie.Need-read-requires
-read-requires c κs = search needs
-
-tell-requires : tie.Need-tell-requires
-tell-requires c κs = search needs
-
 returns : tie.Need-returns
 returns c = c .tell .ensures ∙ ap (λ (v : Verdict Totals). ofVerdict v 0) (c .before .read .ensures)
 
 pub mav-read-spec : {M : Type 1} → statement M
-mav-read-spec = tie.close (tie.spec read-requires tell-requires returns)
+mav-read-spec = tie.close (tie.spec (search needs) (search needs) returns)

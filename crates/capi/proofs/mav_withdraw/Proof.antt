@@ -6,19 +6,10 @@ use Rattle.capi.specs.Reply.{ofWithdrawal}
 use Rattle.capi.proofs.mav_withdraw.Statement.{statement}
 use Rattle.capi.proofs.mav_withdraw.Tie as tie
 
-withdraw-requires : tie.Need-withdraw-requires
-withdraw-requires c κs = search needs
-
-tell-requires : tie.Need-tell-requires
-tell-requires c κs = search needs
-
-same-length : tie.Need-same-length
-same-length c = search needs
-
 returns : tie.Need-returns
 returns c =
     let withdrawn = c .before .before .before .before .withdraw .ensures in
     (c .tell .ensures ∙ ap ofWithdrawal withdrawn, ap (λ (a : Amended). a .bytes) withdrawn)
 
 pub mav-withdraw-spec : {M : Type 1} → statement M
-mav-withdraw-spec = tie.close (tie.spec withdraw-requires tell-requires same-length returns)
+mav-withdraw-spec = tie.close (tie.spec (search needs) (search needs) (search needs) returns)

@@ -7,19 +7,10 @@ use Rattle.capi.specs.Reply.{ofOutput}
 use Rattle.capi.proofs.mav_write.Statement.{statement}
 use Rattle.capi.proofs.mav_write.Tie as tie
 
-write-requires : tie.Need-write-requires
-write-requires c κs = search needs
-
-tell-requires : tie.Need-tell-requires
-tell-requires c κs = search needs
-
-same-length : tie.Need-same-length
-same-length c = search needs
-
 returns : tie.Need-returns
 returns c =
     let filled = c .before .before .before .before .write .ensures in
     (c .tell .ensures ∙ ap ofOutput filled, ap (λ (o : Output Totals). o .bytes) filled)
 
 pub mav-write-spec : {M : Type 1} → statement M
-mav-write-spec = tie.close (tie.spec write-requires tell-requires same-length returns)
+mav-write-spec = tie.close (tie.spec (search needs) (search needs) (search needs) returns)

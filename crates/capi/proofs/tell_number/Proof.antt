@@ -8,21 +8,6 @@ use Rattle.capi.specs.Reply.{ofRefusal, ofNumber}
 use Rattle.capi.proofs.tell_number.Statement.{statement}
 use Rattle.capi.proofs.tell_number.Tie as tie
 
-enum-known-told : tie.Need-enum-known-told
-enum-known-told c = search needs
-
-accept-requires : tie.Need-accept-requires
-accept-requires c κs = search needs
-
-enum-known-told-2 : tie.Need-enum-known-told-2
-enum-known-told-2 c = search needs
-
-refusal-of-call-requires : tie.Need-refusal-of-call-requires
-refusal-of-call-requires c κs = search needs
-
-refuse-requires : tie.Need-refuse-requires
-refuse-requires c κs = search needs
-
 returns : tie.Need-returns
 returns c = c .accept .ensures ∙ sym (ap (λ (t : Number). ofNumber (numberAnswer t)) (c .before .before .before .told .given .1))
 
@@ -33,10 +18,10 @@ pub tell-number-spec : {M : Type 1} → statement M
 tell-number-spec =
     tie.close
     (tie.spec
-    enum-known-told
-    accept-requires
-    enum-known-told-2
-    refusal-of-call-requires
-    refuse-requires
+    (search needs)
+    (search needs)
+    (search needs)
+    (search needs)
+    (search needs)
     returns
     returns-2)

@@ -18,21 +18,6 @@ abbrev μ-loop : tie.MeasureT-loop
 loop-holds : tie.Need-loop-holds Inv-loop μ-loop
 loop-holds c = (omega arith, refl)
 
-shared-slice-read-decimal-digit : tie.Need-shared-slice-read-decimal-digit Inv-loop μ-loop
-shared-slice-read-decimal-digit c = omega arith
-
-decimal-digit-requires : tie.Need-decimal-digit-requires Inv-loop μ-loop
-decimal-digit-requires c κs = search needs
-
-with-digit-requires : tie.Need-with-digit-requires Inv-loop μ-loop
-with-digit-requires c κs = search needs
-
-add-at : tie.Need-add-at Inv-loop μ-loop
-add-at c = omega arith
-
-loop-less : tie.Need-loop-less Inv-loop μ-loop
-loop-less c = omega arith
-
 loop-again : tie.Need-loop-again Inv-loop μ-loop
 loop-again c =
     let turn = c .before .before .before in
@@ -48,10 +33,10 @@ decimal-spec =
     Inv-loop
     μ-loop
     loop-holds
-    shared-slice-read-decimal-digit
-    decimal-digit-requires
-    with-digit-requires
-    add-at
-    loop-less
+    (search needs)
+    (search needs)
+    (search needs)
+    (search needs)
+    (search needs)
     loop-again
     returns)

@@ -6,9 +6,6 @@ use borrow.Author.Tests.{le-leb, lt-leb}
 use Rattle.vector_lines.proofs.decimal_digit.Statement.{statement}
 use Rattle.vector_lines.proofs.decimal_digit.Tie as tie
 
-cast-result : tie.Need-cast-result
-cast-result c = search needs
-
 returns : tie.Need-returns
 returns c =
     let b = c .before .before .args .b in
@@ -25,4 +22,4 @@ returns-3 c =
     rw (lt-leb b 57 (omega arith), and-false)
 
 pub decimal-digit-spec : {M : Type 1} → statement M
-decimal-digit-spec = tie.close (tie.spec cast-result returns returns-2 returns-3)
+decimal-digit-spec = tie.close (tie.spec (search needs) returns returns-2 returns-3)

@@ -6,9 +6,6 @@ use borrow.Author.Tests.{le-leb, lt-leb}
 use Rattle.vector_lines.proofs.hex_digit.Statement.{statement}
 use Rattle.vector_lines.proofs.hex_digit.Tie as tie
 
-add-result : tie.Need-add-result
-add-result c = search needs
-
 returns : tie.Need-returns
 returns c =
     let b = c .before .before .args .b in
@@ -35,4 +32,4 @@ returns-5 c =
     (rw (lt-leb b 57 (omega arith), and-false, lt-leb b 102 (omega arith), and-false), omega arith)
 
 pub hex-digit-spec : {M : Type 1} → statement M
-hex-digit-spec = tie.close (tie.spec add-result returns returns-2 returns-3 returns-4 returns-5)
+hex-digit-spec = tie.close (tie.spec (search needs) returns returns-2 returns-3 returns-4 returns-5)

@@ -56,21 +56,6 @@ module _ (c : tie.After-known-told2) where
   abbrev made : Totals
   made = totalsChanged found new
 
-seek-requires : tie.Need-seek-requires
-seek-requires c κs = search needs
-
-enum-known-refusal : tie.Need-enum-known-refusal
-enum-known-refusal c = search needs
-
-enum-known-target : tie.Need-enum-known-target
-enum-known-target c = search needs
-
-refusal-of-call-requires : tie.Need-refusal-of-call-requires
-refusal-of-call-requires c κs = search needs
-
-same-length : tie.Need-same-length
-same-length c = search needs
-
 returns : tie.Need-returns
 returns c =
     let at = c .before .before in
@@ -81,12 +66,6 @@ sub-t15 c = known (c .before .before .before .before .before) .share
 
 add-t16 : tie.Need-add-t16
 add-t16 c = omega (arith, known (c .before .before .before .before .before) .share, known (c .before .before .before .before .before) .cents)
-
-refusal-of-call-requires-2 : tie.Need-refusal-of-call-requires-2
-refusal-of-call-requires-2 c κs = search needs
-
-same-length-2 : tie.Need-same-length-2
-same-length-2 c = search needs
 
 returns-2 : tie.Need-returns-2
 returns-2 c =
@@ -104,14 +83,8 @@ place-number-requires-2 c κs =
     let s = known (c .before .before .before .before .before .before .before .before .before .before .before .before) in
     omega (arith, s .starts, s .ends, s .size)
 
-same-length-3 : tie.Need-same-length-3
-same-length-3 c = search needs
-
 returns-3 : tie.Need-returns-3
 returns-3 c = sym (refused-so _ _ _ (sym (c .before .before .before .seek .ensures) ∙ ap sought (c .before .refusal .given .1)))
-
-same-length-4 : tie.Need-same-length-4
-same-length-4 c = search needs
 
 returns-4 : tie.Need-returns-4
 returns-4 c =
@@ -127,20 +100,20 @@ pub change-spec : {M : Type 1} → statement M
 change-spec =
     tie.close
     (tie.spec
-    seek-requires
-    enum-known-refusal
-    enum-known-target
-    refusal-of-call-requires
-    same-length
+    (search needs)
+    (search needs)
+    (search needs)
+    (search needs)
+    (search needs)
     returns
     sub-t15
     add-t16
-    refusal-of-call-requires-2
-    same-length-2
+    (search needs)
+    (search needs)
     returns-2
     place-number-requires
     place-number-requires-2
-    same-length-3
+    (search needs)
     returns-3
-    same-length-4
+    (search needs)
     returns-4)

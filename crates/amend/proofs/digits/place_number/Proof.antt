@@ -14,33 +14,6 @@ use Rattle.records.proofs.NumberWritten.{written-within}
 use Rattle.amend.proofs.digits.place_number.Statement.{statement}
 use Rattle.amend.proofs.digits.place_number.Tie as tie
 
-index-requires : tie.Need-index-requires
-index-requires c κs = search needs
-
-sub-at : tie.Need-sub-at
-sub-at c = search needs
-
-mul-at : tie.Need-mul-at
-mul-at c = search needs
-
-add-write-number : tie.Need-add-write-number
-add-write-number c = search needs
-
-sub-write-number : tie.Need-sub-write-number
-sub-write-number c = search needs
-
-part-write-number-start : tie.Need-part-write-number-start
-part-write-number-start c = search needs
-
-part-write-number-end : tie.Need-part-write-number-end
-part-write-number-end c = search needs
-
-write-number-requires : tie.Need-write-number-requires
-write-number-requires c κs = search needs
-
-same-length : tie.Need-same-length
-same-length c = search needs
-
 returns : tie.Need-returns
 returns c =
     let r = c .before .before .before .before .index in
@@ -63,13 +36,13 @@ pub place-number-spec : {M : Type 1} → statement M
 place-number-spec =
     tie.close
     (tie.spec
-    index-requires
-    sub-at
-    mul-at
-    add-write-number
-    sub-write-number
-    part-write-number-start
-    part-write-number-end
-    write-number-requires
-    same-length
+    (search needs)
+    (search needs)
+    (search needs)
+    (search needs)
+    (search needs)
+    (search needs)
+    (search needs)
+    (search needs)
+    (search needs)
     returns)

@@ -6,24 +6,6 @@ use Rattle.sequences.proofs.Part.{copied-over}
 use Rattle.amend.proofs.digits.place_seven.Statement.{statement}
 use Rattle.amend.proofs.digits.place_seven.Tie as tie
 
-add-copy : tie.Need-add-copy
-add-copy c = search needs
-
-sub-copy : tie.Need-sub-copy
-sub-copy c = search needs
-
-part-copy-start : tie.Need-part-copy-start
-part-copy-start c = search needs
-
-part-copy-end : tie.Need-part-copy-end
-part-copy-end c = search needs
-
-copy-requires : tie.Need-copy-requires
-copy-requires c κs = search needs
-
-same-length : tie.Need-same-length
-same-length c = search needs
-
 returns : tie.Need-returns
 returns c =
     let at = c .before .before .before .before .before .before in
@@ -33,4 +15,4 @@ returns c =
 pub place-seven-spec : {M : Type 1} → statement M
 place-seven-spec =
     tie.close
-    (tie.spec add-copy sub-copy part-copy-start part-copy-end copy-requires same-length returns)
+    (tie.spec (search needs) (search needs) (search needs) (search needs) (search needs) (search needs) returns)

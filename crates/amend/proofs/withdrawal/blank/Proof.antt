@@ -6,6 +6,7 @@ use native.Mathlib.Numerals.{add-one}
 use native.Mathlib.Omega.{arith}
 use lib.ListN.{length, take, set, replicate, length-set, replicate-append-replicate}
 use lib.Seq.{take-all, take-suc-set}
+use borrow.Author.Needs.{needs}
 use Rattle.amend.proofs.withdrawal.blank.Statement.{statement}
 use Rattle.amend.proofs.withdrawal.blank.Tie as tie
 
@@ -21,12 +22,6 @@ loop-holds c =
     let from = c .args .from in
     let none : from - from ≡ 0 = omega arith in
     (omega arith, omega arith, refl, rw none (sym (append-nil (take from (c .args .flow .now)))))
-
-slice-write-flow : tie.Need-slice-write-flow Inv-loop μ-loop
-slice-write-flow c = omega arith
-
-add-i : tie.Need-add-i Inv-loop μ-loop
-add-i c = omega arith
 
 loop-less : tie.Need-loop-less Inv-loop μ-loop
 loop-less c = omega (arith, length-set (c .before .loop .flow) (c .before .loop .i) 32)
@@ -65,8 +60,8 @@ blank-spec =
     Inv-loop
     μ-loop
     loop-holds
-    slice-write-flow
-    add-i
+    (search needs)
+    (search needs)
     loop-less
     loop-again
     same-length

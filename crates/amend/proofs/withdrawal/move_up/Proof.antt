@@ -6,6 +6,7 @@ use native.Mathlib.Numerals.{add-one}
 use native.Mathlib.Omega.{arith}
 use lib.ListN.{length, take, drop, getD, set, length-set, length-drop}
 use lib.Seq.{take-length, getD-drop, paste, paste-zero, paste-suc, drop-paste}
+use borrow.Author.Needs.{needs}
 use Rattle.amend.proofs.withdrawal.move_up.Statement.{statement}
 use Rattle.amend.proofs.withdrawal.move_up.Tie as tie
 
@@ -26,27 +27,6 @@ module _ (f : List ℕ) (to from i : ℕ) (up : to ≤ from) (within : from ≤ 
 
 loop-holds : tie.Need-loop-holds Inv-loop μ-loop
 loop-holds c = (omega arith, refl, paste-zero (c .args .flow .now) (c .args .to) (drop (c .args .from) (c .args .flow .now)))
-
-sub-loop : tie.Need-sub-loop Inv-loop μ-loop
-sub-loop c = omega arith
-
-add-flow : tie.Need-add-flow Inv-loop μ-loop
-add-flow c = omega arith
-
-slice-read-flow : tie.Need-slice-read-flow Inv-loop μ-loop
-slice-read-flow c = omega arith
-
-add-flow-2 : tie.Need-add-flow-2 Inv-loop μ-loop
-add-flow-2 c = omega arith
-
-slice-write-flow : tie.Need-slice-write-flow Inv-loop μ-loop
-slice-write-flow c = omega arith
-
-add-i : tie.Need-add-i Inv-loop μ-loop
-add-i c = omega arith
-
-loop-less : tie.Need-loop-less Inv-loop μ-loop
-loop-less c = omega arith
 
 loop-again : tie.Need-loop-again Inv-loop μ-loop
 loop-again c =
@@ -82,13 +62,13 @@ move-up-spec =
     Inv-loop
     μ-loop
     loop-holds
-    sub-loop
-    add-flow
-    slice-read-flow
-    add-flow-2
-    slice-write-flow
-    add-i
-    loop-less
+    (search needs)
+    (search needs)
+    (search needs)
+    (search needs)
+    (search needs)
+    (search needs)
+    (search needs)
     loop-again
     same-length
     returns)

@@ -11,33 +11,6 @@ use Rattle.amend.proofs.Kept.{recounted-length}
 use Rattle.amend.proofs.withdrawal.recount.Statement.{statement}
 use Rattle.amend.proofs.withdrawal.recount.Tie as tie
 
-index-requires : tie.Need-index-requires
-index-requires c κs = search needs
-
-sub-at : tie.Need-sub-at
-sub-at c = search needs
-
-mul-at : tie.Need-mul-at
-mul-at c = search needs
-
-add-write-totals : tie.Need-add-write-totals
-add-write-totals c = search needs
-
-sub-write-totals : tie.Need-sub-write-totals
-sub-write-totals c = search needs
-
-part-write-totals-start : tie.Need-part-write-totals-start
-part-write-totals-start c = search needs
-
-part-write-totals-end : tie.Need-part-write-totals-end
-part-write-totals-end c = search needs
-
-write-totals-requires : tie.Need-write-totals-requires
-write-totals-requires c κs = search needs
-
-same-length : tie.Need-same-length
-same-length c = search needs
-
 returns : tie.Need-returns
 returns c =
     let r = c .before .before .before .before .index in
@@ -55,13 +28,13 @@ pub recount-spec : {M : Type 1} → statement M
 recount-spec =
     tie.close
     (tie.spec
-    index-requires
-    sub-at
-    mul-at
-    add-write-totals
-    sub-write-totals
-    part-write-totals-start
-    part-write-totals-end
-    write-totals-requires
-    same-length
+    (search needs)
+    (search needs)
+    (search needs)
+    (search needs)
+    (search needs)
+    (search needs)
+    (search needs)
+    (search needs)
+    (search needs)
     returns)

@@ -6,7 +6,6 @@ use mathlib.Core.Logic.{⊎-elim}
 use mathlib.Core.Path.{_≡_, sym, _∙_, ap, subst}
 use native.Mathlib.Nat.{add-zero}
 use native.Mathlib.Numerals.{add-one}
-use native.Mathlib.Omega.{arith}
 use borrow.Author.Needs.{needs}
 use Rattle.sequences.specs.Part.{put}
 use Rattle.fields.specs.Digits.{digits}
@@ -36,53 +35,8 @@ number-so c =
     (λ w. (w .1 ∙ sym (add-zero (at .number)) ∙ counted false (w .0 .left), w .2 ∙ at .inv .1 ∙ ap (digits 7) (sym (w .1))))
     (c .if1 .came)
 
-seven-digits-requires : tie.Need-seven-digits-requires Inv-loop μ-loop
-seven-digits-requires c κs = search needs
-
 loop-holds : tie.Need-loop-holds Inv-loop μ-loop
 loop-holds c = (renumbering _ _ _ _ (c .before .before .pre .0), c .seven-digits .ensures)
-
-mul-is-opening : tie.Need-mul-is-opening Inv-loop μ-loop
-mul-is-opening c = omega arith
-
-mul-is-opening-2 : tie.Need-mul-is-opening-2 Inv-loop μ-loop
-mul-is-opening-2 c = omega arith
-
-add-is-opening : tie.Need-add-is-opening Inv-loop μ-loop
-add-is-opening c = omega arith
-
-sub-is-opening : tie.Need-sub-is-opening Inv-loop μ-loop
-sub-is-opening c = omega arith
-
-part-is-opening-start : tie.Need-part-is-opening-start Inv-loop μ-loop
-part-is-opening-start c = omega arith
-
-part-is-opening-end : tie.Need-part-is-opening-end Inv-loop μ-loop
-part-is-opening-end c = omega arith
-
-is-opening-requires : tie.Need-is-opening-requires Inv-loop μ-loop
-is-opening-requires c κs = omega arith
-
-add-number : tie.Need-add-number Inv-loop μ-loop
-add-number c = omega arith
-
-seven-digits-requires-2 : tie.Need-seven-digits-requires-2 Inv-loop μ-loop
-seven-digits-requires-2 c κs = search needs
-
-mul-place-seven : tie.Need-mul-place-seven Inv-loop μ-loop
-mul-place-seven c = omega arith
-
-add-place-seven : tie.Need-add-place-seven Inv-loop μ-loop
-add-place-seven c = omega arith
-
-place-seven-requires : tie.Need-place-seven-requires Inv-loop μ-loop
-place-seven-requires c κs = omega arith
-
-add-i : tie.Need-add-i Inv-loop μ-loop
-add-i c = omega arith
-
-loop-less : tie.Need-loop-less Inv-loop μ-loop
-loop-less c = omega arith
 
 loop-again : tie.Need-loop-again Inv-loop μ-loop
 loop-again c =
@@ -113,22 +67,22 @@ renumber-spec =
     (tie.spec
     Inv-loop
     μ-loop
-    seven-digits-requires
+    (search needs)
     loop-holds
-    mul-is-opening
-    mul-is-opening-2
-    add-is-opening
-    sub-is-opening
-    part-is-opening-start
-    part-is-opening-end
-    is-opening-requires
-    add-number
-    seven-digits-requires-2
-    mul-place-seven
-    add-place-seven
-    place-seven-requires
-    add-i
-    loop-less
+    (search needs)
+    (search needs)
+    (search needs)
+    (search needs)
+    (search needs)
+    (search needs)
+    (search needs)
+    (search needs)
+    (search needs)
+    (search needs)
+    (search needs)
+    (search needs)
+    (search needs)
+    (search needs)
     loop-again
     same-length
     returns)

@@ -60,35 +60,11 @@ counting c = c .before .before .before .before
 abbrev blanking : tie.After-index4 → tie.After-recount-arg
 blanking c = c .before .before .before .before .before
 
-seek-requires : tie.Need-seek-requires
-seek-requires c κs = search needs
-
-enum-known-refusal : tie.Need-enum-known-refusal
-enum-known-refusal c = search needs
-
-refused-requires : tie.Need-refused-requires
-refused-requires c κs = search needs
-
-enum-known-target : tie.Need-enum-known-target
-enum-known-target c = search needs
-
-refusal-of-call-requires : tie.Need-refusal-of-call-requires
-refusal-of-call-requires c κs = search needs
-
-refused-requires-2 : tie.Need-refused-requires-2
-refused-requires-2 c κs = search needs
-
-same-length : tie.Need-same-length
-same-length c = search needs
-
 returns : tie.Need-returns
 returns c =
     let at = c .before .before .before .before .before .before in
     left-unchanged (c .refused2 .result .answer) (c .refused2 .result .length) (flow at) (c .refused2 .ensures .0 ∙ ap refused (c .before .refusal-of-call .ensures)) (c .refused2 .ensures .1)
     ∙ sym (withdraw-so _ _ (there at) ∙ rw (le-ltb 1 (found at .totals .dispositions) (c .before .before .if1 .taken)))
-
-sub-renumber : tie.Need-sub-renumber
-sub-renumber c = search needs
 
 sub-t18 : tie.Need-sub-t18
 sub-t18 c = let s = known (c .before .before .before .before .before .before .before) in omega arith
@@ -96,17 +72,11 @@ sub-t18 c = let s = known (c .before .before .before .before .before .before .be
 sub-t19 : tie.Need-sub-t19
 sub-t19 c = let s = known (c .before .before .before .before .before .before .before .before .before) in omega arith
 
-index-requires : tie.Need-index-requires
-index-requires c κs = search needs
-
 sub-at : tie.Need-sub-at
 sub-at c = let s = known (c .before .before .before .before .before .before .before .before .before .before) in omega arith
 
 mul-move-up : tie.Need-mul-move-up
 mul-move-up c = let s = known (c .before .before .before .before .before .before .before .before .before .before .before) in omega arith
-
-index-requires-2 : tie.Need-index-requires-2
-index-requires-2 c κs = search needs
 
 add-move-up : tie.Need-add-move-up
 add-move-up c = let s = known (moving c) in omega arith
@@ -116,9 +86,6 @@ mul-move-up-2 c = let s = known (moving c) in omega arith
 
 move-up-requires : tie.Need-move-up-requires
 move-up-requires c κs = let s = known (moving c) in omega arith
-
-index-requires-3 : tie.Need-index-requires-3
-index-requires-3 c κs = search needs
 
 sub-renumber-2 : tie.Need-sub-renumber-2
 sub-renumber-2 c = let s = known (moving (numbering c)) in omega arith
@@ -132,9 +99,6 @@ renumber-requires c κs = let s = known (moving (numbering c)) in omega arith
 recount-requires : tie.Need-recount-requires
 recount-requires c κs = let s = known (moving (numbering (counting c))) in omega arith
 
-index-requires-4 : tie.Need-index-requires-4
-index-requires-4 c κs = search needs
-
 mul-blank : tie.Need-mul-blank
 mul-blank c = let s = known (moving (numbering (counting (blanking c)))) in omega arith
 
@@ -144,16 +108,10 @@ blank-requires c κs = let s = known (moving (numbering (counting (blanking c)))
 mul-t18 : tie.Need-mul-t18
 mul-t18 c = let s = known (moving (numbering (counting (blanking (c .before .before .before .before))))) in omega arith
 
-same-length-2 : tie.Need-same-length-2
-same-length-2 c = search needs
-
 returns-2 : tie.Need-returns-2
 returns-2 c =
     left-unchanged (c .refused .result .answer) (c .refused .result .length) _ (c .refused .ensures .0) (c .refused .ensures .1)
     ∙ sym (refused-so _ _ (sym (c .before .before .before .before .seek .ensures) ∙ ap sought (c .before .before .refusal .given .1)))
-
-same-length-3 : tie.Need-same-length-3
-same-length-3 c = search needs
 
 returns-3 : tie.Need-returns-3
 returns-3 c =
@@ -186,34 +144,34 @@ pub withdraw-spec : {M : Type 1} → statement M
 withdraw-spec =
     tie.close
     (tie.spec
-    seek-requires
-    enum-known-refusal
-    refused-requires
-    enum-known-target
-    refusal-of-call-requires
-    refused-requires-2
-    same-length
+    (search needs)
+    (search needs)
+    (search needs)
+    (search needs)
+    (search needs)
+    (search needs)
+    (search needs)
     returns
-    sub-renumber
+    (search needs)
     sub-t18
     sub-t19
-    index-requires
+    (search needs)
     sub-at
     mul-move-up
-    index-requires-2
+    (search needs)
     add-move-up
     mul-move-up-2
     move-up-requires
-    index-requires-3
+    (search needs)
     sub-renumber-2
     sub-renumber-3
     renumber-requires
     recount-requires
-    index-requires-4
+    (search needs)
     mul-blank
     blank-requires
     mul-t18
-    same-length-2
+    (search needs)
     returns-2
-    same-length-3
+    (search needs)
     returns-3)

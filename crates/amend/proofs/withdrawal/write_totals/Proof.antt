@@ -11,18 +11,6 @@ use Rattle.amend.proofs.Kept.{over-length}
 use Rattle.amend.proofs.withdrawal.write_totals.Statement.{statement}
 use Rattle.amend.proofs.withdrawal.write_totals.Tie as tie
 
-write-number-requires : tie.Need-write-number-requires
-write-number-requires c κs = search needs
-
-write-number-requires-2 : tie.Need-write-number-requires-2
-write-number-requires-2 c κs = search needs
-
-write-number-requires-3 : tie.Need-write-number-requires-3
-write-number-requires-3 c κs = search needs
-
-same-length : tie.Need-same-length
-same-length c = search needs
-
 returns : tie.Need-returns
 returns c =
     let third = c .before .before .write-number3 in
@@ -43,8 +31,8 @@ pub write-totals-spec : {M : Type 1} → statement M
 write-totals-spec =
     tie.close
     (tie.spec
-    write-number-requires
-    write-number-requires-2
-    write-number-requires-3
-    same-length
+    (search needs)
+    (search needs)
+    (search needs)
+    (search needs)
     returns)

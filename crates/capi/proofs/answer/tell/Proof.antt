@@ -7,18 +7,6 @@ use Rattle.capi.specs.Reply.{ofVerdict}
 use Rattle.capi.proofs.answer.tell.Statement.{statement}
 use Rattle.capi.proofs.answer.tell.Tie as tie
 
-enum-known-told : tie.Need-enum-known-told
-enum-known-told c = search needs
-
-accept-requires : tie.Need-accept-requires
-accept-requires c κs = search needs
-
-enum-known-told-2 : tie.Need-enum-known-told-2
-enum-known-told-2 c = search needs
-
-refuse-requires : tie.Need-refuse-requires
-refuse-requires c κs = search needs
-
 returns : tie.Need-returns
 returns c = c .accept .ensures ∙ sym (ap (λ (t : Answer). ofVerdict (verdict t) (c .before .before .before .before .before .args .length)) (c .before .before .before .told .given .1))
 
@@ -28,4 +16,4 @@ returns-2 c = c .refuse .ensures ∙ sym (ap (λ (t : Answer). ofVerdict (verdic
 pub tell-spec : {M : Type 1} → statement M
 tell-spec =
     tie.close
-    (tie.spec enum-known-told accept-requires enum-known-told-2 refuse-requires returns returns-2)
+    (tie.spec (search needs) (search needs) (search needs) (search needs) returns returns-2)

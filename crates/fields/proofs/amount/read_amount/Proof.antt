@@ -9,12 +9,9 @@ returns : tie.Need-returns
 unfolding amountField
 returns c = simp (ne-eqb _ 13 (c .if1 .taken))
 
-read-digits-requires : tie.Need-read-digits-requires
-read-digits-requires c κs = search needs
-
 returns-2 : tie.Need-returns-2
 unfolding amountField
 returns-2 c = simp (eq-eqb _ 13 (c .before .if1 .left), c .read-digits .ensures)
 
 pub read-amount-spec : {M : Type 1} → statement M
-read-amount-spec = tie.close (tie.spec returns read-digits-requires returns-2)
+read-amount-spec = tie.close (tie.spec returns (search needs) returns-2)

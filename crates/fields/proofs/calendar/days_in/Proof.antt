@@ -23,9 +23,6 @@ returns-2 c =
     let other : c .before .before .args .month ≡ 2 → ⊥ = omega arith in
     rw (List·getD-eq-default commonYear 0 (c .if2 .taken), ne-eqb _ 2 other)
 
-leap-requires : tie.Need-leap-requires
-leap-requires c κs = search needs
-
 returns-3 : tie.Need-returns-3
 unfolding daysIn
 returns-3 c = rw (c .before .before .match .keys1, ← c .before .leap .ensures, c .if3 .taken)
@@ -59,4 +56,4 @@ returns-6 c =
 
 pub days-in-spec : {M : Type 1} → statement M
 days-in-spec =
-    tie.close (tie.spec returns returns-2 leap-requires returns-3 returns-4 returns-5 returns-6)
+    tie.close (tie.spec returns returns-2 (search needs) returns-3 returns-4 returns-5 returns-6)

@@ -11,9 +11,6 @@ returns : tie.Need-returns
 unfolding isDay
 returns c = rw (c .if1 .taken)
 
-days-in-requires : tie.Need-days-in-requires
-days-in-requires c κs = search needs
-
 returns-2 : tie.Need-returns-2
 unfolding isDay
 returns-2 c =
@@ -21,4 +18,4 @@ returns-2 c =
     rw (le-leb 1 _ some, c .days-in .ensures)
 
 pub has-day-spec : {M : Type 1} → statement M
-has-day-spec = tie.close (tie.spec returns days-in-requires returns-2)
+has-day-spec = tie.close (tie.spec returns (search needs) returns-2)

@@ -13,25 +13,10 @@ returns : tie.Need-returns
 unfolding dateField
 returns c = simp (ne-eqb _ 6 (c .if1 .taken))
 
-read-digits-requires : tie.Need-read-digits-requires
-read-digits-requires c κs = search needs
-
-enum-known-n : tie.Need-enum-known-n
-enum-known-n c = search needs
-
-enum-told : tie.Need-enum-told
-enum-told c = search needs
-
 returns-2 : tie.Need-returns-2
 returns-2 c =
     let call = c .before .before in
     sym (dateField-refused _ (call .before .if1 .left) _ (sym (call .read-digits .ensures) ∙ ap numberAnswer (c .enum-told .given .1)))
-
-add-year : tie.Need-add-year
-add-year c = search needs
-
-has-day-requires : tie.Need-has-day-requires
-has-day-requires c κs = search needs
 
 -- of six digits the calendar decides
 decided : (c : tie.After-has-day) → dateField (c .before .before .before .before .before .before .before .args .field .now) ≡ cond (c .has-day .result) (accepted (dayFrom (c .before .before .n .given .0 .0))) (refused noSuchDay)
@@ -50,11 +35,11 @@ read-date-spec =
     tie.close
     (tie.spec
     returns
-    read-digits-requires
-    enum-known-n
-    enum-told
+    (search needs)
+    (search needs)
+    (search needs)
     returns-2
-    add-year
-    has-day-requires
+    (search needs)
+    (search needs)
     returns-3
     returns-4)

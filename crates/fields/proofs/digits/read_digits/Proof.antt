@@ -5,6 +5,7 @@ use mathlib.Core.Bool.{cond}
 use native.Mathlib.Nat.{pow-le-pow-right}
 use native.Mathlib.Omega.{arith}
 use lib.ListN.{length, drop, getD}
+use borrow.Author.Needs.{needs}
 use Rattle.fields.specs.Answer.{refused, notDigits}
 use Rattle.fields.specs.Digits.{isDigit, digitField, digitsFrom}
 use Rattle.fields.proofs.Decimal.{digit-more}
@@ -45,9 +46,6 @@ returns-2 c = sym (digitField-long _ (c .if2 .taken))
 loop-holds : tie.Need-loop-holds Inv-loop μ-loop
 loop-holds c = (omega arith, omega arith, digitField-sized _ (omega arith) (c .if2 .left))
 
-shared-slice-read-b : tie.Need-shared-slice-read-b Inv-loop μ-loop
-shared-slice-read-b c = omega arith
-
 returns-3 : tie.Need-returns-3 Inv-loop μ-loop
 returns-3 c = rw (turn (c .before .before), digit-low (byte (c .before .before)) (c .if3 .taken))
 
@@ -60,17 +58,8 @@ mul-value c = omega (arith, room (c .before .before .before))
 wide-requires : tie.Need-wide-requires Inv-loop μ-loop
 wide-requires c κs = tt
 
-sub-value : tie.Need-sub-value Inv-loop μ-loop
-sub-value c = omega arith
-
 add-value : tie.Need-add-value Inv-loop μ-loop
 add-value c = omega (arith, room (c .before .before .before .before))
-
-add-i : tie.Need-add-i Inv-loop μ-loop
-add-i c = omega arith
-
-loop-less : tie.Need-loop-less Inv-loop μ-loop
-loop-less c = omega arith
 
 loop-again : tie.Need-loop-again Inv-loop μ-loop
 loop-again c =
@@ -93,14 +82,14 @@ read-digits-spec =
     returns
     returns-2
     loop-holds
-    shared-slice-read-b
+    (search needs)
     returns-3
     returns-4
     mul-value
     wide-requires
-    sub-value
+    (search needs)
     add-value
-    add-i
-    loop-less
+    (search needs)
+    (search needs)
     loop-again
     returns-5)

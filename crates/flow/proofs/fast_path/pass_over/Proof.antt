@@ -4,7 +4,6 @@ use mathlib.Core.Bool.{true}
 use mathlib.Core.List.{List}
 use mathlib.Core.Path.{_≡_, refl, sym, _∙_, ap, subst}
 use native.Mathlib.Numerals.{add-one}
-use native.Mathlib.Omega.{arith}
 use lib.ListN.{length}
 use borrow.Author.Needs.{needs}
 use borrow.Author.Tests.{not-false}
@@ -27,69 +26,6 @@ abbrev μ-loop : tie.MeasureT-loop
 
 loop-holds : tie.Need-loop-holds Inv-loop μ-loop
 loop-holds c = pass-begin _ _ _ (c .before .pre .0) (c .before .pre .1 .0) (c .before .pre .1 .1)
-
-sub-before : tie.Need-sub-before Inv-loop μ-loop
-sub-before c = omega arith
-
-mul-before : tie.Need-mul-before Inv-loop μ-loop
-mul-before c = omega arith
-
-sub-before-2 : tie.Need-sub-before-2 Inv-loop μ-loop
-sub-before-2 c = omega arith
-
-mul-before-2 : tie.Need-mul-before-2 Inv-loop μ-loop
-mul-before-2 c = omega arith
-
-add-before : tie.Need-add-before Inv-loop μ-loop
-add-before c = omega arith
-
-sub-before-3 : tie.Need-sub-before-3 Inv-loop μ-loop
-sub-before-3 c = omega arith
-
-part-before-start : tie.Need-part-before-start Inv-loop μ-loop
-part-before-start c = omega arith
-
-part-before-end : tie.Need-part-before-end Inv-loop μ-loop
-part-before-end c = omega arith
-
-mul-rec : tie.Need-mul-rec Inv-loop μ-loop
-mul-rec c = omega arith
-
-mul-rec-2 : tie.Need-mul-rec-2 Inv-loop μ-loop
-mul-rec-2 c = omega arith
-
-add-rec : tie.Need-add-rec Inv-loop μ-loop
-add-rec c = omega arith
-
-sub-rec : tie.Need-sub-rec Inv-loop μ-loop
-sub-rec c = omega arith
-
-part-rec-start : tie.Need-part-rec-start Inv-loop μ-loop
-part-rec-start c = omega arith
-
-part-rec-end : tie.Need-part-rec-end Inv-loop μ-loop
-part-rec-end c = omega arith
-
-kind-inside-requires : tie.Need-kind-inside-requires Inv-loop μ-loop
-kind-inside-requires c κs = search needs
-
-enum-known-kind : tie.Need-enum-known-kind Inv-loop μ-loop
-enum-known-kind c = search needs
-
-enum-told : tie.Need-enum-told Inv-loop μ-loop
-enum-told c = search needs
-
-field-requires : tie.Need-field-requires Inv-loop μ-loop
-field-requires c κs = search needs
-
-seen-right-requires : tie.Need-seen-right-requires Inv-loop μ-loop
-seen-right-requires c κs = search needs
-
-add-i : tie.Need-add-i Inv-loop μ-loop
-add-i c = omega arith
-
-loop-less : tie.Need-loop-less Inv-loop μ-loop
-loop-less c = omega arith
 
 abbrev flow-of : tie.At-loop Inv-loop μ-loop → List ℕ
 flow-of at = at .before .before .args .flow .now
@@ -141,28 +77,28 @@ pass-over-spec =
     Inv-loop
     μ-loop
     loop-holds
-    sub-before
-    mul-before
-    sub-before-2
-    mul-before-2
-    add-before
-    sub-before-3
-    part-before-start
-    part-before-end
-    mul-rec
-    mul-rec-2
-    add-rec
-    sub-rec
-    part-rec-start
-    part-rec-end
-    kind-inside-requires
-    enum-known-kind
-    enum-told
-    field-requires
-    seen-right-requires
+    (search needs)
+    (search needs)
+    (search needs)
+    (search needs)
+    (search needs)
+    (search needs)
+    (search needs)
+    (search needs)
+    (search needs)
+    (search needs)
+    (search needs)
+    (search needs)
+    (search needs)
+    (search needs)
+    (search needs)
+    (search needs)
+    (search needs)
+    (search needs)
+    (search needs)
     pass-requires
-    add-i
-    loop-less
+    (search needs)
+    (search needs)
     loop-again
     returns
     returns-2

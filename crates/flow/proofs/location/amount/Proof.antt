@@ -8,15 +8,6 @@ use Rattle.records.specs.Amount.{amountIn}
 use Rattle.flow.proofs.location.amount.Statement.{statement}
 use Rattle.flow.proofs.location.amount.Tie as tie
 
-amount-requires : tie.Need-amount-requires
-amount-requires c κs = search needs
-
-enum-known-cents : tie.Need-enum-known-cents
-enum-known-cents c = search needs
-
-enum-told : tie.Need-enum-told
-enum-told c = search needs
-
 -- what is read of the field is its number
 read : (c : tie.After-amount) → numberAnswer (c .amount .result) ≡ accepted (number (amountIn (c .before .before .args .rec .now)))
 read c = c .amount .ensures ∙ c .before .before .pre
@@ -31,4 +22,4 @@ returns-2 c = absurd (accepted-not-refused (sym (read (c .before .before)) ∙ a
 pub amount-spec : {M : Type 1} → statement M
 amount-spec =
     tie.close
-    (tie.spec amount-requires enum-known-cents enum-told returns returns-2)
+    (tie.spec (search needs) (search needs) (search needs) returns returns-2)

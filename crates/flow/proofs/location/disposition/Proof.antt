@@ -13,12 +13,6 @@ use Rattle.flow.proofs.Dispositions.{found-within}
 use Rattle.flow.proofs.location.disposition.Statement.{statement}
 use Rattle.flow.proofs.location.disposition.Tie as tie
 
-find-requires : tie.Need-find-requires
-find-requires c κs = search needs
-
-enum-known-stand : tie.Need-enum-known-stand
-enum-known-stand c = search needs
-
 -- what `find` has found
 module _ (c : tie.After-known-told) where
   abbrev flow : List ℕ
@@ -36,26 +30,14 @@ module _ (c : tie.After-known-told) where
 sub-index : tie.Need-sub-index
 sub-index c = omega (arith, within (c .before))
 
-index-requires : tie.Need-index-requires
-index-requires c κs = search needs
-
 mul-result : tie.Need-mul-result
 mul-result c = omega (arith, within (c .before .before), c .index .ensures)
-
-index-requires-2 : tie.Need-index-requires-2
-index-requires-2 c κs = search needs
 
 add-result : tie.Need-add-result
 add-result c = omega (arith, within (c .before .before .before))
 
 mul-result-2 : tie.Need-mul-result-2
 mul-result-2 c = omega (arith, within (c .before .before .before))
-
-sub-result : tie.Need-sub-result
-sub-result c = search needs
-
-part-result-start : tie.Need-part-result-start
-part-result-start c = search needs
 
 part-result-end : tie.Need-part-result-end
 part-result-end c = omega (arith, within (c .before .before .before))
@@ -71,18 +53,6 @@ returns c =
     let lent = told .before .before .before .before .before .args .flow in
     (bytes, (refl, ap (λ (n : ℕ). n + lent .ptr .1) (start ∙ sym (ap offsetAt (found told)))))
 
-enum-told : tie.Need-enum-told
-enum-told c = search needs
-
-sub-result-2 : tie.Need-sub-result-2
-sub-result-2 c = search needs
-
-part-result-start-2 : tie.Need-part-result-start-2
-part-result-start-2 c = search needs
-
-part-result-end-2 : tie.Need-part-result-end-2
-part-result-end-2 c = search needs
-
 returns-2 : tie.Need-returns-2
 returns-2 c =
     let none : located (c .before .before .before .find .result) ≡ refused _ = ap located (c .before .enum-told .given .1) in
@@ -94,20 +64,20 @@ pub disposition-spec : {M : Type 1} → statement M
 disposition-spec =
     tie.close
     (tie.spec
-    find-requires
-    enum-known-stand
+    (search needs)
+    (search needs)
     sub-index
-    index-requires
+    (search needs)
     mul-result
-    index-requires-2
+    (search needs)
     add-result
     mul-result-2
-    sub-result
-    part-result-start
+    (search needs)
+    (search needs)
     part-result-end
     returns
-    enum-told
-    sub-result-2
-    part-result-start-2
-    part-result-end-2
+    (search needs)
+    (search needs)
+    (search needs)
+    (search needs)
     returns-2)

@@ -6,15 +6,6 @@ use Rattle.flow.proofs.Sought.{sought-read, seek-exact}
 use Rattle.flow.proofs.location.find.Statement.{statement}
 use Rattle.flow.proofs.location.find.Tie as tie
 
-seek-requires : tie.Need-seek-requires
-seek-requires c κs = search needs
-
-enum-known-refusal : tie.Need-enum-known-refusal
-enum-known-refusal c = search needs
-
-enum-known-target : tie.Need-enum-known-target
-enum-known-target c = search needs
-
 returns : tie.Need-returns
 returns c = sym (seek-exact _ _ .1 _ .0 (sym (c .before .before .before .seek .ensures) ∙ ap sought (c .before .refusal .given .1)))
 
@@ -22,4 +13,4 @@ returns-2 : tie.Need-returns-2
 returns-2 c = sym (sought-read _ _ (sym (c .before .before .before .before .seek .ensures) ∙ ap sought (c .before .before .target .given .1)) .1)
 
 pub find-spec : {M : Type 1} → statement M
-find-spec = tie.close (tie.spec seek-requires enum-known-refusal enum-known-target returns returns-2)
+find-spec = tie.close (tie.spec (search needs) (search needs) (search needs) returns returns-2)

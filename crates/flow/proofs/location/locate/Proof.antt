@@ -14,9 +14,6 @@ use Rattle.flow.proofs.Cut.{record-part}
 use Rattle.flow.proofs.location.locate.Statement.{statement}
 use Rattle.flow.proofs.location.locate.Tie as tie
 
-start-of-requires : tie.Need-start-of-requires
-start-of-requires c κs = search needs
-
 -- the disposition at the start that was found
 abbrev found : tie.After-start-of → List (List ℕ)
 found c = getD (dispositionsIn (c .before .before .args .flow .now)) (c .before .before .args .k - 1) []
@@ -39,12 +36,6 @@ mul-amount-2 c = let within = stood (c .before) .within in omega arith
 add-amount : tie.Need-add-amount
 add-amount c = let within = stood (c .before) .within in omega arith
 
-sub-amount : tie.Need-sub-amount
-sub-amount c = search needs
-
-part-amount-start : tie.Need-part-amount-start
-part-amount-start c = search needs
-
 part-amount-end : tie.Need-part-amount-end
 part-amount-end c = let within = stood (c .before) .within in omega arith
 
@@ -55,18 +46,6 @@ amount-requires c κs =
     let f = c .before .before .before .before .args .flow .now in
     let at = c .before .before .start-of .result in
     rw (record-part at f) (d .amount)
-
-add-count : tie.Need-add-count
-add-count c = search needs
-
-count-requires : tie.Need-count-requires
-count-requires c κs = search needs
-
-sub-count : tie.Need-sub-count
-sub-count c = search needs
-
-count-requires-2 : tie.Need-count-requires-2
-count-requires-2 c κs = search needs
 
 returns : tie.Need-returns
 returns c =
@@ -85,18 +64,18 @@ pub locate-spec : {M : Type 1} → statement M
 locate-spec =
     tie.close
     (tie.spec
-    start-of-requires
+    (λ c κs. search needs)
     add-next-opening
     next-opening-requires
     mul-amount
     mul-amount-2
     add-amount
-    sub-amount
-    part-amount-start
+    (search needs)
+    (search needs)
     part-amount-end
     amount-requires
-    add-count
-    count-requires
-    sub-count
-    count-requires-2
+    (search needs)
+    (search needs)
+    (search needs)
+    (search needs)
     returns)

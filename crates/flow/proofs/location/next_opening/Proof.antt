@@ -19,32 +19,8 @@ Inv-loop flow from trailer i₀ i = openingFrom flow i ≡ openingFrom flow from
 abbrev μ-loop : tie.MeasureT-loop
 μ-loop flow from trailer i₀ i = trailer - i
 
-sub-trailer : tie.Need-sub-trailer Inv-loop μ-loop
-sub-trailer c = omega arith
-
 loop-holds : tie.Need-loop-holds Inv-loop μ-loop
 loop-holds c = refl
-
-mul-rec : tie.Need-mul-rec Inv-loop μ-loop
-mul-rec c = omega arith
-
-mul-rec-2 : tie.Need-mul-rec-2 Inv-loop μ-loop
-mul-rec-2 c = omega arith
-
-add-rec : tie.Need-add-rec Inv-loop μ-loop
-add-rec c = omega arith
-
-sub-rec : tie.Need-sub-rec Inv-loop μ-loop
-sub-rec c = omega arith
-
-part-rec-start : tie.Need-part-rec-start Inv-loop μ-loop
-part-rec-start c = omega arith
-
-part-rec-end : tie.Need-part-rec-end Inv-loop μ-loop
-part-rec-end c = omega arith
-
-is-opening-requires : tie.Need-is-opening-requires Inv-loop μ-loop
-is-opening-requires c κs = search needs
 
 -- the record's type decides whether it is the one
 decides :
@@ -60,12 +36,6 @@ decides c =
 returns : tie.Need-returns Inv-loop μ-loop
 returns c = rw (c .if1 .taken) at (sym (decides (c .before)))
 
-add-i : tie.Need-add-i Inv-loop μ-loop
-add-i c = omega arith
-
-loop-less : tie.Need-loop-less Inv-loop μ-loop
-loop-less c = omega arith
-
 loop-again : tie.Need-loop-again Inv-loop μ-loop
 loop-again c = rw (c .if1 .left) at (sym (decides (c .before)))
 
@@ -78,17 +48,17 @@ next-opening-spec =
     (tie.spec
     Inv-loop
     μ-loop
-    sub-trailer
+    (search needs)
     loop-holds
-    mul-rec
-    mul-rec-2
-    add-rec
-    sub-rec
-    part-rec-start
-    part-rec-end
-    is-opening-requires
+    (search needs)
+    (search needs)
+    (search needs)
+    (search needs)
+    (search needs)
+    (search needs)
+    (search needs)
     returns
-    add-i
-    loop-less
+    (search needs)
+    (search needs)
     loop-again
     returns-2)

@@ -14,18 +14,6 @@ use Rattle.flow.proofs.Sought.{not-read, no-number, numbered}
 use Rattle.flow.proofs.location.seek.Statement.{statement}
 use Rattle.flow.proofs.location.seek.Tie as tie
 
-read-requires : tie.Need-read-requires
-read-requires c κs = search needs
-
-enum-known-refusal : tie.Need-enum-known-refusal
-enum-known-refusal c = search needs
-
-enum-known-totals : tie.Need-enum-known-totals
-enum-known-totals c = search needs
-
-is-number-requires : tie.Need-is-number-requires
-is-number-requires c κs = search needs
-
 -- the flow is accepted with its totals, and the test is whether k is a number up to it
 module _ (c : tie.After-is-number) where
   abbrev flow : List ℕ
@@ -43,9 +31,6 @@ module _ (c : tie.After-is-number) where
   tested : (leb 1 k && leb k (totals .dispositions)) ≡ c .is-number .result
   tested = sym (c .is-number .ensures)
 
-refusal-of-call-requires : tie.Need-refusal-of-call-requires
-refusal-of-call-requires c κs = search needs
-
 returns : tie.Need-returns
 returns c = ap refused (c .refusal-of-call .ensures) ∙ sym (no-number _ _ (read (c .before .before)) (tested (c .before .before) ∙ not-true _ (c .before .if1 .taken)))
 
@@ -62,11 +47,11 @@ pub seek-spec : {M : Type 1} → statement M
 seek-spec =
     tie.close
     (tie.spec
-    read-requires
-    enum-known-refusal
-    enum-known-totals
-    is-number-requires
-    refusal-of-call-requires
+    (search needs)
+    (search needs)
+    (search needs)
+    (search needs)
+    (search needs)
     returns
     locate-requires
     returns-2

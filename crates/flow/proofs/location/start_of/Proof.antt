@@ -3,6 +3,7 @@ use Prim.Native.Nat.{ℕ, _+_, _-_, _≤_}
 use mathlib.Core.List.{flatten}
 use mathlib.Core.Path.{_≡_, refl, sym, _∙_, ap}
 use native.Mathlib.Omega.{arith}
+use borrow.Author.Needs.{needs}
 use Rattle.flow.specs.Find.{dispositionsIn, startsAt, Stands, openingFrom}
 use Rattle.flow.proofs.Dispositions.{accepted-length, disposition-stands, starts-next}
 use Rattle.flow.proofs.location.start_of.Statement.{statement}
@@ -34,12 +35,6 @@ add-next-opening c =
 next-opening-requires : tie.Need-next-opening-requires Inv-loop μ-loop
 next-opening-requires c κs = accepted-length _ (c .before .before .before .pre .read) .0
 
-add-j : tie.Need-add-j Inv-loop μ-loop
-add-j c = omega arith
-
-loop-less : tie.Need-loop-less Inv-loop μ-loop
-loop-less c = omega arith
-
 loop-again : tie.Need-loop-again Inv-loop μ-loop
 loop-again c =
     let at = c .before .before in
@@ -62,7 +57,7 @@ start-of-spec =
     loop-holds
     add-next-opening
     next-opening-requires
-    add-j
-    loop-less
+    (search needs)
+    (search needs)
     loop-again
     returns)

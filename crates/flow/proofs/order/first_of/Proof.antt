@@ -4,19 +4,13 @@ use Rattle.flow.specs.Order.{among}
 use Rattle.flow.proofs.order.first_of.Statement.{statement}
 use Rattle.flow.proofs.order.first_of.Tie as tie
 
-has-type-requires : tie.Need-has-type-requires
-has-type-requires c κs = search needs
-
 returns : tie.Need-returns
 unfolding among
 returns c = rw (← c .before .has-type .ensures, c .if1 .taken)
-
-only-requires : tie.Need-only-requires
-only-requires c κs = search needs
 
 returns-2 : tie.Need-returns-2
 unfolding among
 returns-2 c = rw (← c .before .before .has-type .ensures, c .before .if1 .left) (c .only .ensures)
 
 pub first-of-spec : {M : Type 1} → statement M
-first-of-spec = tie.close (tie.spec has-type-requires returns only-requires returns-2)
+first-of-spec = tie.close (tie.spec (search needs) returns (search needs) returns-2)

@@ -5,9 +5,6 @@ use borrow.Author.Tests.{lt-ltb, le-ltb}
 use Rattle.flow.proofs.order.further_place.Statement.{statement}
 use Rattle.flow.proofs.order.further_place.Tie as tie
 
-add-t4 : tie.Need-add-t4
-add-t4 c = search needs
-
 returns : tie.Need-returns
 returns c = rw (lt-ltb _ 4 (c .if1 .taken), add-one)
 
@@ -15,4 +12,4 @@ returns-2 : tie.Need-returns-2
 returns-2 c = rw (le-ltb _ 4 (c .if1 .left))
 
 pub further-place-spec : {M : Type 1} → statement M
-further-place-spec = tie.close (tie.spec add-t4 returns returns-2)
+further-place-spec = tie.close (tie.spec (search needs) returns returns-2)

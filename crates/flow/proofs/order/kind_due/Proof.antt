@@ -4,75 +4,6 @@ use Rattle.flow.specs.Order.{among}
 use Rattle.flow.proofs.order.kind_due.Statement.{statement}
 use Rattle.flow.proofs.order.kind_due.Tie as tie
 
-enum-told : tie.Need-enum-told
-enum-told c = search needs
-
-only-requires : tie.Need-only-requires
-only-requires c κs = search needs
-
-enum-told-2 : tie.Need-enum-told-2
-enum-told-2 c = search needs
-
-only-requires-2 : tie.Need-only-requires-2
-only-requires-2 c κs = search needs
-
-enum-told-3 : tie.Need-enum-told-3
-enum-told-3 c = search needs
-
-first-of-requires : tie.Need-first-of-requires
-first-of-requires c κs = search needs
-
-enum-told-4 : tie.Need-enum-told-4
-enum-told-4 c = search needs
-
-only-requires-3 : tie.Need-only-requires-3
-only-requires-3 c κs = search needs
-
-enum-told-5 : tie.Need-enum-told-5
-enum-told-5 c = search needs
-
-only-requires-4 : tie.Need-only-requires-4
-only-requires-4 c κs = search needs
-
-enum-told-6 : tie.Need-enum-told-6
-enum-told-6 c = search needs
-
-only-requires-5 : tie.Need-only-requires-5
-only-requires-5 c κs = search needs
-
-enum-told-7 : tie.Need-enum-told-7
-enum-told-7 c = search needs
-
-first-of-requires-2 : tie.Need-first-of-requires-2
-first-of-requires-2 c κs = search needs
-
-enum-told-8 : tie.Need-enum-told-8
-enum-told-8 c = search needs
-
-first-of-requires-3 : tie.Need-first-of-requires-3
-first-of-requires-3 c κs = search needs
-
-enum-told-9 : tie.Need-enum-told-9
-enum-told-9 c = search needs
-
-only-requires-6 : tie.Need-only-requires-6
-only-requires-6 c κs = search needs
-
-enum-told-10 : tie.Need-enum-told-10
-enum-told-10 c = search needs
-
-only-requires-7 : tie.Need-only-requires-7
-only-requires-7 c κs = search needs
-
-enum-told-11 : tie.Need-enum-told-11
-enum-told-11 c = search needs
-
-first-of-requires-4 : tie.Need-first-of-requires-4
-first-of-requires-4 c κs = search needs
-
-enum-told-12 : tie.Need-enum-told-12
-enum-told-12 c = search needs
-
 returns : tie.Need-returns
 returns c = rw (c .before .enum-told .given .1) (c .only .ensures)
 
@@ -114,29 +45,29 @@ pub kind-due-spec : {M : Type 1} → statement M
 kind-due-spec =
     tie.close
     (tie.spec
-    enum-told
-    only-requires
-    enum-told-2
-    only-requires-2
-    enum-told-3
-    first-of-requires
-    enum-told-4
-    only-requires-3
-    enum-told-5
-    only-requires-4
-    enum-told-6
-    only-requires-5
-    enum-told-7
-    first-of-requires-2
-    enum-told-8
-    first-of-requires-3
-    enum-told-9
-    only-requires-6
-    enum-told-10
-    only-requires-7
-    enum-told-11
-    first-of-requires-4
-    enum-told-12
+    (search needs)
+    (search needs)
+    (search needs)
+    (search needs)
+    (search needs)
+    (search needs)
+    (search needs)
+    (search needs)
+    (search needs)
+    (search needs)
+    (search needs)
+    (search needs)
+    (search needs)
+    (search needs)
+    (search needs)
+    (search needs)
+    (search needs)
+    (search needs)
+    (search needs)
+    (search needs)
+    (search needs)
+    (search needs)
+    (search needs)
     returns
     returns-2
     returns-3

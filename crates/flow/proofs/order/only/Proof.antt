@@ -4,9 +4,6 @@ use Rattle.flow.specs.Order.{among}
 use Rattle.flow.proofs.order.only.Statement.{statement}
 use Rattle.flow.proofs.order.only.Tie as tie
 
-has-type-requires : tie.Need-has-type-requires
-has-type-requires c κs = search needs
-
 returns : tie.Need-returns
 unfolding among
 returns c = rw (← c .before .has-type .ensures, c .if1 .taken)
@@ -16,4 +13,4 @@ unfolding among
 returns-2 c = rw (← c .before .has-type .ensures, c .if1 .left)
 
 pub only-spec : {M : Type 1} → statement M
-only-spec = tie.close (tie.spec has-type-requires returns returns-2)
+only-spec = tie.close (tie.spec (search needs) returns returns-2)

@@ -5,44 +5,8 @@ use Rattle.flow.specs.Order.{placeAfter}
 use Rattle.flow.proofs.order.place_after.Statement.{statement}
 use Rattle.flow.proofs.order.place_after.Tie as tie
 
-enum-told : tie.Need-enum-told
-enum-told c = search needs
-
-enum-told-2 : tie.Need-enum-told-2
-enum-told-2 c = search needs
-
-enum-told-3 : tie.Need-enum-told-3
-enum-told-3 c = search needs
-
-enum-told-4 : tie.Need-enum-told-4
-enum-told-4 c = search needs
-
-enum-told-5 : tie.Need-enum-told-5
-enum-told-5 c = search needs
-
-enum-told-6 : tie.Need-enum-told-6
-enum-told-6 c = search needs
-
-enum-told-7 : tie.Need-enum-told-7
-enum-told-7 c = search needs
-
-enum-told-8 : tie.Need-enum-told-8
-enum-told-8 c = search needs
-
-further-place-requires : tie.Need-further-place-requires
-further-place-requires c κs = search needs
-
 returns : tie.Need-returns
 returns c = c .further-place .ensures ∙ sym (ap (placeAfter _) (c .before .enum-told8 .given .1))
-
-enum-told-9 : tie.Need-enum-told-9
-enum-told-9 c = search needs
-
-enum-told-10 : tie.Need-enum-told-10
-enum-told-10 c = search needs
-
-enum-told-11 : tie.Need-enum-told-11
-enum-told-11 c = search needs
 
 returns-2 : tie.Need-returns-2
 returns-2 c = sym (ap (placeAfter _) (c .enum-told .given .1))
@@ -78,19 +42,19 @@ pub place-after-spec : {M : Type 1} → statement M
 place-after-spec =
     tie.close
     (tie.spec
-    enum-told
-    enum-told-2
-    enum-told-3
-    enum-told-4
-    enum-told-5
-    enum-told-6
-    enum-told-7
-    enum-told-8
-    further-place-requires
+    (search needs)
+    (search needs)
+    (search needs)
+    (search needs)
+    (search needs)
+    (search needs)
+    (search needs)
+    (search needs)
+    (search needs)
     returns
-    enum-told-9
-    enum-told-10
-    enum-told-11
+    (search needs)
+    (search needs)
+    (search needs)
     returns-2
     returns-3
     returns-4

@@ -9,20 +9,11 @@ use Rattle.flow.specs.Verdict.{accepted}
 use Rattle.flow.proofs.reader.end.Statement.{statement}
 use Rattle.flow.proofs.reader.end.Tie as tie
 
-complete-requires : tie.Need-complete-requires
-complete-requires c κs = search needs
-
-totals-requires : tie.Need-totals-requires
-totals-requires c κs = search needs
-
 returns : tie.Need-returns
 returns c =
     let told = c .before in
     let none : isDue (permitted (told .before .before .args .walk .place .due)) ≡ false = not-true _ (sym (told .before .complete .ensures) ∙ told .if1 .taken) in
     rw none (ap accepted (c .totals .ensures))
-
-add-t5 : tie.Need-add-t5
-add-t5 c = search needs
 
 returns-2 : tie.Need-returns-2
 returns-2 c =
@@ -30,4 +21,4 @@ returns-2 c =
     rw (one, add-one)
 
 pub end-spec : {M : Type 1} → statement M
-end-spec = tie.close (tie.spec complete-requires totals-requires returns add-t5 returns-2)
+end-spec = tie.close (tie.spec (search needs) (search needs) returns (search needs) returns-2)

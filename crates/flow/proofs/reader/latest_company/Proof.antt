@@ -8,16 +8,10 @@ use Rattle.records.specs.Kinds.{opens}
 use Rattle.flow.proofs.reader.latest_company.Statement.{statement}
 use Rattle.flow.proofs.reader.latest_company.Tie as tie
 
-opens-requires : tie.Need-opens-requires
-opens-requires c κs = search needs
-
 returns : tie.Need-returns
 returns c =
     let other : opens (c .before .before .before .before .args .kind) ≡ false = sym (c .before .opens .ensures) ∙ not-true _ (c .if1 .taken) in
     (rw other, rw other)
-
-all-blank-requires : tie.Need-all-blank-requires
-all-blank-requires c κs = search needs
 
 returns-2 : tie.Need-returns-2
 returns-2 c =
@@ -32,4 +26,4 @@ returns-3 c =
     (rw (opened, present), rw (opened, present))
 
 pub latest-company-spec : {M : Type 1} → statement M
-latest-company-spec = tie.close (tie.spec opens-requires returns all-blank-requires returns-2 returns-3)
+latest-company-spec = tie.close (tie.spec (search needs) returns (search needs) returns-2 returns-3)

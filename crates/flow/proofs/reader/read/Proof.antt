@@ -12,23 +12,11 @@ use Rattle.flow.proofs.Lengths.{length-said}
 use Rattle.flow.proofs.reader.read.Statement.{statement}
 use Rattle.flow.proofs.reader.read.Tie as tie
 
-is-length-requires : tie.Need-is-length-requires
-is-length-requires c κs = search needs
-
-refusal-of-call-requires : tie.Need-refusal-of-call-requires
-refusal-of-call-requires c κs = search needs
-
 returns : tie.Need-returns
 unfolding judge
 returns c =
     let wrong : isLength (length (c .before .before .before .before .args .flow .now)) ≡ false = sym (c .before .before .is-length .ensures) ∙ not-true _ (c .before .if1 .taken) in
     rw wrong (ap refused (c .refusal-of-call .ensures))
-
-sub-header : tie.Need-sub-header
-sub-header c = search needs
-
-part-header-start : tie.Need-part-header-start
-part-header-start c = search needs
 
 part-header-end : tie.Need-part-header-end
 part-header-end c =
@@ -49,11 +37,11 @@ pub read-spec : {M : Type 1} → statement M
 read-spec =
     tie.close
     (tie.spec
-    is-length-requires
-    refusal-of-call-requires
+    (search needs)
+    (search needs)
     returns
-    sub-header
-    part-header-start
+    (search needs)
+    (search needs)
     part-header-end
     read-records-requires
     returns-2)

@@ -26,53 +26,11 @@ Inv-loop flow header walk₀ company₀ i₀ walk company i = (i ≤ length flow
 abbrev μ-loop : tie.MeasureT-loop
 μ-loop flow header walk₀ company₀ i₀ walk company i = length flow / 120 - i
 
-start-requires : tie.Need-start-requires Inv-loop μ-loop
-start-requires c κs = search needs
-
-sub-company : tie.Need-sub-company Inv-loop μ-loop
-sub-company c = search needs
-
-part-company-start : tie.Need-part-company-start Inv-loop μ-loop
-part-company-start c = search needs
-
-part-company-end : tie.Need-part-company-end Inv-loop μ-loop
-part-company-end c = search needs
-
 loop-holds : tie.Need-loop-holds Inv-loop μ-loop
 loop-holds c =
     let flow : List ℕ = c .before .before .before .before .args .flow .now in
     let all : length flow / 120 - 0 ≡ length flow / 120 = omega arith in
     (omega arith, length-said _ (c .before .before .before .before .pre) .2, rw (c .before .start .ensures, all) (begin _ _ _))
-
-mul-rec : tie.Need-mul-rec Inv-loop μ-loop
-mul-rec c = omega arith
-
-mul-rec-2 : tie.Need-mul-rec-2 Inv-loop μ-loop
-mul-rec-2 c = omega arith
-
-add-rec : tie.Need-add-rec Inv-loop μ-loop
-add-rec c = omega arith
-
-sub-rec : tie.Need-sub-rec Inv-loop μ-loop
-sub-rec c = omega arith
-
-part-rec-start : tie.Need-part-rec-start Inv-loop μ-loop
-part-rec-start c = omega arith
-
-part-rec-end : tie.Need-part-rec-end Inv-loop μ-loop
-part-rec-end c = omega arith
-
-add-count : tie.Need-add-count Inv-loop μ-loop
-add-count c = omega arith
-
-count-requires : tie.Need-count-requires Inv-loop μ-loop
-count-requires c κs = search needs
-
-judge-requires : tie.Need-judge-requires Inv-loop μ-loop
-judge-requires c κs = search needs
-
-enum-known-number : tie.Need-enum-known-number Inv-loop μ-loop
-enum-known-number c = search needs
 
 -- the part handed on is the record, and its number is its index + 1
 abbrev flow-of : tie.At-loop Inv-loop μ-loop → List ℕ
@@ -94,21 +52,6 @@ returns c =
     let at = c .before .before .before .before .before .before .before in
     let told = found (c .before .before .before) ∙ ap finding (c .before .number .given .1) in
     rw (c .before .before .before .before .count .ensures, add-one) (refuse (at .loop .inv .2) _ _ (cut-next _ _ _ (c .before .before .before .before .before .before .loop-test .taken)) _ _ told)
-
-enum-known-right : tie.Need-enum-known-right Inv-loop μ-loop
-enum-known-right c = search needs
-
-field-requires : tie.Need-field-requires Inv-loop μ-loop
-field-requires c κs = search needs
-
-latest-company-requires : tie.Need-latest-company-requires Inv-loop μ-loop
-latest-company-requires c κs = search needs
-
-next-requires : tie.Need-next-requires Inv-loop μ-loop
-next-requires c κs = search needs
-
-add-pass-over : tie.Need-add-pass-over Inv-loop μ-loop
-add-pass-over c = omega arith
 
 pass-over-requires : tie.Need-pass-over-requires Inv-loop μ-loop
 pass-over-requires c κs = (omega arith, (omega arith, ap stopped (c .next .ensures) ∙ stopped-twice _ ∙ sym (c .next .ensures)))
@@ -134,9 +77,6 @@ loop-again c =
           (pass-on flow (walked .result) (rw (walked .ensures) (go-on (at .loop .inv .2) _ _ (cut-next _ _ _ (within .loop-test .taken)) _ _ told)) numbered (rw add-one at (passed .ensures))),
     )
 
-count-requires-2 : tie.Need-count-requires-2 Inv-loop μ-loop
-count-requires-2 c κs = search needs
-
 end-requires : tie.Need-end-requires Inv-loop μ-loop
 end-requires c κs = omega (arith, c .count2 .ensures)
 
@@ -151,30 +91,30 @@ read-records-spec =
     (tie.spec
     Inv-loop
     μ-loop
-    start-requires
-    sub-company
-    part-company-start
-    part-company-end
+    (search needs)
+    (search needs)
+    (search needs)
+    (search needs)
     loop-holds
-    mul-rec
-    mul-rec-2
-    add-rec
-    sub-rec
-    part-rec-start
-    part-rec-end
-    add-count
-    count-requires
-    judge-requires
-    enum-known-number
+    (search needs)
+    (search needs)
+    (search needs)
+    (search needs)
+    (search needs)
+    (search needs)
+    (search needs)
+    (search needs)
+    (search needs)
+    (search needs)
     returns
-    enum-known-right
-    field-requires
-    latest-company-requires
-    next-requires
-    add-pass-over
+    (search needs)
+    (search needs)
+    (search needs)
+    (search needs)
+    (search needs)
     pass-over-requires
     loop-less
     loop-again
-    count-requires-2
+    (search needs)
     end-requires
     returns-2)

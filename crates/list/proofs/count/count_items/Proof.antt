@@ -25,33 +25,12 @@ abbrev μ-loop : tie.MeasureT-loop
 loop-holds : tie.Need-loop-holds Inv-loop μ-loop
 loop-holds c = (omega arith, omega arith, counted-all (parse (c .before .args .list .now)))
 
-shared-slice-read-row-of : tie.Need-shared-slice-read-row-of Inv-loop μ-loop
-shared-slice-read-row-of c = search needs
-
-row-of-requires : tie.Need-row-of-requires Inv-loop μ-loop
-row-of-requires c κs = search needs
-
-enum-known-kind : tie.Need-enum-known-kind Inv-loop μ-loop
-enum-known-kind c = search needs
-
-enum-told : tie.Need-enum-told Inv-loop μ-loop
-enum-told c = search needs
-
-add-count : tie.Need-add-count Inv-loop μ-loop
-add-count c = omega arith
-
-count-requires : tie.Need-count-requires Inv-loop μ-loop
-count-requires c κs = search needs
-
 returns : tie.Need-returns Inv-loop μ-loop
 returns c =
     let here = c .before .before .before .before .before .before in
     let missing : rowOf (getD (here .before .before .args .list .now) (here .loop .at) 0) ≡ Missing = sym (c .before .before .before .row-of .ensures) ∙ c .before .enum-told .given .1 in
     let told : c .count .result ≡ suc (here .loop .n) = c .count .ensures ∙ add-one (here .loop .n) in
     rw told (sym (here .loop .inv .2 ∙ counted-none _ _ _ (c .before .before .before .before .before .loop-test .taken) missing))
-
-body-length-requires : tie.Need-body-length-requires Inv-loop μ-loop
-body-length-requires c κs = search needs
 
 -- the item at the index decides
 decides :
@@ -66,18 +45,6 @@ decides c =
     let row : rowOf (getD (here .before .before .args .list .now) (here .loop .at) 0) ≡ Of (kind .0 .0) = sym (c .before .before .before .before .row-of .ensures) ∙ kind .1 in
     rw (c .body-length .ensures) (here .loop .inv .2 ∙ counted-next _ _ _ (c .before .before .before .before .before .before .loop-test .taken) _ row)
 
-sub-if1 : tie.Need-sub-if1 Inv-loop μ-loop
-sub-if1 c = omega arith
-
-sub-if1-2 : tie.Need-sub-if1-2 Inv-loop μ-loop
-sub-if1-2 c = omega arith
-
-add-count-2 : tie.Need-add-count-2 Inv-loop μ-loop
-add-count-2 c = omega arith
-
-count-requires-2 : tie.Need-count-requires-2 Inv-loop μ-loop
-count-requires-2 c κs = search needs
-
 returns-2 : tie.Need-returns-2 Inv-loop μ-loop
 returns-2 c =
     let read = c .before .before in
@@ -87,18 +54,6 @@ returns-2 c =
     let short : leb size rest ≡ false = lt-leb size rest (omega arith) in
     let told : c .count2 .result ≡ suc (here .loop .n) = c .count2 .ensures ∙ add-one (here .loop .n) in
     rw told (sym (rw short at (decides read)))
-
-add-at : tie.Need-add-at Inv-loop μ-loop
-add-at c = omega arith
-
-add-at-2 : tie.Need-add-at-2 Inv-loop μ-loop
-add-at-2 c = omega arith
-
-add-n : tie.Need-add-n Inv-loop μ-loop
-add-n c = omega arith
-
-loop-less : tie.Need-loop-less Inv-loop μ-loop
-loop-less c = omega arith
 
 loop-again : tie.Need-loop-again Inv-loop μ-loop
 loop-again c =
@@ -123,22 +78,22 @@ count-items-spec =
     Inv-loop
     μ-loop
     loop-holds
-    shared-slice-read-row-of
-    row-of-requires
-    enum-known-kind
-    enum-told
-    add-count
-    count-requires
+    (search needs)
+    (search needs)
+    (search needs)
+    (search needs)
+    (search needs)
+    (search needs)
     returns
-    body-length-requires
-    sub-if1
-    sub-if1-2
-    add-count-2
-    count-requires-2
+    (search needs)
+    (search needs)
+    (search needs)
+    (search needs)
+    (search needs)
     returns-2
-    add-at
-    add-at-2
-    add-n
-    loop-less
+    (search needs)
+    (search needs)
+    (search needs)
+    (search needs)
     loop-again
     returns-3)

@@ -8,12 +8,6 @@ use Rattle.list.specs.Encode.{abiIn, encodeItem}
 use Rattle.list.proofs.encode.encode_item.Statement.{statement}
 use Rattle.list.proofs.encode.encode_item.Tie as tie
 
-slice-aggregate-fill-item : tie.Need-slice-aggregate-fill-item
-slice-aggregate-fill-item c = search needs
-
-field-requires : tie.Need-field-requires
-field-requires c κs = search needs
-
 fill-item-requires : tie.Need-fill-item-requires
 fill-item-requires c κs =
     let at = c .before .before .before .before in
@@ -28,4 +22,4 @@ returns c =
 
 pub encode-item-spec : {M : Type 1} → statement M
 encode-item-spec =
-    tie.close (tie.spec slice-aggregate-fill-item field-requires fill-item-requires returns)
+    tie.close (tie.spec (search needs) (search needs) fill-item-requires returns)

@@ -8,12 +8,6 @@ use Rattle.list.specs.Encode.{encodeTrailer}
 use Rattle.list.proofs.encode.encode_trailer.Statement.{statement}
 use Rattle.list.proofs.encode.encode_trailer.Tie as tie
 
-slice-aggregate-fill-trailer : tie.Need-slice-aggregate-fill-trailer
-slice-aggregate-fill-trailer c = search needs
-
-field-requires : tie.Need-field-requires
-field-requires c κs = search needs
-
 fill-trailer-requires : tie.Need-fill-trailer-requires
 fill-trailer-requires c κs =
     let header = c .before .before .before .args .header .now in
@@ -26,4 +20,4 @@ returns c = rw (c .before .before .field .ensures .0) at (c .before .fill-traile
 
 pub encode-trailer-spec : {M : Type 1} → statement M
 encode-trailer-spec =
-    tie.close (tie.spec slice-aggregate-fill-trailer field-requires fill-trailer-requires returns)
+    tie.close (tie.spec (search needs) (search needs) fill-trailer-requires returns)

@@ -8,27 +8,6 @@ use Rattle.list.proofs.Filling.{Fills, fills-place, fills-both}
 use Rattle.list.proofs.encode.fill_item.Statement.{statement}
 use Rattle.list.proofs.encode.fill_item.Tie as tie
 
-record-of-requires : tie.Need-record-of-requires
-record-of-requires c κs = search needs
-
-type-of-requires : tie.Need-type-of-requires
-type-of-requires c κs = search needs
-
-slice-aggregate-place : tie.Need-slice-aggregate-place
-slice-aggregate-place c = search needs
-
-place-requires : tie.Need-place-requires
-place-requires c κs = search needs
-
-supply-requires : tie.Need-supply-requires
-supply-requires c κs = search needs
-
-place-body-requires : tie.Need-place-body-requires
-place-body-requires c κs = search needs
-
-same-length : tie.Need-same-length
-same-length c = search needs
-
 returns : tie.Need-returns
 returns c =
     let carrying = c .before .before in
@@ -46,11 +25,11 @@ pub fill-item-spec : {M : Type 1} → statement M
 fill-item-spec =
     tie.close
     (tie.spec
-    record-of-requires
-    type-of-requires
-    slice-aggregate-place
-    place-requires
-    supply-requires
-    place-body-requires
-    same-length
+    (search needs)
+    (search needs)
+    (search needs)
+    (search needs)
+    (search needs)
+    (search needs)
+    (search needs)
     returns)

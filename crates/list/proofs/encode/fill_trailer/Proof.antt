@@ -7,39 +7,6 @@ use Rattle.list.proofs.Filling.{Fills, fills-none, fills-place, fills-n
 use Rattle.list.proofs.encode.fill_trailer.Statement.{statement}
 use Rattle.list.proofs.encode.fill_trailer.Tie as tie
 
-type-of-requires : tie.Need-type-of-requires
-type-of-requires c κs = search needs
-
-slice-aggregate-place : tie.Need-slice-aggregate-place
-slice-aggregate-place c = search needs
-
-place-requires : tie.Need-place-requires
-place-requires c κs = search needs
-
-place-requires-2 : tie.Need-place-requires-2
-place-requires-2 c κs = search needs
-
-write-number-requires : tie.Need-write-number-requires
-write-number-requires c κs = search needs
-
-write-number-requires-2 : tie.Need-write-number-requires-2
-write-number-requires-2 c κs = search needs
-
-write-number-requires-3 : tie.Need-write-number-requires-3
-write-number-requires-3 c κs = search needs
-
-write-number-requires-4 : tie.Need-write-number-requires-4
-write-number-requires-4 c κs = search needs
-
-slice-aggregate-place-2 : tie.Need-slice-aggregate-place-2
-slice-aggregate-place-2 c = search needs
-
-place-requires-3 : tie.Need-place-requires-3
-place-requires-3 c κs = search needs
-
-same-length : tie.Need-same-length
-same-length c = search needs
-
 returns : tie.Need-returns
 returns c =
     let seventh = c .before .before in
@@ -63,15 +30,15 @@ pub fill-trailer-spec : {M : Type 1} → statement M
 fill-trailer-spec =
     tie.close
     (tie.spec
-    type-of-requires
-    slice-aggregate-place
-    place-requires
-    place-requires-2
-    write-number-requires
-    write-number-requires-2
-    write-number-requires-3
-    write-number-requires-4
-    slice-aggregate-place-2
-    place-requires-3
-    same-length
+    (search needs)
+    (search needs)
+    (search needs)
+    (search needs)
+    (search needs)
+    (search needs)
+    (search needs)
+    (search needs)
+    (search needs)
+    (search needs)
+    (search needs)
     returns)

@@ -46,32 +46,8 @@ turn c k e l =
     let next : drop i ss ≡ span c ∷ drop (i + 1) ss = four-next k i (omega arith) ∙ ap (λ (bs : List ℕ). spanAt bs i ∷ drop (i + 1) ss) (sym e) in
     subst (λ (l : List Span). BodyLeft l (at .loop .from) body (at .loop .rec) (fill (bodyPlaced ss body) (start .args .rec .now))) next (at .loop .inv .1 k e l)
 
-carried-requires : tie.Need-carried-requires Inv-loop μ-loop
-carried-requires c κs = search needs
-
 loop-holds : tie.Need-loop-holds Inv-loop μ-loop
 loop-holds c = (c .before .before .before .pre .0, λ k e l. record { left = refl; widths = omega (arith, four-widths k) })
-
-mul-first : tie.Need-mul-first Inv-loop μ-loop
-mul-first c = omega arith
-
-mul-first-2 : tie.Need-mul-first-2 Inv-loop μ-loop
-mul-first-2 c = omega arith
-
-array-read-first : tie.Need-array-read-first Inv-loop μ-loop
-array-read-first c = omega arith
-
-mul-width : tie.Need-mul-width Inv-loop μ-loop
-mul-width c = omega arith
-
-add-width : tie.Need-add-width Inv-loop μ-loop
-add-width c = omega arith
-
-mul-width-2 : tie.Need-mul-width-2 Inv-loop μ-loop
-mul-width-2 c = omega arith
-
-array-read-width : tie.Need-array-read-width Inv-loop μ-loop
-array-read-width c = omega arith
 
 width-requires : tie.Need-width-requires Inv-loop μ-loop
 width-requires c κs = (within c .starts, within c .ordered)
@@ -84,12 +60,6 @@ there c =
 
 add-place : tie.Need-add-place Inv-loop μ-loop
 add-place c = omega (arith, there (c .before))
-
-sub-place : tie.Need-sub-place Inv-loop μ-loop
-sub-place c = omega arith
-
-part-place-start : tie.Need-part-place-start Inv-loop μ-loop
-part-place-start c = omega arith
 
 part-place-end : tie.Need-part-place-end Inv-loop μ-loop
 part-place-end c = omega (arith, there (c .before))
@@ -105,12 +75,6 @@ place-requires c κs =
 
 add-from : tie.Need-add-from Inv-loop μ-loop
 add-from c = omega (arith, there (c .before .before .before .before .before))
-
-add-i : tie.Need-add-i Inv-loop μ-loop
-add-i c = omega arith
-
-loop-less : tie.Need-loop-less Inv-loop μ-loop
-loop-less c = omega arith
 
 loop-again : tie.Need-loop-again Inv-loop μ-loop
 loop-again c =
@@ -140,24 +104,24 @@ place-body-spec =
     (tie.spec
     Inv-loop
     μ-loop
-    carried-requires
+    (search needs)
     loop-holds
-    mul-first
-    mul-first-2
-    array-read-first
-    mul-width
-    add-width
-    mul-width-2
-    array-read-width
+    (search needs)
+    (search needs)
+    (search needs)
+    (search needs)
+    (search needs)
+    (search needs)
+    (search needs)
     width-requires
     add-place
-    sub-place
-    part-place-start
+    (search needs)
+    (search needs)
     part-place-end
     place-requires
     add-from
-    add-i
-    loop-less
+    (search needs)
+    (search needs)
     loop-again
     same-length
     returns)

@@ -16,51 +16,6 @@ use Rattle.list.proofs.Filling.{Fills, fills-none, fills-place, fills-n
 use Rattle.list.proofs.encode.supply.Statement.{statement}
 use Rattle.list.proofs.encode.supply.Tie as tie
 
-enum-told : tie.Need-enum-told
-enum-told c = search needs
-
-slice-aggregate-place : tie.Need-slice-aggregate-place
-slice-aggregate-place c = search needs
-
-place-requires : tie.Need-place-requires
-place-requires c κs = search needs
-
-enum-told-2 : tie.Need-enum-told-2
-enum-told-2 c = search needs
-
-write-number-requires : tie.Need-write-number-requires
-write-number-requires c κs = search needs
-
-slice-aggregate-place-2 : tie.Need-slice-aggregate-place-2
-slice-aggregate-place-2 c = search needs
-
-place-requires-2 : tie.Need-place-requires-2
-place-requires-2 c κs = search needs
-
-slice-aggregate-place-3 : tie.Need-slice-aggregate-place-3
-slice-aggregate-place-3 c = search needs
-
-place-requires-3 : tie.Need-place-requires-3
-place-requires-3 c κs = search needs
-
-place-requires-4 : tie.Need-place-requires-4
-place-requires-4 c κs = search needs
-
-slice-aggregate-place-4 : tie.Need-slice-aggregate-place-4
-slice-aggregate-place-4 c = search needs
-
-place-requires-5 : tie.Need-place-requires-5
-place-requires-5 c κs = search needs
-
-enum-told-3 : tie.Need-enum-told-3
-enum-told-3 c = search needs
-
-write-number-requires-2 : tie.Need-write-number-requires-2
-write-number-requires-2 c κs = search needs
-
-same-length : tie.Need-same-length
-same-length c = search needs
-
 returns : tie.Need-returns
 returns c =
     let at = c .before .before .before .before .before .before .before .before .before in
@@ -68,9 +23,6 @@ returns c =
     let abi = at .args .abi .now in
     let all : Fills (supplied Heads (at .args .number) abi) rec (c .before .before .place .last .0) = fills-place (c .before .before .place .ensures) refl fills-none in
     all .done ∙ ap (λ (k : Kind). fill (supplied (role k) (at .args .number) abi) rec) (sym (c .before .before .before .before .before .enum-told .given .1))
-
-same-length-2 : tie.Need-same-length-2
-same-length-2 c = search needs
 
 returns-2 : tie.Need-returns-2
 returns-2 c =
@@ -96,9 +48,6 @@ returns-3 c =
     let all : Fills (supplied Closes (at .args .number) abi) rec rec = fills-none in
     all .done ∙ ap (λ (k : Kind). fill (supplied (role k) (at .args .number) abi) rec) (sym (c .enum-told3 .given .1))
 
-same-length-3 : tie.Need-same-length-3
-same-length-3 c = search needs
-
 -- every other kind has its number alone
 abbrev others : List ℕ
 others = 2 ∷ 3 ∷ 4 ∷ 5 ∷ 6 ∷ 7 ∷ 8 ∷ 9 ∷ []
@@ -120,24 +69,24 @@ pub supply-spec : {M : Type 1} → statement M
 supply-spec =
     tie.close
     (tie.spec
-    enum-told
-    slice-aggregate-place
-    place-requires
-    enum-told-2
-    write-number-requires
-    slice-aggregate-place-2
-    place-requires-2
-    slice-aggregate-place-3
-    place-requires-3
-    place-requires-4
-    slice-aggregate-place-4
-    place-requires-5
-    enum-told-3
-    write-number-requires-2
-    same-length
+    (search needs)
+    (search needs)
+    (search needs)
+    (search needs)
+    (search needs)
+    (search needs)
+    (search needs)
+    (search needs)
+    (search needs)
+    (search needs)
+    (search needs)
+    (search needs)
+    (search needs)
+    (search needs)
+    (search needs)
     returns
-    same-length-2
+    (search needs)
     returns-2
     returns-3
-    same-length-3
+    (search needs)
     returns-4)

@@ -22,38 +22,8 @@ abbrev μ-loop : tie.MeasureT-loop
 loop-holds : tie.Need-loop-holds Inv-loop μ-loop
 loop-holds c = (omega arith, omega arith, omega (arith, ap length (list-all (c .before .args .flow .now))))
 
-mul-row-in : tie.Need-mul-row-in Inv-loop μ-loop
-mul-row-in c = omega arith
-
-mul-row-in-2 : tie.Need-mul-row-in-2 Inv-loop μ-loop
-mul-row-in-2 c = omega arith
-
-add-row-in : tie.Need-add-row-in Inv-loop μ-loop
-add-row-in c = omega arith
-
-sub-row-in : tie.Need-sub-row-in Inv-loop μ-loop
-sub-row-in c = omega arith
-
-part-row-in-start : tie.Need-part-row-in-start Inv-loop μ-loop
-part-row-in-start c = omega arith
-
-part-row-in-end : tie.Need-part-row-in-end Inv-loop μ-loop
-part-row-in-end c = omega arith
-
-row-in-requires : tie.Need-row-in-requires Inv-loop μ-loop
-row-in-requires c κs = search needs
-
-item-length-requires : tie.Need-item-length-requires Inv-loop μ-loop
-item-length-requires c κs = search needs
-
 add-length : tie.Need-add-length Inv-loop μ-loop
 add-length c = omega (arith, c .item-length .ensures, item-at-most (c .before .row-in .result))
-
-add-i : tie.Need-add-i Inv-loop μ-loop
-add-i c = omega arith
-
-loop-less : tie.Need-loop-less Inv-loop μ-loop
-loop-less c = omega arith
 
 loop-again : tie.Need-loop-again Inv-loop μ-loop
 loop-again c =
@@ -76,16 +46,16 @@ list-length-spec =
     Inv-loop
     μ-loop
     loop-holds
-    mul-row-in
-    mul-row-in-2
-    add-row-in
-    sub-row-in
-    part-row-in-start
-    part-row-in-end
-    row-in-requires
-    item-length-requires
+    (search needs)
+    (search needs)
+    (search needs)
+    (search needs)
+    (search needs)
+    (search needs)
+    (search needs)
+    (search needs)
     add-length
-    add-i
-    loop-less
+    (search needs)
+    (search needs)
     loop-again
     returns)

@@ -12,18 +12,6 @@ use Rattle.list.specs.ReadBack.{listOf, judgeRoom, readBack}
 use Rattle.list.proofs.own_list.read_back.Statement.{statement}
 use Rattle.list.proofs.own_list.read_back.Tie as tie
 
-read-requires : tie.Need-read-requires
-read-requires c κs = search needs
-
-enum-known-refusal : tie.Need-enum-known-refusal
-enum-known-refusal c = search needs
-
-refused-requires : tie.Need-refused-requires
-refused-requires c κs = search needs
-
-enum-known-totals : tie.Need-enum-known-totals
-enum-known-totals c = search needs
-
 -- the flow is accepted
 read :
     (c : tie.After-known-told2) → judge (c .before .before .before .before .before .before .args .flow .now) ≡ accepted (c .before .totals .given .0 .0)
@@ -31,12 +19,6 @@ read c = sym (c .before .before .before .read .ensures) ∙ ap verdict (c .befor
 
 list-length-requires : tie.Need-list-length-requires
 list-length-requires c κs = accepted-length _ (read c) .2
-
-refusal-of-call-requires : tie.Need-refusal-of-call-requires
-refusal-of-call-requires c κs = search needs
-
-refused-requires-2 : tie.Need-refused-requires-2
-refused-requires-2 c κs = search needs
 
 returns : tie.Need-returns
 unfolding readBack judgeRoom
@@ -47,15 +29,6 @@ returns c =
     let said = c .refused2 .ensures in
     rw (read told, short) (λ i. record { answer = (said .0 ∙ ap refused (c .before .refusal-of-call .ensures)) i; written = said .1 i; bytes = a .out .now })
 
-store-list-requires : tie.Need-store-list-requires
-store-list-requires c κs = search needs
-
-count-requires : tie.Need-count-requires
-count-requires c κs = search needs
-
-accepted-requires : tie.Need-accepted-requires
-accepted-requires c κs = search needs
-
 returns-2 : tie.Need-returns-2
 unfolding readBack judgeRoom
 returns-2 c =
@@ -63,9 +36,6 @@ returns-2 c =
     let wrong : judge (a .flow .now) ≡ refused (c .before .before .refusal .given .0 .0) = sym (c .before .before .before .before .read .ensures) ∙ ap verdict (c .before .before .refusal .given .1) in
     let said = c .refused .ensures in
     rw wrong (λ i. record { answer = said .0 i; written = said .1 i; bytes = a .out .now })
-
-same-length : tie.Need-same-length
-same-length c = search needs
 
 returns-3 : tie.Need-returns-3
 unfolding readBack judgeRoom
@@ -82,17 +52,17 @@ pub read-back-spec : {M : Type 1} → statement M
 read-back-spec =
     tie.close
     (tie.spec
-    read-requires
-    enum-known-refusal
-    refused-requires
-    enum-known-totals
+    (search needs)
+    (search needs)
+    (search needs)
+    (search needs)
     list-length-requires
-    refusal-of-call-requires
-    refused-requires-2
+    (search needs)
+    (search needs)
     returns
-    store-list-requires
-    count-requires
-    accepted-requires
+    (search needs)
+    (search needs)
+    (search needs)
     returns-2
-    same-length
+    (search needs)
     returns-3)

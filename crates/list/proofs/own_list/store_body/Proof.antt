@@ -36,32 +36,8 @@ turn :
     → Storing (span c ∷ drop (at .loop .i + 1) (fourOf (carried k))) (at .loop .from) (start .args .rec .now) (at .loop .out) (gather (carried k) (start .args .rec .now))
 turn c k kept size = storing-turn k _ _ _ _ _ _ kept (c .loop-test .taken) (c .before .loop .inv .1 k kept size)
 
-carried-requires : tie.Need-carried-requires Inv-loop μ-loop
-carried-requires c κs = search needs
-
 loop-holds : tie.Need-loop-holds Inv-loop μ-loop
 loop-holds c = (refl, λ k kept size. storing k _ _ (c .before .before .before .pre .0) size)
-
-mul-first : tie.Need-mul-first Inv-loop μ-loop
-mul-first c = omega arith
-
-mul-first-2 : tie.Need-mul-first-2 Inv-loop μ-loop
-mul-first-2 c = omega arith
-
-array-read-first : tie.Need-array-read-first Inv-loop μ-loop
-array-read-first c = omega arith
-
-mul-last : tie.Need-mul-last Inv-loop μ-loop
-mul-last c = omega arith
-
-add-last : tie.Need-add-last Inv-loop μ-loop
-add-last c = omega arith
-
-mul-last-2 : tie.Need-mul-last-2 Inv-loop μ-loop
-mul-last-2 c = omega arith
-
-array-read-last : tie.Need-array-read-last Inv-loop μ-loop
-array-read-last c = omega arith
 
 -- it lies within the record
 within : (c : tie.In-loop Inv-loop μ-loop) → Within (span c)
@@ -76,17 +52,8 @@ fits c =
     let start = c .before .before .before .before .before .before in
     omega (arith, turn (c .before) (start .args .kind) (c .before .before .before .carried .ensures) (start .pre .1) .room, c .width .ensures)
 
-field-requires : tie.Need-field-requires Inv-loop μ-loop
-field-requires c κs = search needs
-
 add-copy : tie.Need-add-copy Inv-loop μ-loop
 add-copy c = omega (arith, fits (c .before))
-
-sub-copy : tie.Need-sub-copy Inv-loop μ-loop
-sub-copy c = search needs
-
-part-copy-start : tie.Need-part-copy-start Inv-loop μ-loop
-part-copy-start c = search needs
 
 part-copy-end : tie.Need-part-copy-end Inv-loop μ-loop
 part-copy-end c = omega (arith, fits (c .before))
@@ -105,12 +72,6 @@ copy-requires c κs =
 
 add-from : tie.Need-add-from Inv-loop μ-loop
 add-from c = omega (arith, fits (c .before .before .before .before .before))
-
-add-i : tie.Need-add-i Inv-loop μ-loop
-add-i c = omega arith
-
-loop-less : tie.Need-loop-less Inv-loop μ-loop
-loop-less c = omega arith
 
 loop-again : tie.Need-loop-again Inv-loop μ-loop
 loop-again c =
@@ -143,25 +104,25 @@ store-body-spec =
     (tie.spec
     Inv-loop
     μ-loop
-    carried-requires
+    (search needs)
     loop-holds
-    mul-first
-    mul-first-2
-    array-read-first
-    mul-last
-    add-last
-    mul-last-2
-    array-read-last
+    (search needs)
+    (search needs)
+    (search needs)
+    (search needs)
+    (search needs)
+    (search needs)
+    (search needs)
     width-requires
-    field-requires
+    (search needs)
     add-copy
-    sub-copy
-    part-copy-start
+    (search needs)
+    (search needs)
     part-copy-end
     copy-requires
     add-from
-    add-i
-    loop-less
+    (search needs)
+    (search needs)
     loop-again
     same-length
     returns)

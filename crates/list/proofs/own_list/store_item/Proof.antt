@@ -17,15 +17,6 @@ use Rattle.list.proofs.OwnList.{no-item, item-count, item-stored}
 use Rattle.list.proofs.own_list.store_item.Statement.{statement}
 use Rattle.list.proofs.own_list.store_item.Tie as tie
 
-row-in-requires : tie.Need-row-in-requires
-row-in-requires c κs = search needs
-
-enum-known-kind : tie.Need-enum-known-kind
-enum-known-kind c = search needs
-
-enum-told : tie.Need-enum-told
-enum-told c = search needs
-
 returns : tie.Need-returns
 returns c =
     let start = c .before .before .before .before .before in
@@ -39,9 +30,6 @@ kind-of c = c .before .kind .given .0 .0
 row-so : (c : tie.After-known-told) → rowIn (c .before .before .before .before .before .before .args .rec .now) ≡ Of (kind-of c)
 row-so c = sym (c .before .before .before .row-in .ensures) ∙ c .before .kind .given .1
 
-letter-requires : tie.Need-letter-requires
-letter-requires c κs = search needs
-
 -- there is room for the item
 room : (c : tie.After-known-told) → let start = c .before .before .before .before .before .before in start .args .at + suc (bodyLength (kind-of c)) ≤ length (start .args .out .now)
 room c = rw (row-so c) at (c .before .before .before .before .before .before .pre .1)
@@ -49,31 +37,13 @@ room c = rw (row-so c) at (c .before .before .before .before .before .before .pr
 slice-write-out : tie.Need-slice-write-out
 slice-write-out c = omega (arith, room (c .before))
 
-add-end : tie.Need-add-end
-add-end c = search needs
-
-body-length-requires : tie.Need-body-length-requires
-body-length-requires c κs = search needs
-
 add-end-2 : tie.Need-add-end-2
 add-end-2 c = omega (arith, room (c .before .before), c .body-length .ensures)
-
-add-store-body : tie.Need-add-store-body
-add-store-body c = search needs
-
-sub-store-body : tie.Need-sub-store-body
-sub-store-body c = search needs
-
-part-store-body-start : tie.Need-part-store-body-start
-part-store-body-start c = search needs
 
 part-store-body-end : tie.Need-part-store-body-end
 part-store-body-end c =
     let start = c .before .before .before .before .before .before .before .before in
     omega (arith, room (c .before .before), c .body-length .ensures, length-set (start .args .out .now) (start .args .at) (c .before .letter .result))
-
-store-body-requires : tie.Need-store-body-requires
-store-body-requires c κs = search needs
 
 -- the item stands in the output
 stored :
@@ -109,19 +79,19 @@ pub store-item-spec : {M : Type 1} → statement M
 store-item-spec =
     tie.close
     (tie.spec
-    row-in-requires
-    enum-known-kind
-    enum-told
+    (search needs)
+    (search needs)
+    (search needs)
     returns
-    letter-requires
+    (search needs)
     slice-write-out
-    add-end
-    body-length-requires
+    (search needs)
+    (search needs)
     add-end-2
-    add-store-body
-    sub-store-body
-    part-store-body-start
+    (search needs)
+    (search needs)
+    (search needs)
     part-store-body-end
-    store-body-requires
+    (search needs)
     same-length
     returns-2)

@@ -5,6 +5,7 @@ use mathlib.Core.Path.{_≡_, sym, _∙_, ap, subst}
 use native.Mathlib.Numerals.{add-one}
 use native.Mathlib.Omega.{arith}
 use lib.ListN.{length}
+use borrow.Author.Needs.{needs}
 use Rattle.sequences.specs.Part.{put}
 use Rattle.flow.specs.Records.{recordAt}
 use Rattle.flow.proofs.Cut.{record-part, record-whole}
@@ -24,24 +25,6 @@ abbrev μ-loop : tie.MeasureT-loop
 loop-holds : tie.Need-loop-holds Inv-loop μ-loop
 loop-holds c = (omega arith, listing _ _ (c .before .before .pre))
 
-mul-store-item : tie.Need-mul-store-item Inv-loop μ-loop
-mul-store-item c = omega arith
-
-mul-store-item-2 : tie.Need-mul-store-item-2 Inv-loop μ-loop
-mul-store-item-2 c = omega arith
-
-add-store-item : tie.Need-add-store-item Inv-loop μ-loop
-add-store-item c = omega arith
-
-sub-store-item : tie.Need-sub-store-item Inv-loop μ-loop
-sub-store-item c = omega arith
-
-part-store-item-start : tie.Need-part-store-item-start Inv-loop μ-loop
-part-store-item-start c = omega arith
-
-part-store-item-end : tie.Need-part-store-item-end Inv-loop μ-loop
-part-store-item-end c = omega arith
-
 store-item-requires : tie.Need-store-item-requires Inv-loop μ-loop
 store-item-requires c κs =
     let at = c .before .before .before in
@@ -49,12 +32,6 @@ store-item-requires c κs =
     let more = c .before .before .loop-test .taken in
     let handed = record-part (loop .i) (at .before .before .before .args .flow .now) in
     (ap length handed ∙ record-whole _ _ more, subst (λ (rec : List ℕ). loop .at + itemLength (rowIn rec) ≤ length (loop .out)) (sym handed) (item-fits (loop .inv .1) more))
-
-add-i : tie.Need-add-i Inv-loop μ-loop
-add-i c = omega arith
-
-loop-less : tie.Need-loop-less Inv-loop μ-loop
-loop-less c = omega arith
 
 loop-again : tie.Need-loop-again Inv-loop μ-loop
 loop-again c =
@@ -80,15 +57,15 @@ store-list-spec =
     Inv-loop
     μ-loop
     loop-holds
-    mul-store-item
-    mul-store-item-2
-    add-store-item
-    sub-store-item
-    part-store-item-start
-    part-store-item-end
+    (search needs)
+    (search needs)
+    (search needs)
+    (search needs)
+    (search needs)
+    (search needs)
     store-item-requires
-    add-i
-    loop-less
+    (search needs)
+    (search needs)
     loop-again
     same-length
     returns)

@@ -5,15 +5,6 @@ use Rattle.list.proofs.ItemKinds.{not-missing}
 use Rattle.list.proofs.table.kind_of.Statement.{statement}
 use Rattle.list.proofs.table.kind_of.Tie as tie
 
-row-of-requires : tie.Need-row-of-requires
-row-of-requires c κs = search needs
-
-enum-known-kind : tie.Need-enum-known-kind
-enum-known-kind c = search needs
-
-enum-told : tie.Need-enum-told
-enum-told c = search needs
-
 returns : tie.Need-returns
 returns c = sym (c .before .before .before .row-of .ensures) ∙ c .before .kind .given .1
 
@@ -24,4 +15,4 @@ returns-2 c =
     absurd (not-missing (sym (c .before .before .before .pre .row) ∙ sym (row .ensures) ∙ c .enum-told .given .1))
 
 pub kind-of-spec : {M : Type 1} → statement M
-kind-of-spec = tie.close (tie.spec row-of-requires enum-known-kind enum-told returns returns-2)
+kind-of-spec = tie.close (tie.spec (search needs) (search needs) (search needs) returns returns-2)

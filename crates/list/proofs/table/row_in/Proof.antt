@@ -25,15 +25,6 @@ abbrev μ-loop : tie.MeasureT-loop
 loop-holds : tie.Need-loop-holds Inv-loop μ-loop
 loop-holds c = refl
 
-kind-at-requires : tie.Need-kind-at-requires Inv-loop μ-loop
-kind-at-requires c κs = search needs
-
-record-of-requires : tie.Need-record-of-requires Inv-loop μ-loop
-record-of-requires c κs = search needs
-
-has-type-requires : tie.Need-has-type-requires Inv-loop μ-loop
-has-type-requires c κs = search needs
-
 returns : tie.Need-returns Inv-loop μ-loop
 returns c =
     let at = c .before .before .before .before .before in
@@ -41,12 +32,6 @@ returns c =
     let kind = c .before .before .before .kind-at in
     let passes : test rec (kind .result) ≡ true = sym (c .before .has-type .ensures ∙ ap (λ (k : Kind). hasType k rec) (c .before .before .record-of .ensures)) ∙ c .if1 .taken in
     found (test rec) (at .loop .i) (omega arith) (kind .ensures) (at .loop .inv) passes
-
-add-i : tie.Need-add-i Inv-loop μ-loop
-add-i c = omega arith
-
-loop-less : tie.Need-loop-less Inv-loop μ-loop
-loop-less c = omega arith
 
 loop-again : tie.Need-loop-again Inv-loop μ-loop
 loop-again c =
@@ -66,11 +51,11 @@ row-in-spec =
     Inv-loop
     μ-loop
     loop-holds
-    kind-at-requires
-    record-of-requires
-    has-type-requires
+    (search needs)
+    (search needs)
+    (search needs)
     returns
-    add-i
-    loop-less
+    (search needs)
+    (search needs)
     loop-again
     returns-2)

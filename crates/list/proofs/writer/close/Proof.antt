@@ -13,31 +13,16 @@ use Rattle.flow.specs.Verdict.{accepted, refused}
 use Rattle.list.proofs.writer.close.Statement.{statement}
 use Rattle.list.proofs.writer.close.Tie as tie
 
-may-close-requires : tie.Need-may-close-requires
-may-close-requires c κs = search needs
-
-add-t5 : tie.Need-add-t5
-add-t5 c = search needs
-
 returns : tie.Need-returns
 returns c =
     let shut : mayClose (permitted (c .before .before .args .walk .place .due)) ≡ false = sym (c .before .may-close .ensures) ∙ not-true _ (c .if1 .taken) in
     rw (shut, add-one)
-
-refusal-of-call-requires : tie.Need-refusal-of-call-requires
-refusal-of-call-requires c κs = search needs
 
 returns-2 : tie.Need-returns-2
 returns-2 c =
     let due : mayClose (permitted (c .before .before .before .before .before .args .walk .place .due)) ≡ true = sym (c .before .before .before .before .may-close .ensures) ∙ not-false _ (c .before .before .before .if1 .left) in
     let over : leb (c .before .before .before .before .before .args .walk .cents) mostCents ≡ false = lt-leb (c .before .before .before .before .before .args .walk .cents) mostCents (omega (arith, c .before .if2 .taken)) in
     rw (due, over) (ap refused (c .refusal-of-call .ensures))
-
-add-totals : tie.Need-add-totals
-add-totals c = search needs
-
-totals-requires : tie.Need-totals-requires
-totals-requires c κs = search needs
 
 returns-3 : tie.Need-returns-3
 returns-3 c =
@@ -48,4 +33,4 @@ returns-3 c =
 
 pub close-spec : {M : Type 1} → statement M
 close-spec =
-    tie.close (tie.spec may-close-requires add-t5 returns refusal-of-call-requires returns-2 add-totals totals-requires returns-3)
+    tie.close (tie.spec (search needs) (search needs) returns (search needs) returns-2 (search needs) (search needs) returns-3)

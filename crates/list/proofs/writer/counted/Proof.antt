@@ -8,15 +8,6 @@ use Rattle.list.specs.Table.{recordOf}
 use Rattle.list.proofs.writer.counted.Statement.{statement}
 use Rattle.list.proofs.writer.counted.Tie as tie
 
-record-of-requires : tie.Need-record-of-requires
-record-of-requires c κs = search needs
-
-opens-requires : tie.Need-opens-requires
-opens-requires c κs = search needs
-
-add-result : tie.Need-add-result
-add-result c = search needs
-
 returns : tie.Need-returns
 returns c =
     let one : opens (recordOf (c .before .before .before .args .kind)) ≡ true = sym (c .before .opens .ensures ∙ ap opens (c .before .before .record-of .ensures)) ∙ c .if1 .taken in
@@ -28,4 +19,4 @@ returns-2 c =
     rw none (omega arith)
 
 pub counted-spec : {M : Type 1} → statement M
-counted-spec = tie.close (tie.spec record-of-requires opens-requires add-result returns returns-2)
+counted-spec = tie.close (tie.spec (search needs) (search needs) (search needs) returns returns-2)

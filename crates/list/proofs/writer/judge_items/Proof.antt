@@ -15,23 +15,8 @@ use Rattle.list.proofs.Loops.{none-judged}
 use Rattle.list.proofs.writer.judge_items.Statement.{statement}
 use Rattle.list.proofs.writer.judge_items.Tie as tie
 
-start-requires : tie.Need-start-requires
-start-requires c κs = search needs
-
-close-requires : tie.Need-close-requires
-close-requires c κs = search needs
-
 returns : tie.Need-returns
 returns c = c .close .ensures ∙ ap (λ (w : Walk). closed w 0) (c .before .start .ensures) ∙ sym (none-judged (c .before .before .before .before .args .list .now) (c .before .before .if1 .taken))
-
-first-record-requires : tie.Need-first-record-requires
-first-record-requires c κs = search needs
-
-slice-aggregate-judge-records : tie.Need-slice-aggregate-judge-records
-slice-aggregate-judge-records c = search needs
-
-judge-records-requires : tie.Need-judge-records-requires
-judge-records-requires c κs = search needs
 
 returns-2 : tie.Need-returns-2
 unfolding judgeItems
@@ -44,10 +29,10 @@ pub judge-items-spec : {M : Type 1} → statement M
 judge-items-spec =
     tie.close
     (tie.spec
-    start-requires
-    close-requires
+    (search needs)
+    (search needs)
     returns
-    first-record-requires
-    slice-aggregate-judge-records
-    judge-records-requires
+    (λ c κs. search needs)
+    (search needs)
+    (λ c κs. search needs)
     returns-2)

@@ -30,27 +30,6 @@ Inv-loop list im walk₀ company₀ header₀ dispositions₀ n₀ at₀ walk co
 abbrev μ-loop : tie.MeasureT-loop
 μ-loop list im walk₀ company₀ header₀ dispositions₀ n₀ at₀ walk company header dispositions n i = length list - i
 
-start-requires : tie.Need-start-requires Inv-loop μ-loop
-start-requires c κs = search needs
-
-sub-company : tie.Need-sub-company Inv-loop μ-loop
-sub-company c = search needs
-
-part-company-start : tie.Need-part-company-start Inv-loop μ-loop
-part-company-start c = search needs
-
-part-company-end : tie.Need-part-company-end Inv-loop μ-loop
-part-company-end c = search needs
-
-sub-header : tie.Need-sub-header Inv-loop μ-loop
-sub-header c = search needs
-
-part-header-start : tie.Need-part-header-start Inv-loop μ-loop
-part-header-start c = search needs
-
-part-header-end : tie.Need-part-header-end Inv-loop μ-loop
-part-header-end c = search needs
-
 abbrev list-of : tie.At-loop Inv-loop μ-loop → List ℕ
 list-of a = a .before .before .before .before .before .before .args .list .now
 
@@ -61,20 +40,11 @@ header-of a =
 loop-holds : tie.Need-loop-holds Inv-loop μ-loop
 loop-holds c = (omega arith, c .before .before .before .before .before .pre .few, rw (c .before .before .start .ensures) (judging-begins _ _ (c .before .before .before .before .before .pre)))
 
-shared-slice-read-kind-of : tie.Need-shared-slice-read-kind-of Inv-loop μ-loop
-shared-slice-read-kind-of c = search needs
-
 kind-of-requires : tie.Need-kind-of-requires Inv-loop μ-loop
 kind-of-requires c κs =
     let l = c .before .before in
     let j = l .loop .inv .2 in
     next-kind (list-of l) (l .loop .n) (l .loop .at) (j .left) (j .said) (c .before .loop-test .taken)
-
-add-end : tie.Need-add-end Inv-loop μ-loop
-add-end c = omega arith
-
-body-length-requires : tie.Need-body-length-requires Inv-loop μ-loop
-body-length-requires c κs = search needs
 
 -- the item at the index, as this turn has read it
 turn-so : (c : tie.After-body-length Inv-loop μ-loop) → let l = c .before .before .before .before in Turn (list-of l) (l .loop .at) (c .before .kind-of .result) (c .body-length .result)
@@ -113,15 +83,6 @@ encode-item-requires c κs = turn-so (c .before .before) .body-sized
 add-n : tie.Need-add-n Inv-loop μ-loop
 add-n c = omega (arith, few-so (c .before .before .before .before .before .before .before) .1)
 
-slice-aggregate-judge : tie.Need-slice-aggregate-judge Inv-loop μ-loop
-slice-aggregate-judge c = search needs
-
-judge-requires : tie.Need-judge-requires Inv-loop μ-loop
-judge-requires c κs = search needs
-
-enum-known-number : tie.Need-enum-known-number Inv-loop μ-loop
-enum-known-number c = search needs
-
 -- the record that is built is the item's
 built : (c : tie.After-encode-item Inv-loop μ-loop) → let l = c .before .before .before .before .before .before .before in let k = c .before .before .before .before .kind-of .result in c .encode-item .result ≡ encodeItem (l .loop .dispositions + opened (recordOf k)) (l .loop .header .now) (itemAt (list-of l) (l .loop .at) k)
 built c =
@@ -142,24 +103,6 @@ returns c =
     let l = c .before .before .before .before .before .before .before .before .before .before .before .before in
     let told = found (c .before .before .before) ∙ ap finding (c .before .number .given .1) in
     rw add-one (judging-refused (l .loop .inv .2) (c .before .before .before .before .before .before .before .before .before .before .before .loop-test .taken) _ (c .before .before .before .before .before .before .before .before .before .kind-of .ensures) _ _ told)
-
-enum-known-right : tie.Need-enum-known-right Inv-loop μ-loop
-enum-known-right c = search needs
-
-field-requires : tie.Need-field-requires Inv-loop μ-loop
-field-requires c κs = search needs
-
-record-of-requires : tie.Need-record-of-requires Inv-loop μ-loop
-record-of-requires c κs = search needs
-
-latest-company-requires : tie.Need-latest-company-requires Inv-loop μ-loop
-latest-company-requires c κs = search needs
-
-next-requires : tie.Need-next-requires Inv-loop μ-loop
-next-requires c κs = search needs
-
-header-behind-requires : tie.Need-header-behind-requires Inv-loop μ-loop
-header-behind-requires c κs = search needs
 
 loop-less : tie.Need-loop-less Inv-loop μ-loop
 loop-less c = omega (arith, turn-so (c .before .before .before .before .before .before .before .before .before .before .before .before .before) .ends, c .before .before .before .before .before .before .before .before .before .before .before .before .before .before .before .before .loop-test .taken)
@@ -193,18 +136,18 @@ judge-records-spec =
     (tie.spec
     Inv-loop
     μ-loop
-    start-requires
-    sub-company
-    part-company-start
-    part-company-end
-    sub-header
-    part-header-start
-    part-header-end
+    (search needs)
+    (search needs)
+    (search needs)
+    (search needs)
+    (search needs)
+    (search needs)
+    (search needs)
     loop-holds
-    shared-slice-read-kind-of
+    (search needs)
     kind-of-requires
-    add-end
-    body-length-requires
+    (search needs)
+    (search needs)
     add-end-2
     add-body
     sub-body
@@ -213,16 +156,16 @@ judge-records-spec =
     counted-requires
     encode-item-requires
     add-n
-    slice-aggregate-judge
-    judge-requires
-    enum-known-number
+    (search needs)
+    (search needs)
+    (search needs)
     returns
-    enum-known-right
-    field-requires
-    record-of-requires
-    latest-company-requires
-    next-requires
-    header-behind-requires
+    (search needs)
+    (search needs)
+    (search needs)
+    (search needs)
+    (search needs)
+    (search needs)
     loop-less
     loop-again
     close-requires

@@ -29,35 +29,17 @@ Inv-loop list out₀ totals header₀ dispositions₀ n₀ at₀ out header disp
 abbrev μ-loop : tie.MeasureT-loop
 μ-loop list out₀ totals header₀ dispositions₀ n₀ at₀ out header dispositions n j = length list - j
 
-sub-header : tie.Need-sub-header Inv-loop μ-loop
-sub-header c = search needs
-
-part-header-start : tie.Need-part-header-start Inv-loop μ-loop
-part-header-start c = search needs
-
-part-header-end : tie.Need-part-header-end Inv-loop μ-loop
-part-header-end c = search needs
-
 abbrev list-of : tie.At-loop Inv-loop μ-loop → List ℕ
 list-of a = a .before .before .before .before .args .list .now
 
 loop-holds : tie.Need-loop-holds Inv-loop μ-loop
 loop-holds c = (omega arith, c .before .before .before .pre .0 .few, refl, storing-begins _ _ (c .before .before .before .pre .0) (c .before .before .before .pre .1 .0))
 
-shared-slice-read-kind-of : tie.Need-shared-slice-read-kind-of Inv-loop μ-loop
-shared-slice-read-kind-of c = search needs
-
 kind-of-requires : tie.Need-kind-of-requires Inv-loop μ-loop
 kind-of-requires c κs =
     let l = c .before .before in
     let s = l .loop .inv .3 in
     next-kind (list-of l) (l .loop .n) (l .loop .at) (s .left) (s .said) (c .before .loop-test .taken)
-
-add-end : tie.Need-add-end Inv-loop μ-loop
-add-end c = omega arith
-
-body-length-requires : tie.Need-body-length-requires Inv-loop μ-loop
-body-length-requires c κs = search needs
 
 -- the item at the index, as this turn has read it
 turn-so : (c : tie.After-body-length Inv-loop μ-loop) → let l = c .before .before .before .before in Turn (list-of l) (l .loop .at) (c .before .kind-of .result) (c .body-length .result)
@@ -99,9 +81,6 @@ mul-place c = omega (arith, few-so (c .before .before .before .before .before .b
 add-place : tie.Need-add-place Inv-loop μ-loop
 add-place c = omega (arith, few-so (c .before .before .before .before .before .before .before .before) .1)
 
-slice-aggregate-place : tie.Need-slice-aggregate-place Inv-loop μ-loop
-slice-aggregate-place c = search needs
-
 -- the record that is built is the item's
 abbrev record-of : tie.At-loop Inv-loop μ-loop → ItemKind → List ℕ
 record-of a k = encodeItem (a .loop .dispositions + opened (recordOf k)) (a .loop .header .now) (itemAt (list-of a) (a .loop .at) k)
@@ -126,9 +105,6 @@ room-so a = let s = a .loop .inv .3 in omega (arith, s .count, s .room)
 
 place-requires : tie.Need-place-requires Inv-loop μ-loop
 place-requires c κs = (omega arith, omega (arith, sized (c .before .before), room-so (c .before .before .before .before .before .before .before .before .before)))
-
-header-behind-requires : tie.Need-header-behind-requires Inv-loop μ-loop
-header-behind-requires c κs = search needs
 
 add-n : tie.Need-add-n Inv-loop μ-loop
 add-n c = omega (arith, few-so (c .before .before .before .before .before .before .before .before .before .before .before .before .before) .1)
@@ -156,17 +132,11 @@ loop-again c =
       subst (λ (A : Type 0). A) (λ j. StoringAt list (put 0 (encode (itemsIn list)) (l .before .before .before .before .args .out .now)) (end j) (sym (add-one (l .loop .n)) j) (number j) (meant j) (sym stored j)) (storing-on (l .loop .inv .3) (c .before .before .before .before .before .before .before .before .before .before .before .before .loop-test .taken) k (b .before .kind-of .ensures)),
     )
 
-encode-trailer-requires : tie.Need-encode-trailer-requires Inv-loop μ-loop
-encode-trailer-requires c κs = search needs
-
 mul-place-2 : tie.Need-mul-place-2 Inv-loop μ-loop
 mul-place-2 c = omega (arith, few-so (c .before .before .before) .1)
 
 add-place-2 : tie.Need-add-place-2 Inv-loop μ-loop
 add-place-2 c = omega (arith, few-so (c .before .before .before) .1)
-
-slice-aggregate-place-2 : tie.Need-slice-aggregate-place-2 Inv-loop μ-loop
-slice-aggregate-place-2 c = search needs
 
 trailer-sized : (c : tie.After-encode-trailer Inv-loop μ-loop) → length (c .encode-trailer .result) ≡ 120
 trailer-sized c = ap length (c .encode-trailer .ensures) ∙ trailer-length _ _
@@ -200,14 +170,14 @@ store-items-spec =
     (tie.spec
     Inv-loop
     μ-loop
-    sub-header
-    part-header-start
-    part-header-end
+    (search needs)
+    (search needs)
+    (search needs)
     loop-holds
-    shared-slice-read-kind-of
+    (search needs)
     kind-of-requires
-    add-end
-    body-length-requires
+    (search needs)
+    (search needs)
     add-end-2
     add-body
     sub-body
@@ -217,16 +187,16 @@ store-items-spec =
     encode-item-requires
     mul-place
     add-place
-    slice-aggregate-place
+    (search needs)
     place-requires
-    header-behind-requires
+    (search needs)
     add-n
     loop-less
     loop-again
-    encode-trailer-requires
+    (search needs)
     mul-place-2
     add-place-2
-    slice-aggregate-place-2
+    (search needs)
     place-requires-2
     same-length
     returns)

@@ -20,18 +20,6 @@ use Rattle.list.proofs.WriteRefused.{fitting-judged, write-refused}
 use Rattle.list.proofs.writer.write.Statement.{statement}
 use Rattle.list.proofs.writer.write.Tie as tie
 
-count-items-requires : tie.Need-count-items-requires
-count-items-requires c κs = search needs
-
-enum-known-n : tie.Need-enum-known-n
-enum-known-n c = search needs
-
-refused-requires : tie.Need-refused-requires
-refused-requires c κs = search needs
-
-enum-known-items : tie.Need-enum-known-items
-enum-known-items c = search needs
-
 -- the list's items, as they were counted
 abbrev list-of : tie.After-known-told2 → List ℕ
 list-of c = c .before .before .before .before .before .before .args .list .now
@@ -42,12 +30,6 @@ out-of c = c .before .before .before .before .before .before .args .out .now
 counted-so : (c : tie.After-known-told2) → (parse (list-of c) ≡ items (itemsIn (list-of c))) × (length (itemsIn (list-of c)) ≡ c .before .items .given .0 .0)
 counted-so c = items-counted (parse (list-of c)) _ (sym (c .before .before .before .count-items .ensures) ∙ c .before .items .given .1)
 
-refusal-of-call-requires : tie.Need-refusal-of-call-requires
-refusal-of-call-requires c κs = search needs
-
-refused-requires-2 : tie.Need-refused-requires-2
-refused-requires-2 c κs = search needs
-
 returns : tie.Need-returns
 returns c =
     let told = c .before .before .before in
@@ -55,18 +37,6 @@ returns c =
     let room = length (out-of told) in
     let items-so = counted-so told in
     write-refuses list (out-of told) (c .refused2 .result) (ofCall 1) (write-refused list room (ofCall 1) .1 (too-many (itemsIn list) (items-so .0) (omega (arith, items-so .1, c .before .before .if1 .taken)))) (c .refused2 .ensures .0 ∙ ap refused (c .before .refusal-of-call .ensures), c .refused2 .ensures .1)
-
-add-if2 : tie.Need-add-if2
-add-if2 c = search needs
-
-mul-if2 : tie.Need-mul-if2
-mul-if2 c = search needs
-
-refusal-of-call-requires-2 : tie.Need-refusal-of-call-requires-2
-refusal-of-call-requires-2 c κs = search needs
-
-refused-requires-3 : tie.Need-refused-requires-3
-refused-requires-3 c κs = search needs
 
 returns-2 : tie.Need-returns-2
 returns-2 c =
@@ -87,15 +57,6 @@ listed c = let f = fitting c in record { said = f .said; few = omega (arith, f .
 
 judge-items-requires : tie.Need-judge-items-requires
 judge-items-requires c κs = listed c
-
-enum-known-refusal : tie.Need-enum-known-refusal
-enum-known-refusal c = search needs
-
-refused-requires-4 : tie.Need-refused-requires-4
-refused-requires-4 c κs = search needs
-
-enum-known-totals : tie.Need-enum-known-totals
-enum-known-totals c = search needs
 
 -- and they are accepted
 told-so :
@@ -119,9 +80,6 @@ mul-accepted c =
     let told = c .before .before .before .before .before in
     omega (arith, ap (λ (t : Totals). t .records) (accepted-so told .told), fitting (told .before .before .before .before) .few)
 
-accepted-requires : tie.Need-accepted-requires
-accepted-requires c κs = search needs
-
 returns-3 : tie.Need-returns-3
 returns-3 c =
     let a = c .before .before .before .before .before .before .before .args in
@@ -138,9 +96,6 @@ returns-4 c =
     let wrong : judgeItems (itemsIn list) ≡ refused (c .before .before .refusal .given .0 .0) = sym (c .before .before .before .before .judge-items .ensures) ∙ ap verdict (c .before .before .refusal .given .1) in
     write-refuses list (out-of told) (c .refused4 .result) _ (fitting-judged list (length (out-of told)) (itemsIn list) (fitting e) ∙ wrong) (c .refused4 .ensures)
 
-same-length : tie.Need-same-length
-same-length c = search needs
-
 returns-5 : tie.Need-returns-5
 returns-5 c =
     let told = c .before .before .before .before .before .before in
@@ -155,26 +110,26 @@ pub write-spec : {M : Type 1} → statement M
 write-spec =
     tie.close
     (tie.spec
-    count-items-requires
-    enum-known-n
-    refused-requires
-    enum-known-items
-    refusal-of-call-requires
-    refused-requires-2
+    (search needs)
+    (search needs)
+    (search needs)
+    (search needs)
+    (search needs)
+    (search needs)
     returns
-    add-if2
-    mul-if2
-    refusal-of-call-requires-2
-    refused-requires-3
+    (search needs)
+    (search needs)
+    (search needs)
+    (search needs)
     returns-2
     judge-items-requires
-    enum-known-refusal
-    refused-requires-4
-    enum-known-totals
+    (search needs)
+    (search needs)
+    (search needs)
     store-items-requires
     mul-accepted
-    accepted-requires
+    (search needs)
     returns-3
     returns-4
-    same-length
+    (search needs)
     returns-5)

@@ -29,26 +29,11 @@ turn c = let at = c .before in at .loop .inv .2 ∙ badFrom-next (at .before .be
 loop-holds : tie.Need-loop-holds Inv-loop μ-loop
 loop-holds c = (omega arith, refl, refl)
 
-shared-slice-read-is-printable : tie.Need-shared-slice-read-is-printable Inv-loop μ-loop
-shared-slice-read-is-printable c = omega arith
-
-is-printable-requires : tie.Need-is-printable-requires Inv-loop μ-loop
-is-printable-requires c κs = search needs
-
 returns : tie.Need-returns Inv-loop μ-loop
 returns c =
     let at = c .before .before .before in
     let bad : isPrintable (byte at) ≡ false = sym (c .before .is-printable .ensures) ∙ not-true _ (c .if1 .taken) in
     at .before .loop .inv .1 ∙ sym (turn at ∙ rw bad)
-
-add-position : tie.Need-add-position Inv-loop μ-loop
-add-position c = omega arith
-
-add-i : tie.Need-add-i Inv-loop μ-loop
-add-i c = omega arith
-
-loop-less : tie.Need-loop-less Inv-loop μ-loop
-loop-less c = omega arith
 
 loop-again : tie.Need-loop-again Inv-loop μ-loop
 loop-again c =
@@ -66,11 +51,11 @@ first-bad-spec =
     Inv-loop
     μ-loop
     loop-holds
-    shared-slice-read-is-printable
-    is-printable-requires
+    (search needs)
+    (search needs)
     returns
-    add-position
-    add-i
-    loop-less
+    (search needs)
+    (search needs)
+    (search needs)
     loop-again
     returns-2)

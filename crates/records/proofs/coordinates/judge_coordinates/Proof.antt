@@ -14,35 +14,11 @@ use Rattle.records.proofs.Rows.{digits-both, stop-digits}
 use Rattle.records.proofs.coordinates.judge_coordinates.Statement.{statement}
 use Rattle.records.proofs.coordinates.judge_coordinates.Tie as tie
 
-digits-equal-to-requires : tie.Need-digits-equal-to-requires
-digits-equal-to-requires c κs = search needs
-
-enum-known-number : tie.Need-enum-known-number
-enum-known-number c = search needs
-
 abbrev entered : tie.After-shared-slice-known → Reached
 entered c = enter (numberChecks (c .before .args .n) (c .before .args .rec .now) ++ coordinatesChecks (headerOf (c .before .args .header .now) .abi) (c .before .args .rec .now)) (right R16 0)
 
 returns : tie.Need-returns
 returns c = stop-digits (entered (c .before .before .before .before .before)) _ 4 _ _ refl (sym (c .before .before .before .digits-equal-to .ensures) ∙ ap numberAnswer (c .before .number .given .1))
-
-enum-told : tie.Need-enum-told
-enum-told c = search needs
-
-slice-aggregate-same : tie.Need-slice-aggregate-same
-slice-aggregate-same c = search needs
-
-same-requires : tie.Need-same-requires
-same-requires c κs = search needs
-
-slice-aggregate-same-2 : tie.Need-slice-aggregate-same-2
-slice-aggregate-same-2 c = search needs
-
-same-requires-2 : tie.Need-same-requires-2
-same-requires-2 c κs = search needs
-
-either-requires : tie.Need-either-requires
-either-requires c κs = search needs
 
 abbrev past-4 : tie.After-enum-told → Reached
 past-4 c = pass-row (entered (c .before .before .before .before)) (digits-both _ _ _ (sym (c .before .before .digits-equal-to .ensures) ∙ ap numberAnswer (c .enum-told .given .1)))
@@ -50,17 +26,11 @@ past-4 c = pass-row (entered (c .before .before .before .before)) (digits-both _
 returns-2 : tie.Need-returns-2
 returns-2 c = stop (past-4 (c .before .before .before .before .before .before)) (sym (c .before .either .ensures ∙ ap₂ _||_ (c .before .before .before .before .same .ensures) (c .before .before .same2 .ensures)) ∙ not-true _ (c .if1 .taken))
 
-digits-requires : tie.Need-digits-requires
-digits-requires c κs = search needs
-
 abbrev past-11 : tie.Else1 → Reached
 past-11 c = pass (past-4 (c .before .before .before .before .before .before)) (sym (c .before .either .ensures ∙ ap₂ _||_ (c .before .before .before .before .same .ensures) (c .before .before .same2 .ensures)) ∙ not-false _ (c .if1 .left))
 
 returns-3 : tie.Need-returns-3
 returns-3 c = stop (past-11 (c .before .before)) (sym (c .before .digits .ensures) ∙ not-true _ (c .if2 .taken))
-
-blank-requires : tie.Need-blank-requires
-blank-requires c κs = search needs
 
 abbrev past-13 : tie.Else2 → Reached
 past-13 c = pass (past-11 (c .before .before)) (sym (c .before .digits .ensures) ∙ not-false _ (c .if2 .left))
@@ -68,38 +38,17 @@ past-13 c = pass (past-11 (c .before .before)) (sym (c .before .digits .ensures)
 returns-4 : tie.Need-returns-4
 returns-4 c = stop (past-13 (c .before .before)) (ap not (sym (c .before .blank .ensures) ∙ c .if3 .taken))
 
-equal-to-abi-requires : tie.Need-equal-to-abi-requires
-equal-to-abi-requires c κs = search needs
-
-enum-known-number-2 : tie.Need-enum-known-number-2
-enum-known-number-2 c = search needs
-
 abbrev past-15 : tie.Else3 → Reached
 past-15 c = pass (past-13 (c .before .before)) (ap not (sym (c .before .blank .ensures) ∙ c .if3 .left))
 
 returns-5 : tie.Need-returns-5
 returns-5 c = stop-digits (past-15 (c .before .before .before .before)) _ 16 _ _ refl (sym (c .before .before .before .equal-to-abi .ensures) ∙ ap numberAnswer (c .before .number2 .given .1))
 
-enum-told-2 : tie.Need-enum-told-2
-enum-told-2 c = search needs
-
-above-zero-requires : tie.Need-above-zero-requires
-above-zero-requires c κs = search needs
-
-enum-known-number-3 : tie.Need-enum-known-number-3
-enum-known-number-3 c = search needs
-
 abbrev past-16 : tie.After-enum-told2 → Reached
 past-16 c = pass-row (past-15 (c .before .before .before)) (digits-both _ _ _ (sym (c .before .before .equal-to-abi .ensures) ∙ ap numberAnswer (c .enum-told2 .given .1)))
 
 returns-6 : tie.Need-returns-6
 returns-6 c = stop-digits (past-16 (c .before .before .before .before)) _ 21 _ _ refl (sym (c .before .before .before .above-zero .ensures) ∙ ap numberAnswer (c .before .number3 .given .1))
-
-enum-told-3 : tie.Need-enum-told-3
-enum-told-3 c = search needs
-
-blank-requires-2 : tie.Need-blank-requires-2
-blank-requires-2 c κs = search needs
 
 abbrev past-21 : tie.After-enum-told3 → Reached
 past-21 c = pass-row (past-16 (c .before .before .before)) (digits-both _ _ _ (sym (c .before .before .above-zero .ensures) ∙ ap numberAnswer (c .enum-told3 .given .1)))
@@ -117,28 +66,28 @@ pub judge-coordinates-spec : {M : Type 1} → statement M
 judge-coordinates-spec =
     tie.close
     (tie.spec
-    digits-equal-to-requires
-    enum-known-number
+    (search needs)
+    (search needs)
     returns
-    enum-told
-    slice-aggregate-same
-    same-requires
-    slice-aggregate-same-2
-    same-requires-2
-    either-requires
+    (search needs)
+    (search needs)
+    (search needs)
+    (search needs)
+    (search needs)
+    (search needs)
     returns-2
-    digits-requires
+    (search needs)
     returns-3
-    blank-requires
+    (search needs)
     returns-4
-    equal-to-abi-requires
-    enum-known-number-2
+    (search needs)
+    (search needs)
     returns-5
-    enum-told-2
-    above-zero-requires
-    enum-known-number-3
+    (search needs)
+    (search needs)
+    (search needs)
     returns-6
-    enum-told-3
-    blank-requires-2
+    (search needs)
+    (search needs)
     returns-7
     returns-8)

@@ -14,26 +14,11 @@ use Rattle.records.proofs.Rows.{digits-both, stop-digits}
 use Rattle.records.proofs.detail.judge_control.Statement.{statement}
 use Rattle.records.proofs.detail.judge_control.Tie as tie
 
-digits-equal-to-requires : tie.Need-digits-equal-to-requires
-digits-equal-to-requires c κs = search needs
-
-enum-known-number : tie.Need-enum-known-number
-enum-known-number c = search needs
-
 abbrev entered : tie.After-shared-slice-known → Reached
 entered c = enter (numberChecks (c .before .args .n) (c .before .args .rec .now) ++ (check (isListed (byteAt 94 (c .before .args .rec .now)) (text " PB")) 6 94 ∷ [])) (right R70 0)
 
 returns : tie.Need-returns
 returns c = stop-digits (entered (c .before .before .before .before)) _ 4 _ _ refl (sym (c .before .before .before .digits-equal-to .ensures) ∙ ap numberAnswer (c .before .number .given .1))
-
-enum-told : tie.Need-enum-told
-enum-told c = search needs
-
-slice-aggregate-listed : tie.Need-slice-aggregate-listed
-slice-aggregate-listed c = search needs
-
-listed-requires : tie.Need-listed-requires
-listed-requires c κs = search needs
 
 abbrev past-4 : tie.After-enum-told → Reached
 past-4 c = pass-row (entered (c .before .before .before)) (digits-both _ _ _ (sym (c .before .before .digits-equal-to .ensures) ∙ ap numberAnswer (c .enum-told .given .1)))
@@ -51,11 +36,11 @@ pub judge-control-spec : {M : Type 1} → statement M
 judge-control-spec =
     tie.close
     (tie.spec
-    digits-equal-to-requires
-    enum-known-number
+    (search needs)
+    (search needs)
     returns
-    enum-told
-    slice-aggregate-listed
-    listed-requires
+    (search needs)
+    (search needs)
+    (search needs)
     returns-2
     returns-3)

@@ -9,20 +9,11 @@ use Rattle.records.proofs.Rows.{digits-both, stop-digits}
 use Rattle.records.proofs.detail.judge_numbered.Statement.{statement}
 use Rattle.records.proofs.detail.judge_numbered.Tie as tie
 
-digits-equal-to-requires : tie.Need-digits-equal-to-requires
-digits-equal-to-requires c κs = search needs
-
-enum-known-number : tie.Need-enum-known-number
-enum-known-number c = search needs
-
 abbrev entered : tie.After-shared-slice-known → Reached
 entered c = enter (numberChecks (c .before .args .n) (c .before .args .rec .now)) (right (c .before .args .kind) 0)
 
 returns : tie.Need-returns
 returns c = stop-digits (entered (c .before .before .before .before)) _ 4 _ _ refl (sym (c .before .before .before .digits-equal-to .ensures) ∙ ap numberAnswer (c .before .number .given .1))
-
-enum-told : tie.Need-enum-told
-enum-told c = search needs
 
 abbrev past-4 : tie.After-enum-told → Reached
 past-4 c = pass-row (entered (c .before .before .before)) (digits-both _ _ _ (sym (c .before .before .digits-equal-to .ensures) ∙ ap numberAnswer (c .enum-told .given .1)))
@@ -32,4 +23,4 @@ returns-2 c = done (past-4 c) refl
 
 pub judge-numbered-spec : {M : Type 1} → statement M
 judge-numbered-spec =
-    tie.close (tie.spec digits-equal-to-requires enum-known-number returns enum-told returns-2)
+    tie.close (tie.spec (search needs) (search needs) returns (search needs) returns-2)

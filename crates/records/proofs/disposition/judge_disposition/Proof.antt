@@ -19,26 +19,11 @@ use Rattle.records.proofs.Rows.{fits, digits-both, date-both, stop-digi
 use Rattle.records.proofs.disposition.judge_disposition.Statement.{statement}
 use Rattle.records.proofs.disposition.judge_disposition.Tie as tie
 
-digits-equal-to-requires : tie.Need-digits-equal-to-requires
-digits-equal-to-requires c κs = search needs
-
-enum-known-number : tie.Need-enum-known-number
-enum-known-number c = search needs
-
 abbrev entered : tie.After-shared-slice-known → Reached
 entered c = enter (numberChecks (c .before .args .n) (c .before .args .rec .now) ++ dispositionChecks (headerOf (c .before .args .header .now) .abi) (c .before .args .company .now) (c .before .args .rec .now)) (right R14 (number (amountIn (c .before .args .rec .now))))
 
 returns : tie.Need-returns
 returns c = stop-digits (entered (c .before .before .before .before .before .before)) _ 4 _ _ refl (sym (c .before .before .before .digits-equal-to .ensures) ∙ ap numberAnswer (c .before .number .given .1))
-
-enum-told : tie.Need-enum-told
-enum-told c = search needs
-
-date-requires : tie.Need-date-requires
-date-requires c κs = search needs
-
-enum-known-number-2 : tie.Need-enum-known-number-2
-enum-known-number-2 c = search needs
 
 abbrev past-4 : tie.After-enum-told → Reached
 past-4 c = pass-row (entered (c .before .before .before .before .before)) (digits-both _ _ _ (sym (c .before .before .digits-equal-to .ensures) ∙ ap numberAnswer (c .enum-told .given .1)))
@@ -46,29 +31,11 @@ past-4 c = pass-row (entered (c .before .before .before .before .before)) (digit
 returns-2 : tie.Need-returns-2
 returns-2 c = stop-date (past-4 (c .before .before .before .before)) _ 23 refl (sym (c .before .before .before .date .ensures) ∙ ap dateAnswer (c .before .number2 .given .1))
 
-enum-told-2 : tie.Need-enum-told-2
-enum-told-2 c = search needs
-
-slice-aggregate-same : tie.Need-slice-aggregate-same
-slice-aggregate-same c = search needs
-
-same-requires : tie.Need-same-requires
-same-requires c κs = search needs
-
 abbrev past-23 : tie.After-enum-told2 → Reached
 past-23 c = pass-row (past-4 (c .before .before .before)) (date-both _ (sym (c .before .before .date .ensures) ∙ ap dateAnswer (c .enum-told2 .given .1)))
 
 returns-3 : tie.Need-returns-3
 returns-3 c = stop (past-23 (c .before .before .before)) (sym (c .before .same .ensures) ∙ not-true _ (c .if1 .taken))
-
-amount-requires : tie.Need-amount-requires
-amount-requires c κs = search needs
-
-enum-known-cents : tie.Need-enum-known-cents
-enum-known-cents c = search needs
-
-enum-known-number-3 : tie.Need-enum-known-number-3
-enum-known-number-3 c = search needs
 
 abbrev past-29 : tie.Else1 → Reached
 past-29 c = pass (past-23 (c .before .before .before)) (sym (c .before .same .ensures) ∙ not-false _ (c .if1 .left))
@@ -85,12 +52,6 @@ returns-4 c =
     let told = c .before .before .before in
     stop-all (past-29 (told .before)) (amountChecks (rec-of told)) _ _ 34 refl (by-rule told .refuses _ .0 (sym (told .amount .ensures) ∙ ap numberAnswer (c .before .number3 .given .1)))
 
-slice-aggregate-same-2 : tie.Need-slice-aggregate-same-2
-slice-aggregate-same-2 c = search needs
-
-same-requires-2 : tie.Need-same-requires-2
-same-requires-2 c κs = search needs
-
 -- the amount, where its rows hold
 read : (c : tie.After-known-told3) → let rec = rec-of (c .before .before .before) in Hold (amountChecks rec) × (c .before .cents .given .0 .0 ≡ number (amountIn rec))
 read c = by-rule (c .before .before .before) .reads _ .0 (sym (c .before .before .before .amount .ensures) ∙ ap numberAnswer (c .before .cents .given .1))
@@ -101,23 +62,11 @@ past-34 c = pass-all (past-29 (c .before .before .before .before)) (amountChecks
 returns-5 : tie.Need-returns-5
 returns-5 c = stop (past-34 (c .before .before .before)) (sym (c .before .same2 .ensures) ∙ not-true _ (c .if2 .taken))
 
-equal-to-abi-requires : tie.Need-equal-to-abi-requires
-equal-to-abi-requires c κs = search needs
-
-enum-known-number-4 : tie.Need-enum-known-number-4
-enum-known-number-4 c = search needs
-
 abbrev past-47 : tie.Else2 → Reached
 past-47 c = pass (past-34 (c .before .before .before)) (sym (c .before .same2 .ensures) ∙ not-false _ (c .if2 .left))
 
 returns-6 : tie.Need-returns-6
 returns-6 c = stop-digits (past-47 (c .before .before .before .before)) _ 48 _ _ refl (sym (c .before .before .before .equal-to-abi .ensures) ∙ ap numberAnswer (c .before .number4 .given .1))
-
-enum-told-3 : tie.Need-enum-told-3
-enum-told-3 c = search needs
-
-blank-or-digits-requires : tie.Need-blank-or-digits-requires
-blank-or-digits-requires c κs = search needs
 
 abbrev past-48 : tie.After-enum-told3 → Reached
 past-48 c = pass-row (past-47 (c .before .before .before)) (digits-both _ _ _ (sym (c .before .before .equal-to-abi .ensures) ∙ ap numberAnswer (c .enum-told3 .given .1)))
@@ -125,20 +74,11 @@ past-48 c = pass-row (past-47 (c .before .before .before)) (digits-both _ _ _ (s
 returns-7 : tie.Need-returns-7
 returns-7 c = stop (past-48 (c .before .before)) (sym (c .before .blank-or-digits .ensures) ∙ not-true _ (c .if3 .taken))
 
-field-requires : tie.Need-field-requires
-field-requires c κs = search needs
-
-agreeing-requires : tie.Need-agreeing-requires
-agreeing-requires c κs = search needs
-
 abbrev past-53 : tie.Else3 → Reached
 past-53 c = pass (past-48 (c .before .before)) (sym (c .before .blank-or-digits .ensures) ∙ not-false _ (c .if3 .left))
 
 returns-8 : tie.Need-returns-8
 returns-8 c = stop (past-53 (c .before .before .before)) (sym (c .before .agreeing .ensures ∙ ap (agrees _) (c .before .before .field .ensures .0)) ∙ not-true _ (c .if4 .taken))
-
-slice-aggregate-listed : tie.Need-slice-aggregate-listed
-slice-aggregate-listed c = search needs
 
 listed-requires : tie.Need-listed-requires
 listed-requires c κs = fits 97 97 _ (c .before .before .before .before .before .before .before .before .before .before .before .before .before .before .before .before .before .before .before .before .before .before .before .before .before .before .before .before .pre) (omega arith) (omega arith) (omega arith) (omega arith)
@@ -148,12 +88,6 @@ past-92 c = pass (past-53 (c .before .before .before)) (sym (c .before .agreeing
 
 returns-9 : tie.Need-returns-9
 returns-9 c = stop (past-92 (c .before .before .before)) (sym (c .before .listed .ensures) ∙ not-true _ (c .if5 .taken))
-
-slice-aggregate-same-3 : tie.Need-slice-aggregate-same-3
-slice-aggregate-same-3 c = search needs
-
-same-requires-3 : tie.Need-same-requires-3
-same-requires-3 c κs = search needs
 
 abbrev past-97 : tie.Else5 → Reached
 past-97 c = pass (past-92 (c .before .before .before)) (sym (c .before .listed .ensures) ∙ not-false _ (c .if5 .left))
@@ -171,37 +105,37 @@ pub judge-disposition-spec : {M : Type 1} → statement M
 judge-disposition-spec =
     tie.close
     (tie.spec
-    digits-equal-to-requires
-    enum-known-number
+    (search needs)
+    (search needs)
     returns
-    enum-told
-    date-requires
-    enum-known-number-2
+    (search needs)
+    (search needs)
+    (search needs)
     returns-2
-    enum-told-2
-    slice-aggregate-same
-    same-requires
+    (search needs)
+    (search needs)
+    (search needs)
     returns-3
-    amount-requires
-    enum-known-cents
-    enum-known-number-3
+    (search needs)
+    (search needs)
+    (search needs)
     returns-4
-    slice-aggregate-same-2
-    same-requires-2
+    (search needs)
+    (search needs)
     returns-5
-    equal-to-abi-requires
-    enum-known-number-4
+    (search needs)
+    (search needs)
     returns-6
-    enum-told-3
-    blank-or-digits-requires
+    (search needs)
+    (search needs)
     returns-7
-    field-requires
-    agreeing-requires
+    (search needs)
+    (search needs)
     returns-8
-    slice-aggregate-listed
+    (search needs)
     listed-requires
     returns-9
-    slice-aggregate-same-3
-    same-requires-3
+    (search needs)
+    (search needs)
     returns-10
     returns-11)

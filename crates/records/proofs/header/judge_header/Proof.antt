@@ -12,17 +12,11 @@ use Rattle.records.proofs.Rows.{date-both, stop-date}
 use Rattle.records.proofs.header.judge_header.Statement.{statement}
 use Rattle.records.proofs.header.judge_header.Tie as tie
 
-blank-requires : tie.Need-blank-requires
-blank-requires c κs = search needs
-
 abbrev entered : tie.After-shared-slice-known → Reached
 entered c = enter (headerChecks (c .before .args .rec .now)) (right Im 0)
 
 returns : tie.Need-returns
 returns c = stop (entered (c .before .before)) (ap not (sym (c .before .blank .ensures) ∙ c .if1 .taken))
-
-digits-requires : tie.Need-digits-requires
-digits-requires c κs = search needs
 
 abbrev past-4 : tie.Else1 → Reached
 past-4 c = pass (entered (c .before .before)) (ap not (sym (c .before .blank .ensures) ∙ c .if1 .left))
@@ -30,23 +24,11 @@ past-4 c = pass (entered (c .before .before)) (ap not (sym (c .before .blank .en
 returns-2 : tie.Need-returns-2
 returns-2 c = stop (past-4 (c .before .before)) (sym (c .before .digits .ensures) ∙ not-true _ (c .if2 .taken))
 
-date-requires : tie.Need-date-requires
-date-requires c κs = search needs
-
-enum-known-number : tie.Need-enum-known-number
-enum-known-number c = search needs
-
 abbrev past-9 : tie.Else2 → Reached
 past-9 c = pass (past-4 (c .before .before)) (sym (c .before .digits .ensures) ∙ not-false _ (c .if2 .left))
 
 returns-3 : tie.Need-returns-3
 returns-3 c = stop-date (past-9 (c .before .before .before .before)) _ 14 refl (sym (c .before .before .before .date .ensures) ∙ ap dateAnswer (c .before .number .given .1))
-
-enum-told : tie.Need-enum-told
-enum-told c = search needs
-
-blank-requires-2 : tie.Need-blank-requires-2
-blank-requires-2 c κs = search needs
 
 abbrev past-14 : tie.After-enum-told → Reached
 past-14 c = pass-row (past-9 (c .before .before .before)) (date-both _ (sym (c .before .before .date .ensures) ∙ ap dateAnswer (c .enum-told .given .1)))
@@ -54,32 +36,11 @@ past-14 c = pass-row (past-9 (c .before .before .before)) (date-both _ (sym (c .
 returns-4 : tie.Need-returns-4
 returns-4 c = stop (past-14 (c .before .before)) (ap not (sym (c .before .blank2 .ensures) ∙ c .if3 .taken))
 
-blank-requires-3 : tie.Need-blank-requires-3
-blank-requires-3 c κs = search needs
-
-slice-aggregate-same : tie.Need-slice-aggregate-same
-slice-aggregate-same c = search needs
-
-same-requires : tie.Need-same-requires
-same-requires c κs = search needs
-
-either-requires : tie.Need-either-requires
-either-requires c κs = search needs
-
 abbrev past-20 : tie.Else3 → Reached
 past-20 c = pass (past-14 (c .before .before)) (ap not (sym (c .before .blank2 .ensures) ∙ c .if3 .left))
 
 returns-5 : tie.Need-returns-5
 returns-5 c = stop (past-20 (c .before .before .before .before .before)) (sym (c .before .either .ensures ∙ ap₂ _||_ (c .before .before .before .before .blank3 .ensures) (c .before .before .same .ensures)) ∙ not-true _ (c .if4 .taken))
-
-slice-aggregate-same-2 : tie.Need-slice-aggregate-same-2
-slice-aggregate-same-2 c = search needs
-
-same-requires-2 : tie.Need-same-requires-2
-same-requires-2 c κs = search needs
-
-either-requires-2 : tie.Need-either-requires-2
-either-requires-2 c κs = search needs
 
 abbrev past-105 : tie.Else4 → Reached
 past-105 c = pass (past-20 (c .before .before .before .before .before)) (sym (c .before .either .ensures ∙ ap₂ _||_ (c .before .before .before .before .blank3 .ensures) (c .before .before .same .ensures)) ∙ not-false _ (c .if4 .left))
@@ -87,23 +48,11 @@ past-105 c = pass (past-20 (c .before .before .before .before .before)) (sym (c 
 returns-6 : tie.Need-returns-6
 returns-6 c = stop (past-105 (c .before .before .before .before)) (sym (c .before .either2 .ensures ∙ ap₂ _||_ (c .before .before .before .before .before .before .before .before .blank3 .ensures) (c .before .before .same2 .ensures)) ∙ not-true _ (c .if5 .taken))
 
-digits-requires-2 : tie.Need-digits-requires-2
-digits-requires-2 c κs = search needs
-
-either-requires-3 : tie.Need-either-requires-3
-either-requires-3 c κs = search needs
-
 abbrev past-106 : tie.Else5 → Reached
 past-106 c = pass (past-105 (c .before .before .before .before)) (sym (c .before .either2 .ensures ∙ ap₂ _||_ (c .before .before .before .before .before .before .before .before .blank3 .ensures) (c .before .before .same2 .ensures)) ∙ not-false _ (c .if5 .left))
 
 returns-7 : tie.Need-returns-7
 returns-7 c = stop (past-106 (c .before .before .before)) (sym (c .before .either3 .ensures ∙ ap₂ _||_ (c .before .before .before .before .before .before .before .before .before .before .before .blank3 .ensures) (c .before .before .digits2 .ensures)) ∙ not-true _ (c .if6 .taken))
-
-slice-aggregate-same-3 : tie.Need-slice-aggregate-same-3
-slice-aggregate-same-3 c = search needs
-
-same-requires-3 : tie.Need-same-requires-3
-same-requires-3 c κs = search needs
 
 abbrev past-107 : tie.Else6 → Reached
 past-107 c = pass (past-106 (c .before .before .before)) (sym (c .before .either3 .ensures ∙ ap₂ _||_ (c .before .before .before .before .before .before .before .before .before .before .before .blank3 .ensures) (c .before .before .digits2 .ensures)) ∙ not-false _ (c .if6 .left))
@@ -121,29 +70,29 @@ pub judge-header-spec : {M : Type 1} → statement M
 judge-header-spec =
     tie.close
     (tie.spec
-    blank-requires
+    (search needs)
     returns
-    digits-requires
+    (search needs)
     returns-2
-    date-requires
-    enum-known-number
+    (search needs)
+    (search needs)
     returns-3
-    enum-told
-    blank-requires-2
+    (search needs)
+    (search needs)
     returns-4
-    blank-requires-3
-    slice-aggregate-same
-    same-requires
-    either-requires
+    (search needs)
+    (search needs)
+    (search needs)
+    (search needs)
     returns-5
-    slice-aggregate-same-2
-    same-requires-2
-    either-requires-2
+    (search needs)
+    (search needs)
+    (search needs)
     returns-6
-    digits-requires-2
-    either-requires-3
+    (search needs)
+    (search needs)
     returns-7
-    slice-aggregate-same-3
-    same-requires-3
+    (search needs)
+    (search needs)
     returns-8
     returns-9)

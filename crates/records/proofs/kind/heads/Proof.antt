@@ -12,14 +12,8 @@ use Rattle.records.proofs.kind.heads.Tie as tie
 abbrev others : List ℕ
 others = 1 ∷ 2 ∷ 3 ∷ 4 ∷ 5 ∷ 6 ∷ 7 ∷ 8 ∷ 9 ∷ 10 ∷ []
 
-enum-told : tie.Need-enum-told
-enum-told c = search needs
-
-returns : tie.Need-returns
-returns c = search needs
-
 returns-2 : tie.Need-returns-2
 returns-2 c = fails-at heads others (refl, (refl, (refl, (refl, (refl, (refl, (refl, (refl, (refl, (refl, (refl, tt))))))))))) (c .before .args .kind) (c .match .keys2)
 
 pub heads-spec : {M : Type 1} → statement M
-heads-spec = tie.close (tie.spec enum-told returns returns-2)
+heads-spec = tie.close (tie.spec (search needs) (λ c. search needs) returns-2)

@@ -25,18 +25,6 @@ starts first last from rec e some within =
     let within : first - 1 < length rec = omega arith in
     e ∙ rw (lt-ltb _ _ some, lt-ltb _ _ within)
 
-before-requires : tie.Need-before-requires
-before-requires c κs = search needs
-
-sub-result : tie.Need-sub-result
-sub-result c = search needs
-
-part-result-start : tie.Need-part-result-start
-part-result-start c = search needs
-
-part-result-end : tie.Need-part-result-end
-part-result-end c = search needs
-
 returns : tie.Need-returns
 returns c =
     let at = c .before .before in
@@ -45,30 +33,12 @@ returns c =
     let lent = at .before .before .args in
     (rw none, (refl, ap (λ (n : ℕ). n + lent .rec .ptr .1) (no-positions (lent .first) (lent .last) (lent .rec .now) from)))
 
-sub-result-2 : tie.Need-sub-result-2
-sub-result-2 c = search needs
-
-part-result-start-2 : tie.Need-part-result-start-2
-part-result-start-2 c = search needs
-
-part-result-end-2 : tie.Need-part-result-end-2
-part-result-end-2 c = search needs
-
 returns-2 : tie.Need-returns-2
 returns-2 c =
     let at = c .before .before .before in
     let past : length (at .before .before .args .rec .now) ≤ at .before .before .args .first - 1 = omega (arith, at .before2 .ensures) in
     let lent = at .before .before .args in
     (rw (drop-of-length-le _ past, take-nil), (refl, ap (λ (n : ℕ). n + lent .rec .ptr .1) (past-the-end (lent .first) (lent .last) (lent .rec .now) past)))
-
-sub-result-3 : tie.Need-sub-result-3
-sub-result-3 c = search needs
-
-part-result-start-3 : tie.Need-part-result-start-3
-part-result-start-3 c = search needs
-
-part-result-end-3 : tie.Need-part-result-end-3
-part-result-end-3 c = search needs
 
 returns-3 : tie.Need-returns-3
 returns-3 c =
@@ -80,15 +50,6 @@ returns-3 c =
     let whole : length (drop from rec) ≤ length rec - from = omega (arith, length-drop from rec) in
     (rw (← at .before2 .ensures) (take-all _ _ whole ∙ sym (take-all _ _ short)), (refl, ap (λ (n : ℕ). n + lent .rec .ptr .1) (starts (lent .first) (lent .last) (at .before2 .result) (lent .rec .now) (at .before2 .ensures) (omega arith) (omega arith))))
 
-sub-result-4 : tie.Need-sub-result-4
-sub-result-4 c = search needs
-
-part-result-start-4 : tie.Need-part-result-start-4
-part-result-start-4 c = search needs
-
-part-result-end-4 : tie.Need-part-result-end-4
-part-result-end-4 c = search needs
-
 returns-4 : tie.Need-returns-4
 returns-4 c =
     let at = c .before .before .before .before in
@@ -99,20 +60,20 @@ pub field-spec : {M : Type 1} → statement M
 field-spec =
     tie.close
     (tie.spec
-    before-requires
-    sub-result
-    part-result-start
-    part-result-end
+    (search needs)
+    (search needs)
+    (search needs)
+    (search needs)
     returns
-    sub-result-2
-    part-result-start-2
-    part-result-end-2
+    (search needs)
+    (search needs)
+    (search needs)
     returns-2
-    sub-result-3
-    part-result-start-3
-    part-result-end-3
+    (search needs)
+    (search needs)
+    (search needs)
     returns-3
-    sub-result-4
-    part-result-start-4
-    part-result-end-4
+    (search needs)
+    (search needs)
+    (search needs)
     returns-4)

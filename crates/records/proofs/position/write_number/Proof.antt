@@ -12,31 +12,13 @@ use Rattle.records.proofs.NumberWritten.{none-written, some-written}
 use Rattle.records.proofs.position.write_number.Statement.{statement}
 use Rattle.records.proofs.position.write_number.Tie as tie
 
-before-requires : tie.Need-before-requires
-before-requires c κs = search needs
-
-least-requires : tie.Need-least-requires
-least-requires c κs = search needs
-
 returns : tie.Need-returns
 returns c =
     let args = c .before .before .before .before .args in
     none-written (args .first) (args .last) (args .value) (args .rec .now) (omega (arith, c .before .before .before2 .ensures, c .before .least .ensures))
 
-sub-write-digits : tie.Need-sub-write-digits
-sub-write-digits c = search needs
-
-part-write-digits-start : tie.Need-part-write-digits-start
-part-write-digits-start c = search needs
-
 part-write-digits-end : tie.Need-part-write-digits-end
 part-write-digits-end c = omega (arith, c .before .least .ensures)
-
-write-digits-requires : tie.Need-write-digits-requires
-write-digits-requires c κs = search needs
-
-same-length : tie.Need-same-length
-same-length c = search needs
 
 returns-2 : tie.Need-returns-2
 returns-2 c =
@@ -59,12 +41,12 @@ pub write-number-spec : {M : Type 1} → statement M
 write-number-spec =
     tie.close
     (tie.spec
-    before-requires
-    least-requires
+    (search needs)
+    (search needs)
     returns
-    sub-write-digits
-    part-write-digits-start
+    (search needs)
+    (search needs)
     part-write-digits-end
-    write-digits-requires
-    same-length
+    (search needs)
+    (search needs)
     returns-2)

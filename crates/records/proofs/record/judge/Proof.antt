@@ -12,72 +12,6 @@ returns : tie.Need-returns
 unfolding judge
 returns c = rw (ne-eqb _ 120 (c .if1 .taken))
 
-enum-told : tie.Need-enum-told
-enum-told c = search needs
-
-judge-header-requires : tie.Need-judge-header-requires
-judge-header-requires c κs = search needs
-
-enum-told-2 : tie.Need-enum-told-2
-enum-told-2 c = search needs
-
-judge-disposition-requires : tie.Need-judge-disposition-requires
-judge-disposition-requires c κs = search needs
-
-enum-told-3 : tie.Need-enum-told-3
-enum-told-3 c = search needs
-
-judge-coordinates-requires : tie.Need-judge-coordinates-requires
-judge-coordinates-requires c κs = search needs
-
-enum-told-4 : tie.Need-enum-told-4
-enum-told-4 c = search needs
-
-judge-with-text-requires : tie.Need-judge-with-text-requires
-judge-with-text-requires c κs = search needs
-
-enum-told-5 : tie.Need-enum-told-5
-enum-told-5 c = search needs
-
-judge-with-text-requires-2 : tie.Need-judge-with-text-requires-2
-judge-with-text-requires-2 c κs = search needs
-
-enum-told-6 : tie.Need-enum-told-6
-enum-told-6 c = search needs
-
-judge-numbered-requires : tie.Need-judge-numbered-requires
-judge-numbered-requires c κs = search needs
-
-enum-told-7 : tie.Need-enum-told-7
-enum-told-7 c = search needs
-
-judge-numbered-requires-2 : tie.Need-judge-numbered-requires-2
-judge-numbered-requires-2 c κs = search needs
-
-enum-told-8 : tie.Need-enum-told-8
-enum-told-8 c = search needs
-
-judge-with-text-requires-3 : tie.Need-judge-with-text-requires-3
-judge-with-text-requires-3 c κs = search needs
-
-enum-told-9 : tie.Need-enum-told-9
-enum-told-9 c = search needs
-
-judge-numbered-requires-3 : tie.Need-judge-numbered-requires-3
-judge-numbered-requires-3 c κs = search needs
-
-enum-told-10 : tie.Need-enum-told-10
-enum-told-10 c = search needs
-
-judge-control-requires : tie.Need-judge-control-requires
-judge-control-requires c κs = search needs
-
-enum-told-11 : tie.Need-enum-told-11
-enum-told-11 c = search needs
-
-judge-trailer-requires : tie.Need-judge-trailer-requires
-judge-trailer-requires c κs = search needs
-
 returns-2 : tie.Need-returns-2
 unfolding checks
 returns-2 c = c .judge-header .ensures ∙ of-kind _ _ (c .before .enum-told .given .1) (c .before .before .before .if1 .left)
@@ -127,28 +61,28 @@ judge-spec =
     tie.close
     (tie.spec
     returns
-    enum-told
-    judge-header-requires
-    enum-told-2
-    judge-disposition-requires
-    enum-told-3
-    judge-coordinates-requires
-    enum-told-4
-    judge-with-text-requires
-    enum-told-5
-    judge-with-text-requires-2
-    enum-told-6
-    judge-numbered-requires
-    enum-told-7
-    judge-numbered-requires-2
-    enum-told-8
-    judge-with-text-requires-3
-    enum-told-9
-    judge-numbered-requires-3
-    enum-told-10
-    judge-control-requires
-    enum-told-11
-    judge-trailer-requires
+    (search needs)
+    (search needs)
+    (search needs)
+    (search needs)
+    (search needs)
+    (search needs)
+    (search needs)
+    (search needs)
+    (search needs)
+    (search needs)
+    (search needs)
+    (search needs)
+    (search needs)
+    (search needs)
+    (search needs)
+    (search needs)
+    (search needs)
+    (search needs)
+    (search needs)
+    (search needs)
+    (search needs)
+    (search needs)
     returns-2
     returns-3
     returns-4

@@ -6,23 +6,14 @@ use Rattle.fields.specs.Bytes.{isEqual}
 use Rattle.records.proofs.rules.agreeing.Statement.{statement}
 use Rattle.records.proofs.rules.agreeing.Tie as tie
 
-equal-requires : tie.Need-equal-requires
-equal-requires c κs = search needs
-
 returns : tie.Need-returns
 returns c =
     let a = c .before .before .before .before .args in
     let same : isEqual (a .found .now) (a .company .now) ≡ true = sym (c .before .equal .ensures) ∙ c .if1 .taken in
     rw (same, or-true)
 
-all-blank-requires : tie.Need-all-blank-requires
-all-blank-requires c κs = search needs
-
 returns-2 : tie.Need-returns-2
 returns-2 c = rw (← c .before .all-blank .ensures, c .if2 .taken)
-
-all-blank-requires-2 : tie.Need-all-blank-requires-2
-all-blank-requires-2 c κs = search needs
 
 returns-3 : tie.Need-returns-3
 returns-3 c = rw (← c .before .before .before .before .equal .ensures, c .before .before .before .if1 .left, ← c .before .before .all-blank .ensures, c .before .if2 .left, or-false) (c .all-blank2 .ensures)
@@ -30,4 +21,4 @@ returns-3 c = rw (← c .before .before .before .before .equal .ensures, c .befo
 pub agreeing-spec : {M : Type 1} → statement M
 agreeing-spec =
     tie.close
-    (tie.spec equal-requires returns all-blank-requires returns-2 all-blank-requires-2 returns-3)
+    (tie.spec (search needs) returns (search needs) returns-2 (search needs) returns-3)

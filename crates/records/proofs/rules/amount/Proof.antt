@@ -5,14 +5,8 @@ use Rattle.fields.specs.Amount.{amountField}
 use Rattle.records.proofs.rules.amount.Statement.{statement}
 use Rattle.records.proofs.rules.amount.Tie as tie
 
-field-requires : tie.Need-field-requires
-field-requires c κs = search needs
-
-read-amount-requires : tie.Need-read-amount-requires
-read-amount-requires c κs = search needs
-
 returns : tie.Need-returns
 returns c = c .read-amount .ensures ∙ ap amountField (c .before .field .ensures .0)
 
 pub amount-spec : {M : Type 1} → statement M
-amount-spec = tie.close (tie.spec field-requires read-amount-requires returns)
+amount-spec = tie.close (tie.spec (search needs) (search needs) returns)

@@ -3,14 +3,8 @@ use borrow.Author.Needs.{needs}
 use Rattle.records.proofs.rules.as_in_header.Statement.{statement}
 use Rattle.records.proofs.rules.as_in_header.Tie as tie
 
-field-requires : tie.Need-field-requires
-field-requires c κs = search needs
-
-same-requires : tie.Need-same-requires
-same-requires c κs = search needs
-
 returns : tie.Need-returns
 returns c = rw (← c .before .field .ensures .0) (c .same .ensures)
 
 pub as-in-header-spec : {M : Type 1} → statement M
-as-in-header-spec = tie.close (tie.spec field-requires same-requires returns)
+as-in-header-spec = tie.close (tie.spec (search needs) (search needs) returns)

@@ -3,14 +3,8 @@ use borrow.Author.Needs.{needs}
 use Rattle.records.proofs.rules.blank.Statement.{statement}
 use Rattle.records.proofs.rules.blank.Tie as tie
 
-field-requires : tie.Need-field-requires
-field-requires c κs = search needs
-
-all-blank-requires : tie.Need-all-blank-requires
-all-blank-requires c κs = search needs
-
 returns : tie.Need-returns
 returns c = rw (← c .before .field .ensures .0) (c .all-blank .ensures)
 
 pub blank-spec : {M : Type 1} → statement M
-blank-spec = tie.close (tie.spec field-requires all-blank-requires returns)
+blank-spec = tie.close (tie.spec (search needs) (search needs) returns)

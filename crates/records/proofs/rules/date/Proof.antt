@@ -6,17 +6,8 @@ use Rattle.records.proofs.Rows.{field-date}
 use Rattle.records.proofs.rules.date.Statement.{statement}
 use Rattle.records.proofs.rules.date.Tie as tie
 
-add-field : tie.Need-add-field
-add-field c = search needs
-
-field-requires : tie.Need-field-requires
-field-requires c κs = search needs
-
-read-date-requires : tie.Need-read-date-requires
-read-date-requires c κs = search needs
-
 returns : tie.Need-returns
 returns c = c .read-date .ensures ∙ ap dateField (c .before .field .ensures .0) ∙ field-date _ _ (c .before .before .before .pre)
 
 pub date-spec : {M : Type 1} → statement M
-date-spec = tie.close (tie.spec add-field field-requires read-date-requires returns)
+date-spec = tie.close (tie.spec (search needs) (search needs) (search needs) returns)

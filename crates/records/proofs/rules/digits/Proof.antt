@@ -6,15 +6,6 @@ use Rattle.records.proofs.Rows.{digits-read, digits-refused}
 use Rattle.records.proofs.rules.digits.Statement.{statement}
 use Rattle.records.proofs.rules.digits.Tie as tie
 
-number-at-requires : tie.Need-number-at-requires
-number-at-requires c κs = search needs
-
-enum-told : tie.Need-enum-told
-enum-told c = search needs
-
-enum-told-2 : tie.Need-enum-told-2
-enum-told-2 c = search needs
-
 returns : tie.Need-returns
 returns c = sym (digits-read _ (sym (c .before .before .number-at .ensures) ∙ ap numberAnswer (c .enum-told .given .1)) .0)
 
@@ -22,4 +13,4 @@ returns-2 : tie.Need-returns-2
 returns-2 c = sym (digits-refused _ (sym (c .before .before .number-at .ensures) ∙ ap numberAnswer (c .enum-told2 .given .1)))
 
 pub digits-spec : {M : Type 1} → statement M
-digits-spec = tie.close (tie.spec number-at-requires enum-told enum-told-2 returns returns-2)
+digits-spec = tie.close (tie.spec (search needs) (search needs) (search needs) returns returns-2)

@@ -7,15 +7,6 @@ use Rattle.records.proofs.Rows.{digits-read, digits-refused}
 use Rattle.records.proofs.rules.digits_equal_to.Statement.{statement}
 use Rattle.records.proofs.rules.digits_equal_to.Tie as tie
 
-number-at-requires : tie.Need-number-at-requires
-number-at-requires c κs = search needs
-
-enum-known-found : tie.Need-enum-known-found
-enum-known-found c = search needs
-
-enum-told : tie.Need-enum-told
-enum-told c = search needs
-
 returns : tie.Need-returns
 returns c = rw (digits-refused _ (sym (c .before .before .number-at .ensures) ∙ ap numberAnswer (c .enum-told .given .1)))
 
@@ -31,4 +22,4 @@ returns-3 c =
 
 pub digits-equal-to-spec : {M : Type 1} → statement M
 digits-equal-to-spec =
-    tie.close (tie.spec number-at-requires enum-known-found enum-told returns returns-2 returns-3)
+    tie.close (tie.spec (search needs) (search needs) (search needs) returns returns-2 returns-3)

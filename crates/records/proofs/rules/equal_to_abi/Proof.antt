@@ -6,23 +6,8 @@ use Rattle.records.proofs.Rows.{digits-read, digits-refused}
 use Rattle.records.proofs.rules.equal_to_abi.Statement.{statement}
 use Rattle.records.proofs.rules.equal_to_abi.Tie as tie
 
-number-at-requires : tie.Need-number-at-requires
-number-at-requires c κs = search needs
-
-enum-known-found : tie.Need-enum-known-found
-enum-known-found c = search needs
-
-enum-told : tie.Need-enum-told
-enum-told c = search needs
-
 returns : tie.Need-returns
 returns c = rw (digits-refused _ (sym (c .before .before .number-at .ensures) ∙ ap numberAnswer (c .enum-told .given .1)))
-
-field-requires : tie.Need-field-requires
-field-requires c κs = search needs
-
-same-requires : tie.Need-same-requires
-same-requires c κs = search needs
 
 returns-2 : tie.Need-returns-2
 returns-2 c =
@@ -38,11 +23,11 @@ pub equal-to-abi-spec : {M : Type 1} → statement M
 equal-to-abi-spec =
     tie.close
     (tie.spec
-    number-at-requires
-    enum-known-found
-    enum-told
+    (search needs)
+    (search needs)
+    (search needs)
     returns
-    field-requires
-    same-requires
+    (search needs)
+    (search needs)
     returns-2
     returns-3)

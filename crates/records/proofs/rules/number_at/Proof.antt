@@ -6,14 +6,8 @@ use Rattle.records.proofs.Rows.{field-digits}
 use Rattle.records.proofs.rules.number_at.Statement.{statement}
 use Rattle.records.proofs.rules.number_at.Tie as tie
 
-field-requires : tie.Need-field-requires
-field-requires c κs = search needs
-
-read-digits-requires : tie.Need-read-digits-requires
-read-digits-requires c κs = search needs
-
 returns : tie.Need-returns
 returns c = c .read-digits .ensures ∙ ap digitField (c .before .field .ensures .0) ∙ field-digits _ _ _ (c .before .before .before .pre)
 
 pub number-at-spec : {M : Type 1} → statement M
-number-at-spec = tie.close (tie.spec field-requires read-digits-requires returns)
+number-at-spec = tie.close (tie.spec (search needs) (search needs) returns)

@@ -3,14 +3,8 @@ use borrow.Author.Needs.{needs}
 use Rattle.records.proofs.rules.same.Statement.{statement}
 use Rattle.records.proofs.rules.same.Tie as tie
 
-field-requires : tie.Need-field-requires
-field-requires c κs = search needs
-
-equal-requires : tie.Need-equal-requires
-equal-requires c κs = search needs
-
 returns : tie.Need-returns
 returns c = rw (← c .before .field .ensures .0) (c .equal .ensures)
 
 pub same-spec : {M : Type 1} → statement M
-same-spec = tie.close (tie.spec field-requires equal-requires returns)
+same-spec = tie.close (tie.spec (search needs) (search needs) returns)

@@ -13,17 +13,11 @@ use Rattle.records.proofs.seen.seen_right.Tie as tie
 returns : tie.Need-returns
 returns c = rw (ne-eqb _ 120 (c .if1 .taken))
 
-keeps-rest-requires : tie.Need-keeps-rest-requires
-keeps-rest-requires c κs = search needs
-
 returns-2 : tie.Need-returns-2
 returns-2 c =
     let a = c .before .before .before .before .before .args in
     let kept : keepsRest (a .kind) (a .rec .now) ≡ false = sym (c .before .keeps-rest .ensures) ∙ not-true _ (c .if2 .taken) in
     rw (eq-eqb (length (a .rec .now)) 120 (c .before .before .if1 .left), kept)
-
-same-requires : tie.Need-same-requires
-same-requires c κs = search needs
 
 returns-3 : tie.Need-returns-3
 returns-3 c =
@@ -31,9 +25,6 @@ returns-3 c =
     let kept : keepsRest (a .kind) (a .rec .now) ≡ true = sym (c .before .before .before .keeps-rest .ensures) ∙ not-false _ (c .before .before .if2 .left) in
     let other : isEqual (field 4 10 (a .rec .now)) (a .number .now) ≡ false = sym (c .before .same .ensures) ∙ not-true _ (c .if3 .taken) in
     rw (eq-eqb (length (a .rec .now)) 120 (c .before .before .before .before .if1 .left), kept, other)
-
-bad-byte-requires : tie.Need-bad-byte-requires
-bad-byte-requires c κs = search needs
 
 returns-4 : tie.Need-returns-4
 returns-4 c =
@@ -47,9 +38,9 @@ seen-right-spec =
     tie.close
     (tie.spec
     returns
-    keeps-rest-requires
+    (search needs)
     returns-2
-    same-requires
+    (search needs)
     returns-3
-    bad-byte-requires
+    (search needs)
     returns-4)

@@ -13,17 +13,11 @@ use Rattle.records.proofs.Rows.{fits, digits-both, stop-digits}
 use Rattle.records.proofs.trailer.judge_trailer.Statement.{statement}
 use Rattle.records.proofs.trailer.judge_trailer.Tie as tie
 
-as-in-header-requires : tie.Need-as-in-header-requires
-as-in-header-requires c κs = search needs
-
 abbrev entered : tie.After-shared-slice-known → Reached
 entered c = enter (trailerChecks (headerOf (c .before .args .header .now)) (c .before .args .counts) (c .before .args .rec .now)) (right Ef 0)
 
 returns : tie.Need-returns
 returns c = stop (entered (c .before .before .before)) (sym (c .before .as-in-header .ensures) ∙ not-true _ (c .if1 .taken))
-
-as-in-header-requires-2 : tie.Need-as-in-header-requires-2
-as-in-header-requires-2 c κs = search needs
 
 abbrev past-4 : tie.Else1 → Reached
 past-4 c = pass (entered (c .before .before .before)) (sym (c .before .as-in-header .ensures) ∙ not-false _ (c .if1 .left))
@@ -31,17 +25,11 @@ past-4 c = pass (entered (c .before .before .before)) (sym (c .before .as-in-hea
 returns-2 : tie.Need-returns-2
 returns-2 c = stop (past-4 (c .before .before)) (sym (c .before .as-in-header2 .ensures) ∙ not-true _ (c .if2 .taken))
 
-as-in-header-requires-3 : tie.Need-as-in-header-requires-3
-as-in-header-requires-3 c κs = search needs
-
 abbrev past-9 : tie.Else2 → Reached
 past-9 c = pass (past-4 (c .before .before)) (sym (c .before .as-in-header2 .ensures) ∙ not-false _ (c .if2 .left))
 
 returns-3 : tie.Need-returns-3
 returns-3 c = stop (past-9 (c .before .before)) (sym (c .before .as-in-header3 .ensures) ∙ not-true _ (c .if3 .taken))
-
-as-in-header-requires-4 : tie.Need-as-in-header-requires-4
-as-in-header-requires-4 c κs = search needs
 
 abbrev past-14 : tie.Else3 → Reached
 past-14 c = pass (past-9 (c .before .before)) (sym (c .before .as-in-header3 .ensures) ∙ not-false _ (c .if3 .left))
@@ -49,26 +37,11 @@ past-14 c = pass (past-9 (c .before .before)) (sym (c .before .as-in-header3 .en
 returns-4 : tie.Need-returns-4
 returns-4 c = stop (past-14 (c .before .before)) (sym (c .before .as-in-header4 .ensures) ∙ not-true _ (c .if4 .taken))
 
-digits-equal-to-requires : tie.Need-digits-equal-to-requires
-digits-equal-to-requires c κs = search needs
-
-enum-known-number : tie.Need-enum-known-number
-enum-known-number c = search needs
-
 abbrev past-20 : tie.Else4 → Reached
 past-20 c = pass (past-14 (c .before .before)) (sym (c .before .as-in-header4 .ensures) ∙ not-false _ (c .if4 .left))
 
 returns-5 : tie.Need-returns-5
 returns-5 c = stop-digits (past-20 (c .before .before .before .before)) _ 46 _ _ refl (sym (c .before .before .before .digits-equal-to .ensures) ∙ ap numberAnswer (c .before .number .given .1))
-
-enum-told : tie.Need-enum-told
-enum-told c = search needs
-
-digits-equal-to-requires-2 : tie.Need-digits-equal-to-requires-2
-digits-equal-to-requires-2 c κs = search needs
-
-enum-known-number-2 : tie.Need-enum-known-number-2
-enum-known-number-2 c = search needs
 
 abbrev past-46 : tie.After-enum-told → Reached
 past-46 c = pass-row (past-20 (c .before .before .before)) (digits-both _ _ _ (sym (c .before .before .digits-equal-to .ensures) ∙ ap numberAnswer (c .enum-told .given .1)))
@@ -76,41 +49,20 @@ past-46 c = pass-row (past-20 (c .before .before .before)) (digits-both _ _ _ (s
 returns-6 : tie.Need-returns-6
 returns-6 c = stop-digits (past-46 (c .before .before .before .before)) _ 53 _ _ refl (sym (c .before .before .before .digits-equal-to2 .ensures) ∙ ap numberAnswer (c .before .number2 .given .1))
 
-enum-told-2 : tie.Need-enum-told-2
-enum-told-2 c = search needs
-
-digits-equal-to-requires-3 : tie.Need-digits-equal-to-requires-3
-digits-equal-to-requires-3 c κs = search needs
-
-enum-known-number-3 : tie.Need-enum-known-number-3
-enum-known-number-3 c = search needs
-
 abbrev past-53 : tie.After-enum-told2 → Reached
 past-53 c = pass-row (past-46 (c .before .before .before)) (digits-both _ _ _ (sym (c .before .before .digits-equal-to2 .ensures) ∙ ap numberAnswer (c .enum-told2 .given .1)))
 
 returns-7 : tie.Need-returns-7
 returns-7 c = stop-digits (past-53 (c .before .before .before .before)) _ 68 _ _ refl (sym (c .before .before .before .digits-equal-to3 .ensures) ∙ ap numberAnswer (c .before .number3 .given .1))
 
-enum-told-3 : tie.Need-enum-told-3
-enum-told-3 c = search needs
-
 digits-equal-to-requires-4 : tie.Need-digits-equal-to-requires-4
 digits-equal-to-requires-4 c κs = fits 83 89 _ (c .before .before .before .before .before .before .before .before .before .before .before .before .before .before .before .before .before .before .before .pre) (omega arith) (omega arith) (omega arith) (omega arith)
-
-enum-known-number-4 : tie.Need-enum-known-number-4
-enum-known-number-4 c = search needs
 
 abbrev past-68 : tie.After-enum-told3 → Reached
 past-68 c = pass-row (past-53 (c .before .before .before)) (digits-both _ _ _ (sym (c .before .before .digits-equal-to3 .ensures) ∙ ap numberAnswer (c .enum-told3 .given .1)))
 
 returns-8 : tie.Need-returns-8
 returns-8 c = stop-digits (past-68 (c .before .before .before .before)) _ 83 _ _ refl (sym (c .before .before .before .digits-equal-to4 .ensures) ∙ ap numberAnswer (c .before .number4 .given .1))
-
-enum-told-4 : tie.Need-enum-told-4
-enum-told-4 c = search needs
-
-as-in-header-requires-5 : tie.Need-as-in-header-requires-5
-as-in-header-requires-5 c κs = search needs
 
 abbrev past-83 : tie.After-enum-told4 → Reached
 past-83 c = pass-row (past-68 (c .before .before .before)) (digits-both _ _ _ (sym (c .before .before .digits-equal-to4 .ensures) ∙ ap numberAnswer (c .enum-told4 .given .1)))
@@ -128,30 +80,30 @@ pub judge-trailer-spec : {M : Type 1} → statement M
 judge-trailer-spec =
     tie.close
     (tie.spec
-    as-in-header-requires
+    (search needs)
     returns
-    as-in-header-requires-2
+    (search needs)
     returns-2
-    as-in-header-requires-3
+    (search needs)
     returns-3
-    as-in-header-requires-4
+    (search needs)
     returns-4
-    digits-equal-to-requires
-    enum-known-number
+    (search needs)
+    (search needs)
     returns-5
-    enum-told
-    digits-equal-to-requires-2
-    enum-known-number-2
+    (search needs)
+    (search needs)
+    (search needs)
     returns-6
-    enum-told-2
-    digits-equal-to-requires-3
-    enum-known-number-3
+    (search needs)
+    (search needs)
+    (search needs)
     returns-7
-    enum-told-3
+    (search needs)
     digits-equal-to-requires-4
-    enum-known-number-4
+    (search needs)
     returns-8
-    enum-told-4
-    as-in-header-requires-5
+    (search needs)
+    (search needs)
     returns-9
     returns-10)

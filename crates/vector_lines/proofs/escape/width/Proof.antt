@@ -11,9 +11,6 @@ returns : tie.Need-returns
 unfolding escapeWidth
 returns c = (rw (lt-leb 3 _ (c .if1 .taken)), omega arith)
 
-shared-slice-read-if2 : tie.Need-shared-slice-read-if2
-shared-slice-read-if2 c = search needs
-
 returns-2 : tie.Need-returns-2
 unfolding escapeWidth
 returns-2 c = (rw (le-leb 3 _ (c .before .before .if1 .left), eq-eqb _ 92 (c .if2 .taken)) refl, omega arith)
@@ -23,4 +20,4 @@ unfolding escapeWidth
 returns-3 c = (rw (le-leb 3 _ (c .before .before .if1 .left), ne-eqb _ 92 (c .if2 .left)), omega arith)
 
 pub width-spec : {M : Type 1} → statement M
-width-spec = tie.close (tie.spec returns shared-slice-read-if2 returns-2 returns-3)
+width-spec = tie.close (tie.spec returns (search needs) returns-2 returns-3)

@@ -18,15 +18,6 @@ abbrev μ-loop : tie.MeasureT-loop
 loop-holds : tie.Need-loop-holds Inv-loop μ-loop
 loop-holds c = (refl, refl)
 
-marker-requires : tie.Need-marker-requires Inv-loop μ-loop
-marker-requires c κs = search needs
-
-slice-write-out : tie.Need-slice-write-out Inv-loop μ-loop
-slice-write-out c = search needs
-
-add-i : tie.Need-add-i Inv-loop μ-loop
-add-i c = search needs
-
 loop-less : tie.Need-loop-less Inv-loop μ-loop
 loop-less c = simp length-set (omega arith)
 
@@ -34,9 +25,6 @@ loop-again : tie.Need-loop-again Inv-loop μ-loop
 loop-again c =
     let turn = c .before in
     (simp length-set (omega arith), rw (c .marker .ensures) (marked-next _ (turn .before .loop .i) (turn .loop-test .taken) ∙ turn .before .loop .inv .1))
-
-same-length : tie.Need-same-length Inv-loop μ-loop
-same-length c = search needs
 
 returns : tie.Need-returns Inv-loop μ-loop
 returns c = sym (marked-past _ _ (c .loop-test .left)) ∙ c .before .loop .inv .1
@@ -48,10 +36,10 @@ mark-spec =
     Inv-loop
     μ-loop
     loop-holds
-    marker-requires
-    slice-write-out
-    add-i
+    (search needs)
+    (search needs)
+    (search needs)
     loop-less
     loop-again
-    same-length
+    (search needs)
     returns)

@@ -12,26 +12,8 @@ use Rattle.flow.proofs.walk.Walk.judge.Tie as tie
 returns : tie.Need-returns
 returns c = sym (other-length _ _ _ _ _ (c .if1 .taken))
 
-bad-byte-requires : tie.Need-bad-byte-requires
-bad-byte-requires c κs = search needs
-
 returns-2 : tie.Need-returns-2
 returns-2 c = ap (refused 2) (c .before .bad-byte .ensures) ∙ sym (bad-byte _ _ _ _ _ (c .before .before .if1 .left) (λ e. c .if2 .taken (c .before .bad-byte .ensures ∙ e)))
-
-kind-due-requires : tie.Need-kind-due-requires
-kind-due-requires c κs = search needs
-
-enum-known-kind : tie.Need-enum-known-kind
-enum-known-kind c = search needs
-
-counted-requires : tie.Need-counted-requires
-counted-requires c κs = search needs
-
-judge-requires : tie.Need-judge-requires
-judge-requires c κs = search needs
-
-enum-told : tie.Need-enum-told
-enum-told c = search needs
 
 returns-3 : tie.Need-returns-3
 returns-3 c =
@@ -55,12 +37,12 @@ judge-spec =
     tie.close
     (tie.spec
     returns
-    bad-byte-requires
+    (search needs)
     returns-2
-    kind-due-requires
-    enum-known-kind
-    counted-requires
-    judge-requires
-    enum-told
+    (search needs)
+    (search needs)
+    (search needs)
+    (search needs)
+    (search needs)
     returns-3
     returns-4)

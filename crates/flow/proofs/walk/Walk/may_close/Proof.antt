@@ -13,14 +13,8 @@ use Rattle.flow.proofs.walk.Walk.may_close.Tie as tie
 abbrev others : List ℕ
 others = 0 ∷ 1 ∷ 2 ∷ 3 ∷ 4 ∷ 5 ∷ 6 ∷ 7 ∷ 8 ∷ 9 ∷ 11 ∷ []
 
-enum-told : tie.Need-enum-told
-enum-told c = search needs
-
-returns : tie.Need-returns
-returns c = search needs
-
 returns-2 : tie.Need-returns-2
 returns-2 c = fails-at (λ (d : Due). mayClose (permitted d)) others (refl, (refl, (refl, (refl, (refl, (refl, (refl, (refl, (refl, (refl, (refl, (refl, tt)))))))))))) (c .before .before .args .self .place .due) (c .match .keys2)
 
 pub may-close-spec : {M : Type 1} → statement M
-may-close-spec = tie.close (tie.spec enum-told returns returns-2)
+may-close-spec = tie.close (tie.spec (search needs) (λ c. search needs) returns-2)

@@ -3,17 +3,8 @@ use borrow.Author.Needs.{needs}
 use Rattle.flow.proofs.walk.Walk.next.Statement.{statement}
 use Rattle.flow.proofs.walk.Walk.next.Tie as tie
 
-place-after-requires : tie.Need-place-after-requires
-place-after-requires c κs = search needs
-
-counted-requires : tie.Need-counted-requires
-counted-requires c κs = search needs
-
-sum-requires : tie.Need-sum-requires
-sum-requires c κs = search needs
-
 returns : tie.Need-returns
 returns c = λ i. record { place = c .before .before .place-after .ensures i; dispositions = c .before .counted .ensures i; cents = c .sum .ensures i }
 
 pub next-spec : {M : Type 1} → statement M
-next-spec = tie.close (tie.spec place-after-requires counted-requires sum-requires returns)
+next-spec = tie.close (tie.spec (search needs) (search needs) (search needs) returns)

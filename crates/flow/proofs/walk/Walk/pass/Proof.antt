@@ -8,9 +8,6 @@ use Rattle.flow.proofs.FastPath.{next-place}
 use Rattle.flow.proofs.walk.Walk.pass.Statement.{statement}
 use Rattle.flow.proofs.walk.Walk.pass.Tie as tie
 
-place-after-requires : tie.Need-place-after-requires
-place-after-requires c κs = search needs
-
 returns : tie.Need-returns
 returns c =
     let start = c .before .before in
@@ -21,4 +18,4 @@ returns c =
     ∙ sym (ap (λ (n : ℕ). stopped (step w (right .kind) n)) (start .pre .1 .0) ∙ next-place w (right .kind) none (start .pre .1 .1))
 
 pub pass-spec : {M : Type 1} → statement M
-pass-spec = tie.close (tie.spec place-after-requires returns)
+pass-spec = tie.close (tie.spec (search needs) returns)
