@@ -11,95 +11,94 @@ use lib.ListN.{length}
 use borrow.Author.Tests.{leb-true, leb-false, ltb-true, ltb-false, le-leb, lt-leb}
 use Rattle.fields.specs.Amount.{mostAmount}
 use Rattle.records.specs.Limits.{mostCents}
-use Rattle.flow.specs.Find.{IsNumber, find}
+use Rattle.flow.specs.Find.{IsNumber, find, withTotals, findWithTotals}
 use Rattle.flow.specs.Judge.{judge}
-use Rattle.flow.specs.Seek.{target, seek}
 use Rattle.flow.specs.Verdict.{Verdict, accepted, refused, ofCall}
 use Rattle.flow.specs.declared.answer.Refusal.{Refusal}
 use Rattle.flow.specs.declared.answer.Totals.{Totals}
-use Rattle.flow.specs.declared.location.Stand.{Stand}
-use Rattle.flow.specs.declared.location.Target.{Target}
+use Rattle.flow.specs.declared.location.Location.{Location}
+use Rattle.flow.specs.declared.location.WithTotals.{WithTotals}
 use Rattle.flow.proofs.Accepted.{accepted-not-refused, accepted-same, refused-same}
 use Rattle.flow.proofs.Dispositions.{find-refused, find-so, found-stands}
-use Rattle.flow.proofs.Sought.{read-found, not-found}
-use Rattle.flow.proofs.Sought.{not-read as unread-so}
-use Rattle.grammar.specs.Grammar.{amountOf, Grammar}
-use Rattle.amend.specs.Amended.{Amended, unchanged}
-use Rattle.amend.specs.Change.{totalsChanged, changed, changeAt, changeFound, change}
+use Rattle.flow.proofs.FindWithTotals.{read-found, not-found}
+use Rattle.flow.proofs.FindWithTotals.{not-read as unread-so}
+use Rattle.grammar.specs.Grammar.{dispositionAmount, Grammar}
+use Rattle.amend.specs.Amended.{Amended, unchanged, whereFound}
+use Rattle.amend.specs.Change.{totalsChanged, changed, changeAt, change}
 use Rattle.amend.specs.Laws.{ChangeFault, not-read, no-disposition, amount-too-large, total-too-large, ChangeRefused, WithdrawFault, only-one, WithdrawRefused, Untouched, RefusedUntouched}
-use Rattle.amend.specs.Withdraw.{totalsLeft, recordsLeft, withdrawn, withdrawAt, withdrawFound, withdraw}
-use Rattle.amend.proofs.Among.{Among, restOf, withdrawn-left, changedOf, changed-left}
-use Rattle.amend.proofs.Left.{leftWith, rest-count, rest-cents, rest-records, rest-right, changed-count, changed-cents, changed-records, changed-right}
+use Rattle.amend.specs.Withdraw.{totalsLeft, recordsLeft, withdrawn, withdrawAt, withdraw}
+use Rattle.amend.proofs.Neighbours.{Neighbours, restOf, withdrawn-left, changedOf, changed-left}
+use Rattle.amend.proofs.PartsLeft.{leftWith, rest-count, rest-cents, rest-records, rest-right, changed-count, changed-cents, changed-records, changed-right}
 
--- what was sought: the flow is not read, or it has no such disposition, or it stands there
-pub data Seeking (f : List ℕ) (k : ℕ) : Verdict Target → Type 0 where
-  unread : {x : Refusal} → judge f ≡ refused x → Seeking f k (refused x)
-  none : {t : Totals} → judge f ≡ accepted t → ¬ IsNumber k (t .dispositions) → Seeking f k (refused (ofCall 15))
-  stands : {v : Target} → judge f ≡ accepted (v .totals) → find f k ≡ accepted (v .stand) → IsNumber k (v .totals .dispositions) → Seeking f k (accepted v)
+-- what finding answers: the flow is not read, or it has no such disposition, or it is there
+pub data FindCase (f : List ℕ) (k : ℕ) : Verdict WithTotals → Type 0 where
+  unread : {x : Refusal} → judge f ≡ refused x → FindCase f k (refused x)
+  none : {t : Totals} → judge f ≡ accepted t → ¬ IsNumber k (t .dispositions) → FindCase f k (refused (ofCall 15))
+  stands : {v : WithTotals} → judge f ≡ accepted (v .totals) → find f k ≡ accepted (v .location) → IsNumber k (v .totals .dispositions) → FindCase f k (accepted v)
 
-pub seeking : (f : List ℕ) (k : ℕ) → Seeking f k (seek f k)
-seeking f k = by (judge f) (find f k) refl refl
+pub find-case : (f : List ℕ) (k : ℕ) → FindCase f k (findWithTotals f k)
+find-case f k = by (judge f) (find f k) refl refl
   where
-    by : (v : Verdict Totals) (l : Verdict Stand) → judge f ≡ v → find f k ≡ l → Seeking f k (seek f k)
-    by (refused x) l wrong found = subst (Seeking f k) (sym (unread-so f k wrong)) (unread wrong)
+    by : (v : Verdict Totals) (l : Verdict Location) → judge f ≡ v → find f k ≡ l → FindCase f k (findWithTotals f k)
+    by (refused x) l wrong found = subst (FindCase f k) (sym (unread-so f k wrong)) (unread wrong)
     by (accepted t) (accepted place) read found =
         let s = found-stands f k found .0 in
         let within : k ≤ t .dispositions = subst (λ (u : Totals). k ≤ u .dispositions) (accepted-same (sym (s .read) ∙ read)) (s .within) in
-        subst (Seeking f k) (sym (read-found f k read found)) (stands read found (s .some, within))
+        subst (FindCase f k) (sym (read-found f k read found)) (stands read found (s .some, within))
     by (accepted t) (refused x) read found = told (find-refused f k x .0 found)
       where
-        told : (judge f ≡ refused x) ⊎ ((t : Totals) × (judge f ≡ accepted t) × ¬ IsNumber k (t .dispositions) × (x ≡ ofCall 15)) → Seeking f k (seek f k)
+        told : (judge f ≡ refused x) ⊎ ((t : Totals) × (judge f ≡ accepted t) × ¬ IsNumber k (t .dispositions) × (x ≡ ofCall 15)) → FindCase f k (findWithTotals f k)
         told (inl wrong) = absurd (accepted-not-refused (sym wrong ∙ read))
-        told (inr h) = subst (Seeking f k) (sym (not-found f k found ∙ ap refused (h .3))) (none (h .1) (h .2))
+        told (inr h) = subst (FindCase f k) (sym (not-found f k found ∙ ap refused (h .3))) (none (h .1) (h .2))
 
 -- a change is refused for its fault, or made
-abbrev pub changedBy : Target → ℕ → List ℕ → Amended
-changedBy v new f = record { answer = accepted (totalsChanged v new); size = length f; bytes = changed (v .stand .first) new (totalsChanged v new) f }
+abbrev pub changedBy : WithTotals → ℕ → List ℕ → Amended
+changedBy v new f = record { answer = accepted (totalsChanged v new); size = length f; bytes = changed (v .location .first) new (totalsChanged v new) f }
 
-pub data Changing (f : List ℕ) (k new : ℕ) : Amended → Type 0 where
-  refuses : {x : Refusal} → ChangeFault f k new x → Changing f k new (unchanged x f)
-  changes : {v : Target} → seek f k ≡ accepted v → new ≤ mostAmount → totalsChanged v new .cents ≤ mostCents → Changing f k new (changedBy v new f)
+pub data ChangeCase (f : List ℕ) (k new : ℕ) : Amended → Type 0 where
+  refuses : {x : Refusal} → ChangeFault f k new x → ChangeCase f k new (unchanged x f)
+  changes : {v : WithTotals} → findWithTotals f k ≡ accepted v → new ≤ mostAmount → totalsChanged v new .cents ≤ mostCents → ChangeCase f k new (changedBy v new f)
 
-pub changing : (f : List ℕ) (k new : ℕ) → Changing f k new (change f k new)
+pub change-case : (f : List ℕ) (k new : ℕ) → ChangeCase f k new (change f k new)
 unfolding change
-changing f k new = by (seek f k) (seeking f k)
+change-case f k new = by (findWithTotals f k) (find-case f k)
   where
-    made : {v : Target} → judge f ≡ accepted (v .totals) → find f k ≡ accepted (v .stand) → IsNumber k (v .totals .dispositions) → Changing f k new (changeAt v new f)
+    made : {v : WithTotals} → judge f ≡ accepted (v .totals) → find f k ≡ accepted (v .location) → IsNumber k (v .totals .dispositions) → ChangeCase f k new (changeAt v new f)
     made {v} read found numbers = amount (leb new mostAmount) refl
       where
         total : ℕ
         total = totalsChanged v new .cents
 
-        sum : new ≤ mostAmount → (b : Bool) → leb total mostCents ≡ b → Changing f k new (cond b (changedBy v new f) (unchanged (ofCall 17) f))
+        sum : new ≤ mostAmount → (b : Bool) → leb total mostCents ≡ b → ChangeCase f k new (cond b (changedBy v new f) (unchanged (ofCall 17) f))
         sum small true t = changes (read-found f k read found) small (leb-true total mostCents t)
-        sum small false t = refuses (total-too-large (v .totals) (v .stand) read found small (leb-false total mostCents t))
+        sum small false t = refuses (total-too-large (v .totals) (v .location) read found small (leb-false total mostCents t))
 
         amount : (b : Bool) → leb new mostAmount ≡ b
-            → Changing f k new (cond b (cond (leb total mostCents) (changedBy v new f) (unchanged (ofCall 17) f)) (unchanged (ofCall 16) f))
+            → ChangeCase f k new (cond b (cond (leb total mostCents) (changedBy v new f) (unchanged (ofCall 17) f)) (unchanged (ofCall 16) f))
         amount true t = sum (leb-true new mostAmount t) (leb total mostCents) refl
         amount false t = refuses (amount-too-large (v .totals) read numbers (leb-false new mostAmount t))
 
-    by : (l : Verdict Target) → Seeking f k l → Changing f k new (changeFound l new f)
+    by : (l : Verdict WithTotals) → FindCase f k l → ChangeCase f k new (whereFound l (λ (v : WithTotals). changeAt v new f) f)
     by l (unread wrong) = refuses (not-read _ wrong)
     by l (none read absent) = refuses (no-disposition _ read absent)
     by l (stands read found numbers) = made read found numbers
 
 -- a withdrawal likewise
-abbrev pub withdrawnBy : ℕ → Target → List ℕ → Amended
+abbrev pub withdrawnBy : ℕ → WithTotals → List ℕ → Amended
 withdrawnBy k v f = record { answer = accepted (totalsLeft v); size = 120 * totalsLeft v .records; bytes = withdrawn f k (v .totals .records) (totalsLeft v) }
 
-pub data Withdrawing (f : List ℕ) (k : ℕ) : Amended → Type 0 where
-  refuses : {x : Refusal} → WithdrawFault f k x → Withdrawing f k (unchanged x f)
-  withdraws : {v : Target} → seek f k ≡ accepted v → 2 ≤ v .totals .dispositions → Withdrawing f k (withdrawnBy k v f)
+pub data WithdrawCase (f : List ℕ) (k : ℕ) : Amended → Type 0 where
+  refuses : {x : Refusal} → WithdrawFault f k x → WithdrawCase f k (unchanged x f)
+  withdraws : {v : WithTotals} → findWithTotals f k ≡ accepted v → 2 ≤ v .totals .dispositions → WithdrawCase f k (withdrawnBy k v f)
 
-pub withdrawing : (f : List ℕ) (k : ℕ) → Withdrawing f k (withdraw f k)
+pub withdraw-case : (f : List ℕ) (k : ℕ) → WithdrawCase f k (withdraw f k)
 unfolding withdraw
-withdrawing f k = by (seek f k) (seeking f k)
+withdraw-case f k = by (findWithTotals f k) (find-case f k)
   where
-    made : {v : Target} → judge f ≡ accepted (v .totals) → find f k ≡ accepted (v .stand) → IsNumber k (v .totals .dispositions) → Withdrawing f k (withdrawAt k v f)
+    made : {v : WithTotals} → judge f ≡ accepted (v .totals) → find f k ≡ accepted (v .location) → IsNumber k (v .totals .dispositions) → WithdrawCase f k (withdrawAt k v f)
     made {v} read found numbers = others (ltb 1 (v .totals .dispositions)) refl
       where
-        others : (b : Bool) → ltb 1 (v .totals .dispositions) ≡ b → Withdrawing f k (cond b (withdrawnBy k v f) (unchanged (ofCall 18) f))
+        others : (b : Bool) → ltb 1 (v .totals .dispositions) ≡ b → WithdrawCase f k (cond b (withdrawnBy k v f) (unchanged (ofCall 18) f))
         others true t = withdraws (read-found f k read found) (ltb-true 1 (v .totals .dispositions) t)
         others false t =
             let low = numbers .0 in
@@ -107,17 +106,17 @@ withdrawing f k = by (seek f k) (seeking f k)
             let few : v .totals .dispositions ≤ 1 = ltb-false 1 (v .totals .dispositions) t in
             refuses (only-one (v .totals) read (omega arith) (omega arith))
 
-    by : (l : Verdict Target) → Seeking f k l → Withdrawing f k (withdrawFound l k f)
+    by : (l : Verdict WithTotals) → FindCase f k l → WithdrawCase f k (whereFound l (λ (v : WithTotals). withdrawAt k v f) f)
     by l (unread wrong) = refuses (not-read _ wrong)
     by l (none read absent) = refuses (no-disposition _ read absent)
     by l (stands read found numbers) = made read found numbers
 
--- what is sought of a flow that has no such disposition, and of one that has
+-- what is found in a flow that has no such disposition, and of one that has
 module _ (f : List ℕ) (k : ℕ) {t : Totals} (read : judge f ≡ accepted t) where
-  absent-so : ¬ IsNumber k (t .dispositions) → seek f k ≡ refused (ofCall 15)
+  absent-so : ¬ IsNumber k (t .dispositions) → findWithTotals f k ≡ refused (ofCall 15)
   absent-so absent = not-found f k (find-refused f k (ofCall 15) .1 (inr (t, read, absent, refl)))
 
-  numbers-so : IsNumber k (t .dispositions) → (s : Stand) × (seek f k ≡ accepted (target t s))
+  numbers-so : IsNumber k (t .dispositions) → (s : Location) × (findWithTotals f k ≡ accepted (withTotals t s))
   numbers-so numbers =
       let low = numbers .0 in
       let high = numbers .1 in
@@ -127,14 +126,14 @@ module _ (f : List ℕ) (k : ℕ) {t : Totals} (read : judge f ≡ accepted t) w
 
 pub change-refused : ChangeRefused
 unfolding change
-change-refused f k new x = (said (change f k new) (changing f k new), tested)
+change-refused f k new x = (said (change f k new) (change-case f k new), tested)
   where
-    said : (a : Amended) → Changing f k new a → a .answer ≡ refused x → ChangeFault f k new x
+    said : (a : Amended) → ChangeCase f k new a → a .answer ≡ refused x → ChangeFault f k new x
     said a (refuses fault) same = subst (ChangeFault f k new) (refused-same same) fault
     said a (changes found small fits) same = absurd (accepted-not-refused (sym same))
 
-    answers : {l : Verdict Target} → seek f k ≡ l → change f k new .answer ≡ changeFound l new f .answer
-    answers = ap (λ (l : Verdict Target). changeFound l new f .answer)
+    answers : {l : Verdict WithTotals} → findWithTotals f k ≡ l → change f k new .answer ≡ whereFound l (λ (v : WithTotals). changeAt v new f) f .answer
+    answers = ap (λ (l : Verdict WithTotals). whereFound l (λ (v : WithTotals). changeAt v new f) f .answer)
 
     tested : {x : Refusal} → ChangeFault f k new x → change f k new .answer ≡ refused x
     tested (not-read x wrong) = answers (unread-so f k wrong)
@@ -150,14 +149,14 @@ change-refused f k new x = (said (change f k new) (changing f k new), tested)
 
 pub withdraw-refused : WithdrawRefused
 unfolding withdraw
-withdraw-refused f k x = (said (withdraw f k) (withdrawing f k), tested)
+withdraw-refused f k x = (said (withdraw f k) (withdraw-case f k), tested)
   where
-    said : (a : Amended) → Withdrawing f k a → a .answer ≡ refused x → WithdrawFault f k x
+    said : (a : Amended) → WithdrawCase f k a → a .answer ≡ refused x → WithdrawFault f k x
     said a (refuses fault) same = subst (WithdrawFault f k) (refused-same same) fault
     said a (withdraws found some) same = absurd (accepted-not-refused (sym same))
 
-    answers : {l : Verdict Target} → seek f k ≡ l → withdraw f k .answer ≡ withdrawFound l k f .answer
-    answers = ap (λ (l : Verdict Target). withdrawFound l k f .answer)
+    answers : {l : Verdict WithTotals} → findWithTotals f k ≡ l → withdraw f k .answer ≡ whereFound l (λ (v : WithTotals). withdrawAt k v f) f .answer
+    answers = ap (λ (l : Verdict WithTotals). whereFound l (λ (v : WithTotals). withdrawAt k v f) f .answer)
 
     tested : {x : Refusal} → WithdrawFault f k x → withdraw f k .answer ≡ refused x
     tested (not-read x wrong) = answers (unread-so f k wrong)
@@ -167,24 +166,24 @@ withdraw-refused f k x = (said (withdraw f k) (withdrawing f k), tested)
         answers (numbers-so f k read (omega arith, omega arith) .1) ∙ rw few
 
 pub refused-untouched : RefusedUntouched
-refused-untouched f k x = (λ new. changed-not new (change f k new) (changing f k new), withdrawn-not (withdraw f k) (withdrawing f k))
+refused-untouched f k x = (λ new. changed-not new (change f k new) (change-case f k new), withdrawn-not (withdraw f k) (withdraw-case f k))
   where
-    changed-not : (new : ℕ) (a : Amended) → Changing f k new a → a .answer ≡ refused x → Untouched f a
+    changed-not : (new : ℕ) (a : Amended) → ChangeCase f k new a → a .answer ≡ refused x → Untouched f a
     changed-not new a (refuses fault) same = (refl, refl)
     changed-not new a (changes found small fits) same = absurd (accepted-not-refused (sym same))
 
-    withdrawn-not : (a : Amended) → Withdrawing f k a → a .answer ≡ refused x → Untouched f a
+    withdrawn-not : (a : Amended) → WithdrawCase f k a → a .answer ≡ refused x → Untouched f a
     withdrawn-not a (refuses fault) same = (refl, refl)
     withdrawn-not a (withdraws found some) same = absurd (accepted-not-refused (sym same))
 
 -- what is left, as a flow of the grammar
 abbrev pub changed-grammar :
-    (f : List ℕ) (k : ℕ) (v : Target) (new : ℕ) (w : Among f k v) (small : new < suc mostAmount) → totalsChanged v new .cents ≤ mostCents
-    → Grammar (changed (v .stand .first) new (totalsChanged v new) f) (totalsChanged v new)
+    (f : List ℕ) (k : ℕ) (v : WithTotals) (new : ℕ) (w : Neighbours f k v) (small : new < suc mostAmount) → totalsChanged v new .cents ≤ mostCents
+    → Grammar (changed (v .location .first) new (totalsChanged v new) f) (totalsChanged v new)
 changed-grammar f k v new w small fits =
     let g = w .grammar in
     let t = v .totals in
-    let total : t .cents - v .stand .cents + new ≡ t .cents - amountOf (w .this) + new = ap (λ (x : ℕ). t .cents - x + new) (w .amount) in
+    let total : t .cents - v .location .cents + new ≡ t .cents - dispositionAmount (w .this) + new = ap (λ (x : ℕ). t .cents - x + new) (w .amount) in
     let count = changed-count f t g (w .pre) (w .this) (w .post) (w .split) new small in
     let cents = changed-cents f t g (w .pre) (w .this) (w .post) (w .split) new small ∙ sym total in
     let records = changed-records f t g (w .pre) (w .this) (w .post) (w .split) new small in
@@ -196,7 +195,7 @@ changed-grammar f k v new w small fits =
     }
 
 abbrev pub withdrawn-grammar :
-    (f : List ℕ) (k : ℕ) (v : Target) (w : Among f k v) → 2 ≤ v .totals .dispositions
+    (f : List ℕ) (k : ℕ) (v : WithTotals) (w : Neighbours f k v) → 2 ≤ v .totals .dispositions
     → Grammar (flatten (recordsLeft f k (v .totals .records) (totalsLeft v))) (totalsLeft v)
 withdrawn-grammar f k v w some =
     let g = w .grammar in

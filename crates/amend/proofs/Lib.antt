@@ -1,10 +1,10 @@
-pub mod Among
 pub mod Answered
-pub mod Around
-pub mod Kept
-pub mod Leaving
-pub mod Left
+pub mod FoundFacts
+pub mod LeavesAndTouches
+pub mod Neighbours
+pub mod PartsLeft
+pub mod RecordsAround
 pub mod Renumbering
-pub mod Standing
+pub mod RulesKept
 pub mod Unchanged
 pub mod Withdrawn

@@ -1,4 +1,4 @@
--- A loop that numbers records anew: behind each record, those that are left make the same of the flow as all of them did at first.
+-- A loop that numbers records anew: after each record, those that are left make the same of the flow as all of them did at first.
 -- Assumes nothing.
 use Prim.Native.Nat.{ℕ, suc, _+_, _-_, _*_, _≤_, _<_}
 use mathlib.Core.Bool.{Bool, true, false, cond}
@@ -14,7 +14,7 @@ use Rattle.records.specs.Kinds.{isOpening}
 use Rattle.flow.specs.Records.{cut, recordAt}
 use Rattle.flow.proofs.Cut.{Whole, cut-count, cut-whole, cut-next, cut-end, flatten-length}
 use Rattle.amend.specs.Withdraw.{renumbered, renumberedFrom}
-use Rattle.amend.proofs.Kept.{over-length}
+use Rattle.amend.proofs.RulesKept.{over-length}
 
 -- records numbered anew keep their length, and stay as many
 renumbered-whole : (j : ℕ) (recs : List (List ℕ)) → Whole recs → Whole (renumberedFrom j recs)
@@ -32,7 +32,7 @@ renumbered-count j (rec ∷ recs) = ap suc (renumbered-count (j + cond (isOpenin
 pub renumbered-bytes : (j : ℕ) (recs : List (List ℕ)) → Whole recs → length (flatten (renumberedFrom j recs)) ≡ 120 * length recs
 renumbered-bytes j recs whole = flatten-length (renumberedFrom j recs) (renumbered-whole j recs whole) ∙ ap (λ (n : ℕ). 120 * n) (renumbered-count j recs)
 
--- the records from index i up to index `to`, numbered behind disposition j
+-- the records from index i up to index `to`, numbered after disposition j
 abbrev anew : List ℕ → ℕ → ℕ → ℕ → List ℕ
 anew f i to j = flatten (renumberedFrom j (cut (to - i) (drop (120 * i) f)))
 
@@ -72,7 +72,7 @@ module _ {f₀ : List ℕ} {from to before : ℕ} {f : List ℕ} {number i : ℕ
         let on : 120 * suc i ≡ 120 * i + length rec = omega arith in
         let rest-size = anew-length f (suc i) to j more (omega arith) in
         let kept : length next ≡ length f = put-length (120 * i + 3) (digits 7 j) f (omega arith) in
-        let behind : drop (120 * suc i) next ≡ drop (120 * suc i) f = drop-put (120 * i + 3) (digits 7 j) f (omega arith) (120 * suc i) (omega arith) in
+        let after : drop (120 * suc i) next ≡ drop (120 * suc i) f = drop-put (120 * i + 3) (digits 7 j) f (omega arith) (120 * suc i) (omega arith) in
         let whole : next ≡ put (120 * i) rec f = put-within (120 * i) 120 3 (digits 7 j) f (omega arith) (omega arith) in
         let now : put (120 * i) (anew f i to number) f ≡ put (120 * i) (rec ++ rest) f = ap (λ (l : List (List ℕ)). put (120 * i) (flatten (renumberedFrom number l)) f) (cut-next to i f more) in
         record {
@@ -80,7 +80,7 @@ module _ {f₀ : List ℕ} {from to before : ℕ} {f : List ℕ} {number i : ℕ
           ends = more;
           few = omega (arith, r .begins, r .few, one-at-most (isOpening (recordAt i f)));
           same = kept ∙ same;
-          left = ap (λ (l : List ℕ). put (120 * suc i) (flatten (renumberedFrom j (cut (to - suc i) l))) next) behind ∙ (λ k. put (on k) rest (whole k)) ∙ sym (put-append (120 * i) rec rest f (omega arith)) ∙ sym now ∙ r .left;
+          left = ap (λ (l : List ℕ). put (120 * suc i) (flatten (renumberedFrom j (cut (to - suc i) l))) next) after ∙ (λ k. put (on k) rest (whole k)) ∙ sym (put-append (120 * i) rec rest f (omega arith)) ∙ sym now ∙ r .left;
         }
       where
         one-at-most : (b : Bool) → cond b 1 0 ≤ 1

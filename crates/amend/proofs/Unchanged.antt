@@ -3,10 +3,10 @@ use Prim.Native.Nat.{ℕ}
 use mathlib.Core.List.{List}
 use mathlib.Core.Path.{_≡_}
 use lib.ListN.{length}
-use Rattle.flow.specs.Verdict.{refused, verdict}
+use Rattle.flow.specs.Verdict.{refused, answerVerdict}
 use Rattle.flow.specs.declared.answer.Answer.{Answer}
 use Rattle.flow.specs.declared.answer.Refusal.{Refusal}
 use Rattle.amend.specs.Amended.{amended, unchanged}
 
-pub left-unchanged : (r : Answer) (size : ℕ) (f : List ℕ) {x : Refusal} → verdict r ≡ refused x → size ≡ length f → amended r size f ≡ unchanged x f
+pub left-unchanged : (r : Answer) (size : ℕ) (f : List ℕ) {x : Refusal} → answerVerdict r ≡ refused x → size ≡ length f → amended r size f ≡ unchanged x f
 left-unchanged r size f told same = λ i. record { answer = told i; size = same i; bytes = f }

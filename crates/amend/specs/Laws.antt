@@ -18,7 +18,7 @@ use Rattle.amend.specs.Withdraw.{withdraw}
 use Rattle.flow.specs.declared.answer.Answer.{Answer}
 use Rattle.flow.specs.declared.answer.Refusal.{Refusal}
 use Rattle.flow.specs.declared.answer.Totals.{Totals}
-use Rattle.flow.specs.declared.location.Stand.{Stand}
+use Rattle.flow.specs.declared.location.Location.{Location}
 
 -- document 01's refusals of a change, each where those before it do not apply
 pub data ChangeFault (f : List ℕ) (k new : ℕ) : Refusal → Type 0 where
@@ -27,7 +27,7 @@ pub data ChangeFault (f : List ℕ) (k new : ℕ) : Refusal → Type 0 where
   amount-too-large : (t : Totals) → judge f ≡ accepted t → IsNumber k (t .dispositions) → mostAmount < new → ChangeFault f k new (ofCall 16)
   -- the new total is the old one less the old amount, plus the new one
   total-too-large :
-      (t : Totals) (s : Stand) → judge f ≡ accepted t → find f k ≡ accepted s → new ≤ mostAmount → mostCents < t .cents - s .cents + new
+      (t : Totals) (s : Location) → judge f ≡ accepted t → find f k ≡ accepted s → new ≤ mostAmount → mostCents < t .cents - s .cents + new
       → ChangeFault f k new (ofCall 17)
 
 abbrev pub ChangeRefused : Type 0
@@ -56,17 +56,17 @@ RefusedUntouched =
 abbrev pub flowLeft : Amended → List ℕ
 flowLeft a = take (a .size) (a .bytes)
 
--- an accepted amendment answers with the totals of the flow left, which the reader accepts; behind it the memory is blank
-pub record Leaves (f : List ℕ) (a : Amended) (t : Totals) : Type 0 where
+-- an accepted amendment answers with the totals of the flow left, which the reader accepts; after it the memory is blank
+pub record LeavesAccepted (f : List ℕ) (a : Amended) (t : Totals) : Type 0 where
   pub read : judge (flowLeft a) ≡ accepted t
   pub within : a .size ≤ length f
   pub memory : a .bytes ≡ flowLeft a ++ replicate (length f - a .size) 32
 
 abbrev pub ChangeLeaves : Type 0
-ChangeLeaves = (f : List ℕ) (k new : ℕ) (t : Totals) → change f k new .answer ≡ accepted t → Leaves f (change f k new) t
+ChangeLeaves = (f : List ℕ) (k new : ℕ) (t : Totals) → change f k new .answer ≡ accepted t → LeavesAccepted f (change f k new) t
 
 abbrev pub WithdrawLeaves : Type 0
-WithdrawLeaves = (f : List ℕ) (k : ℕ) (t : Totals) → withdraw f k .answer ≡ accepted t → Leaves f (withdraw f k) t
+WithdrawLeaves = (f : List ℕ) (k : ℕ) (t : Totals) → withdraw f k .answer ≡ accepted t → LeavesAccepted f (withdraw f k) t
 
 -- index i of a flow lies in positions of record r
 pub record Lies (i r : ℕ) (s : Span) : Type 0 where
@@ -80,7 +80,7 @@ pub record AmountOnly (f left : List ℕ) (n first : ℕ) : Type 0 where
 
 abbrev pub ChangeTouches : Type 0
 ChangeTouches =
-    (f : List ℕ) (k new : ℕ) (t : Totals) (s : Stand) → judge f ≡ accepted t → find f k ≡ accepted s
+    (f : List ℕ) (k new : ℕ) (t : Totals) (s : Location) → judge f ≡ accepted t → find f k ≡ accepted s
     → AmountOnly f (change f k new .bytes) (t .records) (s .first)
 
 -- position p lies outside of spans
@@ -98,12 +98,12 @@ pub record SameBut (ss : List Span) (rec other : List ℕ) : Type 0 where
 -- first of them
 pub record Moved (f left : List ℕ) (n first m : ℕ) : Type 0 where
   pub before : (r : ℕ) → 1 ≤ r → r < first → recordAt (r - 1) left ≡ recordAt (r - 1) f
-  pub behind : (r : ℕ) → first ≤ r → r < n - m → SameBut ((4 to 10) ∷ []) (recordAt (r - 1) left) (recordAt (r + m - 1) f)
+  pub after : (r : ℕ) → first ≤ r → r < n - m → SameBut ((4 to 10) ∷ []) (recordAt (r - 1) left) (recordAt (r + m - 1) f)
   pub trailer : SameBut ((46 to 52) ∷ (53 to 67) ∷ (83 to 89) ∷ []) (recordAt (n - m - 1) left) (recordAt (n - 1) f)
 
 abbrev pub WithdrawTouches : Type 0
 WithdrawTouches =
-    (f : List ℕ) (k : ℕ) (t left : Totals) (s : Stand) → judge f ≡ accepted t → find f k ≡ accepted s → withdraw f k .answer ≡ accepted left
+    (f : List ℕ) (k : ℕ) (t left : Totals) (s : Location) → judge f ≡ accepted t → find f k ≡ accepted s → withdraw f k .answer ≡ accepted left
     → Moved f (flowLeft (withdraw f k)) (t .records) (s .first) (s .records) × (left .records ≡ t .records - s .records)
 
 -- what an answer, a length and bytes stand for on paper determines them

@@ -9,13 +9,12 @@ use lib.ListN.{length, take, drop, replicate}
 use Rattle.sequences.specs.Part.{put}
 use Rattle.fields.specs.Digits.{digits}
 use Rattle.records.specs.Kinds.{isOpening}
-use Rattle.flow.specs.Find.{dispositionsIn}
+use Rattle.flow.specs.Find.{dispositionsIn, findWithTotals}
 use Rattle.flow.specs.Records.{recordAt}
-use Rattle.flow.specs.Seek.{seek}
-use Rattle.flow.specs.Verdict.{Verdict, accepted, refused, ofCall}
+use Rattle.flow.specs.Verdict.{accepted, ofCall}
 use Rattle.flow.specs.declared.answer.Totals.{Totals}
-use Rattle.flow.specs.declared.location.Target.{Target}
-use Rattle.amend.specs.Amended.{Amended, unchanged, writtenAt}
+use Rattle.flow.specs.declared.location.WithTotals.{WithTotals}
+use Rattle.amend.specs.Amended.{Amended, unchanged, whereFound, writtenAt}
 
 -- a record with another number at 4-10
 abbrev pub renumbered : ℕ → List ℕ → List ℕ
@@ -26,20 +25,20 @@ unfoldable pub numberedFrom : ℕ → List (List (List ℕ)) → List (List (Lis
 numberedFrom j [] = []
 numberedFrom j (d ∷ ds) = map (renumbered j) d ∷ numberedFrom (suc j) ds
 
--- the dispositions without the k-th: those before it as they are, those behind it with the numbers from k on
+-- the dispositions without the k-th: those before it as they are, those after it with the numbers from k on
 abbrev pub without : ℕ → List (List (List ℕ)) → List (List (List ℕ))
 without k ds = take (k - 1) ds ++ numberedFrom k (drop k ds)
 
--- for the contract of a private function: records behind disposition j, one more at each 14
+-- for the contract of a private function: records after disposition j, one more at each 14
 unfoldable pub renumberedFrom : ℕ → List (List ℕ) → List (List ℕ)
 renumberedFrom j [] = []
 renumberedFrom j (rec ∷ recs) = let i = j + cond (isOpening rec) 1 0 in renumbered i rec ∷ renumberedFrom i recs
 
 -- the totals without disposition k: it, its cents and its records go
-abbrev pub totalsLeft : Target → Totals
+abbrev pub totalsLeft : WithTotals → Totals
 totalsLeft v =
     let t = v .totals in
-    record { dispositions = t .dispositions - 1; cents = t .cents - v .stand .cents; records = t .records - v .stand .records }
+    record { dispositions = t .dispositions - 1; cents = t .cents - v .location .cents; records = t .records - v .location .records }
 
 -- the trailer with other totals: 46-52, 53-67 and 83-89
 abbrev pub recounted : Totals → List ℕ → List ℕ
@@ -58,16 +57,12 @@ abbrev pub withdrawn : List ℕ → ℕ → ℕ → Totals → List ℕ
 withdrawn f k n t = flatten (recordsLeft f k n t) ++ replicate (length f - 120 * t .records) 32
 
 -- disposition k stands in the flow: 18, then the withdrawal
-abbrev pub withdrawAt : ℕ → Target → List ℕ → Amended
+abbrev pub withdrawAt : ℕ → WithTotals → List ℕ → Amended
 withdrawAt k v f =
     let t = totalsLeft v in
     cond (ltb 1 (v .totals .dispositions))
     (record { answer = accepted t; size = 120 * t .records; bytes = withdrawn f k (v .totals .records) t })
     (unchanged (ofCall 18) f)
 
-abbrev pub withdrawFound : Verdict Target → ℕ → List ℕ → Amended
-withdrawFound (accepted v) k f = withdrawAt k v f
-withdrawFound (refused x) k f = unchanged x f
-
 unfoldable pub withdraw : List ℕ → ℕ → Amended
-withdraw f k = withdrawFound (seek f k) k f
+withdraw f k = whereFound (findWithTotals f k) (λ (v : WithTotals). withdrawAt k v f) f

@@ -7,7 +7,7 @@ use crate::digits::place_number;
 use crate::refusals::AMOUNT_TOO_LARGE;
 use fields::MOST_AMOUNT;
 use flow::Answer;
-use flow::Sought;
+use flow::FoundWithTotals;
 use flow::TOTAL_TOO_LARGE;
 use flow::Totals;
 use records::AMOUNT_FIRST;
@@ -21,23 +21,23 @@ use records::MOST_CENTS;
 pub fn change(flow: &mut [u8], k: u64, cents: u64) -> Answer
     ensures { λ r. ⌜ amended r (length (now (flow .entry))) (now (flow .exit)) ≡ Change·change (now (flow .entry)) k cents ⌝ }
 {
-    match flow::seek(flow, k) {
-        Sought::Refused(refusal) => Answer::Refused(refusal),
-        Sought::At(target) => {
+    match flow::find_with_totals(flow, k) {
+        FoundWithTotals::Refused(refusal) => Answer::Refused(refusal),
+        FoundWithTotals::At(found) => {
             if MOST_AMOUNT < cents {
                 return Answer::Refused(flow::refusal_of_call(AMOUNT_TOO_LARGE));
             }
-            let stand = target.stand;
-            let before = target.totals;
+            let location = found.location;
+            let before = found.totals;
             let totals = Totals {
                 dispositions: before.dispositions,
-                cents: before.cents - stand.cents + cents,
+                cents: before.cents - location.cents + cents,
                 records: before.records,
             };
             if MOST_CENTS < totals.cents {
                 return Answer::Refused(flow::refusal_of_call(TOTAL_TOO_LARGE));
             }
-            place_number(flow, stand.first, AMOUNT_FIRST, AMOUNT_LAST, cents);
+            place_number(flow, location.first, AMOUNT_FIRST, AMOUNT_LAST, cents);
             place_number(flow, totals.records, 53, 67, totals.cents);
             Answer::Accepted(totals)
         }

@@ -4,7 +4,7 @@ ghost use mathlib.Core.Path.{_≡_};
 ghost use lib.ListN.{length};
 ghost use Rattle.sequences.specs.Part.{put};
 ghost use Rattle.fields.specs.Digits.{digits};
-ghost use Rattle.amend.specs.Amended.{written};
+ghost use Rattle.amend.specs.Amended.{writtenInRecord};
 
 // Writes the digits of a number in record r of the flow, from position first to last.
 pub(crate) fn place_number(flow: &mut [u8], r: u64, first: usize, last: usize, value: u64)
@@ -13,9 +13,9 @@ pub(crate) fn place_number(flow: &mut [u8], r: u64, first: usize, last: usize, v
     requires { ⌜ 1 ≤ first ⌝ }
     requires { ⌜ first - 1 ≤ last ⌝ }
     requires { ⌜ last ≤ 120 ⌝ }
-    ensures { λ _. ⌜ now (flow .exit) ≡ written r first (digits (last - (first - 1)) value) (now (flow .entry)) ⌝ }
+    ensures { λ _. ⌜ now (flow .exit) ≡ writtenInRecord r first (digits (last - (first - 1)) value) (now (flow .entry)) ⌝ }
 {
-    let at = 120 * (flow::index(r) - 1);
+    let at = 120 * (flow::as_index(r) - 1);
     records::write_number(&mut flow[at..at + 120], first, last, value);
 }
 

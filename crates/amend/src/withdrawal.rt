@@ -6,7 +6,7 @@ ghost use lib.ListN.{length, take, drop, replicate};
 ghost use Rattle.sequences.specs.Part.{put};
 ghost use Rattle.records.specs.Limits.{countLimit};
 ghost use Rattle.flow.specs.Records.{cut};
-ghost use Rattle.flow.specs.Verdict.{verdict};
+ghost use Rattle.flow.specs.Verdict.{answerVerdict};
 ghost use Rattle.flow.specs.Verdict.{refused as Verdict·refused};
 ghost use Rattle.amend.specs.Amended.{amended};
 ghost use Rattle.amend.specs.Withdraw.{renumberedFrom, recounted, countedAt};
@@ -15,10 +15,10 @@ use crate::digits::place_seven;
 use crate::digits::seven_digits;
 use crate::refusals::ONLY_DISPOSITION;
 use flow::Answer;
+use flow::FoundWithTotals;
 use flow::Refusal;
-use flow::Sought;
 use flow::Totals;
-use flow::index;
+use flow::as_index;
 use records::write_number;
 
 // What a withdrawal answers: the totals of the flow left and its length; or the refusal, and the
@@ -35,24 +35,24 @@ pub struct Withdrawn {
 pub fn withdraw(flow: &mut [u8], k: u64) -> Withdrawn
     ensures { λ r. ⌜ amended (r .answer) (r .length) (now (flow .exit)) ≡ Withdraw·withdraw (now (flow .entry)) k ⌝ }
 {
-    match flow::seek(flow, k) {
-        Sought::Refused(refusal) => refused(refusal, flow.len()),
-        Sought::At(target) => {
-            let stand = target.stand;
-            let before = target.totals;
+    match flow::find_with_totals(flow, k) {
+        FoundWithTotals::Refused(refusal) => refused(refusal, flow.len()),
+        FoundWithTotals::At(found) => {
+            let location = found.location;
+            let before = found.totals;
             if before.dispositions <= 1 {
                 return refused(flow::refusal_of_call(ONLY_DISPOSITION), flow.len());
             }
             let totals = Totals {
                 dispositions: before.dispositions - 1,
-                cents: before.cents - stand.cents,
-                records: before.records - stand.records,
+                cents: before.cents - location.cents,
+                records: before.records - location.records,
             };
-            let at = index(stand.first) - 1;
-            move_up(flow, 120 * at, 120 * (at + index(stand.records)));
-            renumber(flow, at, index(totals.records) - 1, k - 1);
+            let at = as_index(location.first) - 1;
+            move_up(flow, 120 * at, 120 * (at + as_index(location.records)));
+            renumber(flow, at, as_index(totals.records) - 1, k - 1);
             recount(flow, totals);
-            blank(flow, 120 * index(totals.records));
+            blank(flow, 120 * as_index(totals.records));
             Withdrawn {
                 answer: Answer::Accepted(totals),
                 length: 120 * totals.records,
@@ -62,11 +62,11 @@ pub fn withdraw(flow: &mut [u8], k: u64) -> Withdrawn
 }
 
 fn refused(refusal: Refusal, length: usize) -> Withdrawn
-    ensures { λ r. ⌜ (verdict (r .answer) ≡ Verdict·refused refusal) × (r .length ≡ length) ⌝ }
+    ensures { λ r. ⌜ (answerVerdict (r .answer) ≡ Verdict·refused refusal) × (r .length ≡ length) ⌝ }
 {
     Withdrawn {
         answer: Answer::Refused(refusal),
-        length: flow::count(length),
+        length: flow::as_count(length),
     }
 }
 
@@ -85,7 +85,7 @@ fn move_up(flow: &mut [u8], to: usize, from: usize)
 }
 
 // Numbers the records from index `from` up to index `to` anew, the first disposition among them with
-// the number behind `before`: a record 14 opens the next one. The digits are made once for each
+// the number after `before`: a record 14 opens the next one. The digits are made once for each
 // disposition, and copied into its records.
 fn renumber(flow: &mut [u8], from: usize, to: usize, before: u64)
     requires { ⌜ from ≤ to ⌝ }
@@ -115,7 +115,7 @@ fn recount(flow: &mut [u8], totals: Totals)
     requires { ⌜ 120 * totals .records ≤ length (now flow) ⌝ }
     ensures { λ _. ⌜ now (flow .exit) ≡ countedAt totals (now (flow .entry)) ⌝ }
 {
-    let at = 120 * (index(totals.records) - 1);
+    let at = 120 * (as_index(totals.records) - 1);
     write_totals(&mut flow[at..at + 120], totals);
 }
 

@@ -7,7 +7,7 @@ use vector_memory::least;
 ghost use Prim.Native.Nat.{_≤_};
 ghost use lib.ListN.{length};
 
-// Puts the flow of a line `=` at the start of `space`, and marks behind it; any other line leaves the
+// Puts the flow of a line `=` at the start of `space`, and marks after it; any other line leaves the
 // memory. The answer is its length then. A flow for which there is no room is cut.
 pub(crate) fn hold(line: &[u8], space: &mut [u8], memory: usize) -> usize
     requires { ⌜ memory ≤ length (now space) ⌝ }

@@ -8,7 +8,7 @@ mod told;
 use libc::STDIN_FILENO;
 
 // What lies beyond the first 655,360 bytes is not read, and a read that fails counts as the end. `space`
-// has room for a flow of 131,072 bytes and the marks behind it.
+// has room for a flow of 131,072 bytes and the marks after it.
 fn main() {
     let mut text = [0u8; 655360];
     let mut space = [0u8; 131136];

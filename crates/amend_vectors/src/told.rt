@@ -1,4 +1,4 @@
-// A flow, and the memory behind it, as the lines tell them.
+// A flow, and the memory after it, as the lines tell them.
 use libc::STDOUT_FILENO;
 use list::Filled;
 use printing::labelled;
@@ -8,20 +8,20 @@ use vector_memory::least;
 ghost use Prim.Native.Nat.{_≤_};
 ghost use lib.ListN.{length};
 
-// How many bytes behind the memory are marked.
-const BEHIND: u64 = 64;
+// How many bytes after the memory are marked.
+const AFTER: u64 = 64;
 
-// Where the marks behind the first n bytes end.
+// Where the marks after the first n bytes end.
 pub(crate) fn marks_end(space: &[u8], n: usize) -> usize
     requires { ⌜ n ≤ length (now space) ⌝ }
     ensures { λ r. ⌜ r ≤ length (now (space .entry)) ⌝ }
 {
-    least(n as u64 + BEHIND, space.len())
+    least(n as u64 + AFTER, space.len())
 }
 
 // `reads accepted dispositions 1 cents 38050 records 9 list 643 adler 5 flow 1080 adler 7 blank 840 kept
 // 64`: what the reader says of the first `size` bytes, their list and they themselves by length and
-// checksum, the blanks behind them in the memory, and the marks behind that.
+// checksum, the blanks after them in the memory, and the marks after that.
 pub(crate) fn print(space: &[u8], memory: usize, size: usize, list: &mut [u8])
     requires { ⌜ size ≤ memory ⌝ }
     requires { ⌜ memory ≤ length (now space) ⌝ }

@@ -1,16 +1,16 @@
--- What is proved of every reply. Assumes nothing.
+-- What is proved of everything that is returned. Assumes nothing.
 use Prim.Native.Nat.{ℕ}
 use mathlib.Core.List.{List}
 use mathlib.Core.Path.{_≡_}
-use Rattle.fields.specs.Answer.{Answer}
+use Rattle.fields.specs.FieldVerdict.{FieldVerdict}
 use Rattle.flow.specs.Verdict.{Verdict}
 use Rattle.flow.specs.declared.answer.Totals.{Totals}
-use Rattle.flow.specs.declared.location.Stand.{Stand}
+use Rattle.flow.specs.declared.location.Location.{Location}
 use Rattle.list.specs.ReadBack.{readBack}
 use Rattle.list.specs.Write.{write}
 use Rattle.amend.specs.Change.{change}
 use Rattle.amend.specs.Withdraw.{withdraw}
-use Rattle.capi.specs.Reply.{ofNumber, ofVerdict, ofLocated, ofOutput, ofChange, ofWithdrawal}
+use Rattle.capi.specs.Returned.{ofNumber, ofVerdict, ofFound, ofOutput, ofChange, ofWithdrawal}
 
 -- a call that returns 0 leaves the caller's bytes as they were
 abbrev pub RefusedLeaves : Type 0
@@ -20,9 +20,9 @@ RefusedLeaves =
     × ((f : List ℕ) (k new : ℕ) → ofChange (change f k new) .status ≡ 0 → change f k new .bytes ≡ f)
     × ((f : List ℕ) (k : ℕ) → ofWithdrawal (withdraw f k) .status ≡ 0 → withdraw f k .bytes ≡ f)
 
--- a reply tells the whole answer: calls that are replied alike are answered alike. (Of an accepted date it tells no day.)
-abbrev pub RepliesTell : Type 0
-RepliesTell =
+-- what is returned tells the whole answer: calls that return the same are answered the same. (Of an accepted date it tells no day.)
+abbrev pub ReturnedTells : Type 0
+ReturnedTells =
     ((v u : Verdict Totals) (l m : ℕ) → ofVerdict v l ≡ ofVerdict u m → (v ≡ u) × (l ≡ m))
-    × ((v u : Verdict Stand) → ofLocated v ≡ ofLocated u → v ≡ u)
-    × ((v u : Answer ℕ) → ofNumber v ≡ ofNumber u → v ≡ u)
+    × ((v u : Verdict Location) → ofFound v ≡ ofFound u → v ≡ u)
+    × ((v u : FieldVerdict ℕ) → ofNumber v ≡ ofNumber u → v ≡ u)

@@ -1,7 +1,7 @@
 // The eight entries that the caller's `answer` receives, and what is returned beside them.
 ghost use mathlib.Core.Path.{_≡_};
-ghost use Rattle.flow.specs.Verdict.{verdict};
-ghost use Rattle.capi.specs.Reply.{replied, reply, ofRefusal, ofVerdict};
+ghost use Rattle.flow.specs.Verdict.{answerVerdict};
+ghost use Rattle.capi.specs.Returned.{returned, returnedThree, ofRefusal, ofVerdict};
 use flow::Answer;
 use flow::Refusal;
 
@@ -11,7 +11,7 @@ const REFUSED: u8 = 0;
 
 // Writes the three numbers of an accepted call, and the length where it has one.
 pub(crate) fn accept(answer: &mut [u64; 8], a: u64, b: u64, c: u64, length: u64) -> u8
-    ensures { λ r. ⌜ replied r (now (answer .exit)) ≡ reply 1 a b c length ⌝ }
+    ensures { λ r. ⌜ returned r (now (answer .exit)) ≡ returnedThree 1 a b c length ⌝ }
 {
     *answer = [a, b, c, length, 0, 0, 0, 0];
     ACCEPTED
@@ -19,7 +19,7 @@ pub(crate) fn accept(answer: &mut [u64; 8], a: u64, b: u64, c: u64, length: u64)
 
 // Writes a refusal, and the length where the call has one.
 pub(crate) fn refuse(answer: &mut [u64; 8], refusal: Refusal, length: u64) -> u8
-    ensures { λ r. ⌜ replied r (now (answer .exit)) ≡ ofRefusal refusal length ⌝ }
+    ensures { λ r. ⌜ returned r (now (answer .exit)) ≡ ofRefusal refusal length ⌝ }
 {
     *answer = [
         refusal.number,
@@ -36,7 +36,7 @@ pub(crate) fn refuse(answer: &mut [u64; 8], refusal: Refusal, length: u64) -> u8
 
 // Writes what a call on a flow or a list answers.
 pub(crate) fn tell(answer: &mut [u64; 8], told: Answer, length: u64) -> u8
-    ensures { λ r. ⌜ replied r (now (answer .exit)) ≡ ofVerdict (verdict told) length ⌝ }
+    ensures { λ r. ⌜ returned r (now (answer .exit)) ≡ ofVerdict (answerVerdict told) length ⌝ }
 {
     match told {
         Answer::Accepted(totals) => accept(

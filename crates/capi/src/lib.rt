@@ -7,7 +7,7 @@
 // call writes nothing but `answer`.
 ghost use mathlib.Core.Path.{_≡_};
 ghost use Rattle.fields.specs.Amount.{amountField};
-ghost use Rattle.fields.specs.Answer.{numberAnswer};
+ghost use Rattle.fields.specs.FieldVerdict.{numberVerdict};
 ghost use Rattle.fields.specs.Date.{dateField};
 ghost use Rattle.fields.specs.Digits.{digitField};
 ghost use Rattle.flow.specs.Find.{find};
@@ -16,7 +16,7 @@ ghost use Rattle.list.specs.ReadBack.{readBack};
 ghost use Rattle.list.specs.Write.{write};
 ghost use Rattle.amend.specs.Change.{change};
 ghost use Rattle.amend.specs.Withdraw.{withdraw};
-ghost use Rattle.capi.specs.Reply.{replied, ofNumber, ofDay, ofVerdict, ofLocated, ofOutput, ofChange, ofWithdrawal};
+ghost use Rattle.capi.specs.Returned.{returned, ofNumber, ofDay, ofVerdict, ofFound, ofOutput, ofChange, ofWithdrawal};
 
 mod answer;
 
@@ -25,12 +25,12 @@ use answer::refuse;
 use answer::tell;
 use fields::Date;
 use fields::Number;
-use flow::Location;
+use flow::Found;
 
 // The number that a field of 1 to 15 digits gives; or 5.
 #[no_mangle]
 pub extern "C" fn mav_digits(field: &[u8], answer: &mut [u64; 8]) -> u8
-    ensures { λ r. ⌜ replied r (now (answer .exit)) ≡ ofNumber (digitField (now (field .entry))) ⌝ }
+    ensures { λ r. ⌜ returned r (now (answer .exit)) ≡ ofNumber (digitField (now (field .entry))) ⌝ }
 {
     tell_number(answer, fields::read_digits(field))
 }
@@ -38,7 +38,7 @@ pub extern "C" fn mav_digits(field: &[u8], answer: &mut [u64; 8]) -> u8
 // The cents that a field of thirteen digits gives; or 5.
 #[no_mangle]
 pub extern "C" fn mav_amount(field: &[u8], answer: &mut [u64; 8]) -> u8
-    ensures { λ r. ⌜ replied r (now (answer .exit)) ≡ ofNumber (amountField (now (field .entry))) ⌝ }
+    ensures { λ r. ⌜ returned r (now (answer .exit)) ≡ ofNumber (amountField (now (field .entry))) ⌝ }
 {
     tell_number(answer, fields::read_amount(field))
 }
@@ -46,7 +46,7 @@ pub extern "C" fn mav_amount(field: &[u8], answer: &mut [u64; 8]) -> u8
 // Whether six digits are a day of the calendar, with no number to tell; or 5, then 8.
 #[no_mangle]
 pub extern "C" fn mav_date(field: &[u8], answer: &mut [u64; 8]) -> u8
-    ensures { λ r. ⌜ replied r (now (answer .exit)) ≡ ofDay (dateField (now (field .entry))) ⌝ }
+    ensures { λ r. ⌜ returned r (now (answer .exit)) ≡ ofDay (dateField (now (field .entry))) ⌝ }
 {
     match fields::read_date(field) {
         Date::On {
@@ -61,7 +61,7 @@ pub extern "C" fn mav_date(field: &[u8], answer: &mut [u64; 8]) -> u8
 // Reads a flow: its dispositions, cents and records; or its first fault.
 #[no_mangle]
 pub extern "C" fn mav_read(flow: &[u8], answer: &mut [u64; 8]) -> u8
-    ensures { λ r. ⌜ replied r (now (answer .exit)) ≡ ofVerdict (judge (now (flow .entry))) 0 ⌝ }
+    ensures { λ r. ⌜ returned r (now (answer .exit)) ≡ ofVerdict (judge (now (flow .entry))) 0 ⌝ }
 {
     tell(answer, flow::read(flow), 0)
 }
@@ -69,18 +69,18 @@ pub extern "C" fn mav_read(flow: &[u8], answer: &mut [u64; 8]) -> u8
 // Where disposition k stands: its first record, its number of records and its cents; or refused.
 #[no_mangle]
 pub extern "C" fn mav_find(flow: &[u8], k: u64, answer: &mut [u64; 8]) -> u8
-    ensures { λ r. ⌜ replied r (now (answer .exit)) ≡ ofLocated (find (now (flow .entry)) k) ⌝ }
+    ensures { λ r. ⌜ returned r (now (answer .exit)) ≡ ofFound (find (now (flow .entry)) k) ⌝ }
 {
     match flow::find(flow, k) {
-        Location::At(stand) => accept(answer, stand.first, stand.records, stand.cents, 0),
-        Location::Refused(refusal) => refuse(answer, refusal, 0),
+        Found::At(location) => accept(answer, location.first, location.records, location.cents, 0),
+        Found::Refused(refusal) => refuse(answer, refusal, 0),
     }
 }
 
 // Writes the flow that a list encodes at the front of out, and tells its length: 0 where it is refused.
 #[no_mangle]
 pub extern "C" fn mav_write(list: &[u8], out: &mut [u8], answer: &mut [u64; 8]) -> u8
-    ensures { λ r. ⌜ replied r (now (answer .exit)) ≡ ofOutput (write (now (list .entry)) (now (out .entry))) ⌝ }
+    ensures { λ r. ⌜ returned r (now (answer .exit)) ≡ ofOutput (write (now (list .entry)) (now (out .entry))) ⌝ }
     ensures { λ _. ⌜ now (out .exit) ≡ write (now (list .entry)) (now (out .entry)) .bytes ⌝ }
 {
     let filled = list::write(list, out);
@@ -91,7 +91,7 @@ pub extern "C" fn mav_write(list: &[u8], out: &mut [u8], answer: &mut [u64; 8]) 
 // Writes a flow's list at the front of out, and tells its length: 0 where it is refused.
 #[no_mangle]
 pub extern "C" fn mav_list(flow: &[u8], out: &mut [u8], answer: &mut [u64; 8]) -> u8
-    ensures { λ r. ⌜ replied r (now (answer .exit)) ≡ ofOutput (readBack (now (flow .entry)) (now (out .entry))) ⌝ }
+    ensures { λ r. ⌜ returned r (now (answer .exit)) ≡ ofOutput (readBack (now (flow .entry)) (now (out .entry))) ⌝ }
     ensures { λ _. ⌜ now (out .exit) ≡ readBack (now (flow .entry)) (now (out .entry)) .bytes ⌝ }
 {
     let filled = list::read_back(flow, out);
@@ -102,7 +102,7 @@ pub extern "C" fn mav_list(flow: &[u8], out: &mut [u8], answer: &mut [u64; 8]) -
 // Gives disposition k the amount.
 #[no_mangle]
 pub extern "C" fn mav_change(flow: &mut [u8], k: u64, cents: u64, answer: &mut [u64; 8]) -> u8
-    ensures { λ r. ⌜ replied r (now (answer .exit)) ≡ ofChange (change (now (flow .entry)) k cents) ⌝ }
+    ensures { λ r. ⌜ returned r (now (answer .exit)) ≡ ofChange (change (now (flow .entry)) k cents) ⌝ }
     ensures { λ _. ⌜ now (flow .exit) ≡ change (now (flow .entry)) k cents .bytes ⌝ }
 {
     tell(answer, amend::change(flow, k, cents), 0)
@@ -111,7 +111,7 @@ pub extern "C" fn mav_change(flow: &mut [u8], k: u64, cents: u64, answer: &mut [
 // Takes disposition k out, and tells the length of the flow left: where it is refused, the length lent.
 #[no_mangle]
 pub extern "C" fn mav_withdraw(flow: &mut [u8], k: u64, answer: &mut [u64; 8]) -> u8
-    ensures { λ r. ⌜ replied r (now (answer .exit)) ≡ ofWithdrawal (withdraw (now (flow .entry)) k) ⌝ }
+    ensures { λ r. ⌜ returned r (now (answer .exit)) ≡ ofWithdrawal (withdraw (now (flow .entry)) k) ⌝ }
     ensures { λ _. ⌜ now (flow .exit) ≡ withdraw (now (flow .entry)) k .bytes ⌝ }
 {
     let withdrawn = amend::withdraw(flow, k);
@@ -121,7 +121,7 @@ pub extern "C" fn mav_withdraw(flow: &mut [u8], k: u64, answer: &mut [u64; 8]) -
 
 // Writes what a digit field or an amount answers.
 fn tell_number(answer: &mut [u64; 8], told: Number) -> u8
-    ensures { λ r. ⌜ replied r (now (answer .exit)) ≡ ofNumber (numberAnswer told) ⌝ }
+    ensures { λ r. ⌜ returned r (now (answer .exit)) ≡ ofNumber (numberVerdict told) ⌝ }
 {
     match told {
         Number::Value(value) => accept(answer, value, 0, 0, 0),

@@ -8,18 +8,18 @@ use lib.ListN.{length, length-append, length-map}
 use Rattle.sequences.specs.All.{All}
 use Rattle.sequences.specs.Counted.{Counted}
 use Rattle.sequences.proofs.Append.{append-same}
-use Rattle.sequences.proofs.Counted.{counted-before, counted-behind, counted-append}
+use Rattle.sequences.proofs.Counted.{counted-before, counted-after, counted-append}
 use Rattle.fields.specs.Amount.{mostAmount}
 use Rattle.records.specs.Context.{headerOf}
 use Rattle.records.specs.Kinds.{heads, opens, opened}
 use Rattle.records.specs.Limits.{mostCents}
-use Rattle.records.specs.declared.kind.Kind.{Kind}
+use Rattle.records.specs.declared.kind.RecordKind.{RecordKind}
 use Rattle.flow.specs.Records.{recordsOf}
-use Rattle.grammar.specs.Grammar.{Typed, kindsOf, recordsIn, Numbered, RightDisposition, Grammar}
+use Rattle.grammar.specs.Grammar.{Typed, kindsOf, recordsIn, RightDispositions, RightDisposition, Grammar}
 use Rattle.grammar.proofs.Dispositions.{Detail, detail-opens, Opened, opened-by, opened-so, Member, InShape}
 use Rattle.grammar.proofs.Grammar.{grammar-shape}
 use Rattle.grammar.proofs.Parts.{between}
-use Rattle.list.specs.Encode.{encodeItem, encodeFrom, encodeTrailer, headerBehind, recordsFor, trailerFor, encode}
+use Rattle.list.specs.Encode.{encodeItem, encodeFrom, encodeTrailer, headerAfter, recordsFor, trailerFor, encode}
 use Rattle.list.specs.Items.{Item, recordKind, Proper}
 use Rattle.list.specs.ReadBack.{itemsOf, Canonical}
 use Rattle.list.specs.Table.{recordOf}
@@ -28,18 +28,18 @@ use Rattle.list.proofs.Gathering.{body-gathered}
 use Rattle.list.proofs.RecordsAgain.{kindFor, ownItem}
 use Rattle.list.proofs.Rewritten.{own-list-items, own-proper-all, trailer-so}
 use Rattle.flow.specs.declared.answer.Totals.{Totals}
-use Rattle.flow.specs.declared.location.Target.{Target}
+use Rattle.flow.specs.declared.location.WithTotals.{WithTotals}
 use Rattle.amend.specs.Change.{totalsChanged, changed}
 use Rattle.amend.specs.Withdraw.{renumbered, totalsLeft, recounted, recordsLeft}
-use Rattle.amend.proofs.Among.{Among, restOf, changedOf}
+use Rattle.amend.proofs.Neighbours.{Neighbours, restOf, changedOf}
 use Rattle.amend.proofs.Answered.{withdrawn-grammar, changed-grammar}
-use Rattle.amend.proofs.Kept.{repriced as Kept·repriced}
-use Rattle.amend.proofs.Left.{totalsWith, left-bytes, retyped, typedFrom, retold, here, behind}
+use Rattle.amend.proofs.RulesKept.{repricedRecord}
+use Rattle.amend.proofs.PartsLeft.{totalsWith, left-bytes, retyped, typedFrom, retold, here, after}
 use Rattle.claims.specs.Ledger.{firstRepriced}
 use Rattle.claims.proofs.Encoded.{detail-heads, trailer-recounted, detail-renumbered, opening-renumbered, opening-repriced}
 use Rattle.claims.proofs.Listed.{itemsBy, itemOfHeader, detail-record, listed-so, items-retyped, items-retold}
 
--- a disposition behind i others, each record of which is what its item encodes; and dispositions
+-- a disposition after i others, each record of which is what its item encodes; and dispositions
 abbrev pub AsItems : List ℕ → ℕ → List Typed → Type 0
 AsItems header i d = recordsIn d ≡ map (encodeItem (suc i) header) (map ownItem d)
 
@@ -56,7 +56,7 @@ module _ (header : List ℕ) where
       let same : k ≡ r .kind = detail-record (r .kind) (details .0) in
       let shut : opened k ≡ 0 = ap (λ (b : Bool). cond b 1 0) (ap opens same ∙ detail-opens (r .kind) (details .0)) in
       let number : i + opened k ≡ i = omega arith in
-      let meant : headerBehind header (ownItem r) ≡ header = ap (λ (b : Bool). cond b (ownItem r .body) header) (ap heads same ∙ detail-heads (r .kind) (details .0)) in
+      let meant : headerAfter header (ownItem r) ≡ header = ap (λ (b : Bool). cond b (ownItem r .body) header) (ap heads same ∙ detail-heads (r .kind) (details .0)) in
       (λ j. encodeItem (number j) header (ownItem r) ∷ encodeFrom (number j) (meant j) (map ownItem rs ++ is))
       ∙ ap (λ (l : List (List ℕ)). encodeItem i header (ownItem r) ∷ l) (details-encoded i rs is (details .1))
 
@@ -64,14 +64,14 @@ module _ (header : List ℕ) where
   unfolding encodeFrom
   disposition-encoded i d is (opened-by r rs e details) =
       let k = recordKind (ownItem r) in
-      let same = ap (λ (l : Kind). recordOf (kindFor l)) e in
+      let same = ap (λ (l : RecordKind). recordOf (kindFor l)) e in
       let one : opened k ≡ 1 = ap opened same in
       let number : i + opened k ≡ suc i = omega arith in
-      let meant : headerBehind header (ownItem r) ≡ header = ap (λ (l : Kind). cond (heads l) (ownItem r .body) header) same in
+      let meant : headerAfter header (ownItem r) ≡ header = ap (λ (l : RecordKind). cond (heads l) (ownItem r .body) header) same in
       (λ j. encodeItem (number j) header (ownItem r) ∷ encodeFrom (number j) (meant j) (map ownItem rs ++ is))
       ∙ ap (λ (l : List (List ℕ)). encodeItem (suc i) header (ownItem r) ∷ l) (details-encoded (suc i) rs is details)
 
-  -- so they are the records that their items encode, one behind the other
+  -- so they are the records that their items encode, one after the other
   encoded-joined : (i : ℕ) (ds : List (List Typed)) → InShape ds → Encoded i ds → flatten (map recordsIn ds) ≡ encodeFrom i header (flatten (itemsBy ds))
   unfolding flatten encodeFrom
   encoded-joined i [] shape e = refl
@@ -161,9 +161,9 @@ module _ (header abi : List ℕ) where
       go : (d : List Typed) → Opened d → All (Member abi n) d → map (renumbered j) (map (encodeItem i header) (map ownItem d)) ≡ map (encodeItem j header) (map ownItem d)
       go d (opened-by r rs e details) members =
           let proper = own-proper r (members .0 .0 .whole) in
-          ap₂ (λ (x : List ℕ) (xs : List (List ℕ)). x ∷ xs) (opening-renumbered i j header (ownItem r) proper (ap (λ (k : Kind). recordOf (kindFor k)) e)) (details-numbered i j n rs details (members .1))
+          ap₂ (λ (x : List ℕ) (xs : List (List ℕ)). x ∷ xs) (opening-renumbered i j header (ownItem r) proper (ap (λ (k : RecordKind). recordOf (kindFor k)) e)) (details-numbered i j n rs details (members .1))
 
-  pub typed-encoded : (i n : ℕ) (ds : List (List Typed)) → Numbered abi n ds → Encoded header (suc i) ds → Encoded header i (typedFrom (suc i) ds)
+  pub typed-encoded : (i n : ℕ) (ds : List (List Typed)) → RightDispositions abi n ds → Encoded header (suc i) ds → Encoded header i (typedFrom (suc i) ds)
   typed-encoded i n [] each e = tt
   typed-encoded i n (d ∷ ds) each e =
       let j = suc i in
@@ -180,11 +180,11 @@ module _ (header abi : List ℕ) where
       go : (d : List Typed) → Opened d → All (Member abi n) d → recordsIn d ≡ map (encodeItem i header) (map ownItem d) → recordsIn (retold new d) ≡ map (encodeItem i header) (firstRepriced new (map ownItem d))
       go d (opened-by r rs kind details) members e =
           let proper = own-proper r (members .0 .0 .whole) in
-          let opening = ap (Kept·repriced new) (head-eq-of-cons-eq e) ∙ opening-repriced i new header (ownItem r) proper (ap kindFor kind) in
+          let opening = ap (repricedRecord new) (head-eq-of-cons-eq e) ∙ opening-repriced i new header (ownItem r) proper (ap kindFor kind) in
           ap₂ (λ (x : List ℕ) (xs : List (List ℕ)). x ∷ xs) opening (tail-eq-of-cons-eq e)
 
 -- so an amendment of a canonical flow leaves a canonical one
-module _ (f : List ℕ) (k : ℕ) (v : Target) (w : Among f k v) (canonical : Canonical f) where
+module _ (f : List ℕ) (k : ℕ) (v : WithTotals) (w : Neighbours f k v) (canonical : Canonical f) where
   abbrev t : Totals
   t = v .totals
 
@@ -210,7 +210,7 @@ module _ (f : List ℕ) (k : ℕ) (v : Target) (w : Among f k v) (canonical : Ca
   front = counted-before (AsItems header) 0 (w .pre) (w .this ∷ w .post) each
 
   back : Encoded header count (w .this ∷ w .post)
-  back = counted-behind (AsItems header) 0 (w .pre) (w .this ∷ w .post) each
+  back = counted-after (AsItems header) 0 (w .pre) (w .this ∷ w .post) each
 
   recounted-trailer :
       (ds : List (List Typed)) {u : Totals} → totalsWith ds ≡ u → recounted (totalsWith ds) (g .parts .trailer) ≡ encodeTrailer header u
@@ -220,7 +220,7 @@ module _ (f : List ℕ) (k : ℕ) (v : Target) (w : Among f k v) (canonical : Ca
   withdrawn-canonical some =
       let left = withdrawn-grammar f k v w some in
       let same : suc count ≡ 1 + length (w .pre) = omega arith in
-      let rest : Encoded header count (typedFrom (1 + length (w .pre)) (w .post)) = subst (λ (j : ℕ). Encoded header count (typedFrom j (w .post))) same (typed-encoded header abi count _ (w .post) (behind f t g (w .pre) (w .this) (w .post) (w .split)) (back .1)) in
+      let rest : Encoded header count (typedFrom (1 + length (w .pre)) (w .post)) = subst (λ (j : ℕ). Encoded header count (typedFrom j (w .post))) same (typed-encoded header abi count _ (w .post) (after f t g (w .pre) (w .this) (w .post) (w .split)) (back .1)) in
       let ds = restOf f k v w in
       encoded-canonical (flatten (recordsLeft f k (t .records) (totalsLeft v))) (totalsLeft v) left
       (record {
@@ -229,12 +229,12 @@ module _ (f : List ℕ) (k : ℕ) (v : Target) (w : Among f k v) (canonical : Ca
         trailer = recounted-trailer ds (left .totals);
       })
 
-  pub changed-canonical : (new : ℕ) (small : new < suc mostAmount) (fits : totalsChanged v new .cents ≤ mostCents) → Canonical (changed (v .stand .first) new (totalsChanged v new) f)
+  pub changed-canonical : (new : ℕ) (small : new < suc mostAmount) (fits : totalsChanged v new .cents ≤ mostCents) → Canonical (changed (v .location .first) new (totalsChanged v new) f)
   changed-canonical new small fits =
       let left = changed-grammar f k v new w small fits in
       let ds = changedOf f k v w new small in
       let this = retold-encoded header abi (suc count) (1 + length (w .pre)) new (w .this) (here f t g (w .pre) (w .this) (w .post) (w .split)) (back .0) in
-      encoded-canonical (changed (v .stand .first) new (totalsChanged v new) f) (totalsChanged v new) left
+      encoded-canonical (changed (v .location .first) new (totalsChanged v new) f) (totalsChanged v new) left
       (record {
         header = was .header;
         dispositions = counted-append (AsItems header) 0 (w .pre) (retold new (w .this) ∷ w .post) front (this, back .1);

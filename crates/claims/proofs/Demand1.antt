@@ -2,11 +2,11 @@
 use Rattle.fields.proofs.DigitField.{field-refused, amount-refused}
 use Rattle.fields.proofs.Gregorian.{date-refused}
 use Rattle.records.proofs.Amounts.{amount-rows}
-use Rattle.records.proofs.Found.{checks-in-order, broken-exact}
+use Rattle.records.proofs.RightOrBroken.{checks-in-order, broken-exact}
 use Rattle.records.proofs.Numbers.{one-for-length}
 use Rattle.flow.proofs.Accepted.{length-refused}
 use Rattle.flow.proofs.Dispositions.{find-refused, part-placed}
-use Rattle.flow.proofs.Sought.{seek-exact}
+use Rattle.flow.proofs.FindWithTotals.{find-with-totals-exact}
 use Rattle.grammar.proofs.AtPlace.{place-fault-exact}
 use Rattle.grammar.proofs.FirstFault.{first-fault-exact}
 use Rattle.grammar.proofs.Grammar.{right-or-faulty}
@@ -15,7 +15,7 @@ use Rattle.list.proofs.Answered.{write-answers, write-leaves, read-back-refused
 use Rattle.list.proofs.ListItems.{faulty-exact}
 use Rattle.list.proofs.WriteRefused.{write-refused}
 use Rattle.amend.proofs.Answered.{change-refused, withdraw-refused, refused-untouched}
-use Rattle.capi.proofs.Replies.{refused-leaves, replies-tell}
+use Rattle.capi.proofs.Returned.{refused-leaves, returned-tells}
 use Rattle.claims.specs.Demand1.{Demand1}
 use Rattle.claims.proofs.EntryPoints.{entry-points}
 use Rattle.claims.proofs.Numbers.{numbers-given}
@@ -39,7 +39,7 @@ demand1 =
       find = find-refused;
       part = part-empty;
       part-placed = part-placed;
-      seek-exact = seek-exact;
+      find-with-totals-exact = find-with-totals-exact;
       faulty = faulty-exact;
       write = write-refused;
       write-answers = write-answers;
@@ -51,5 +51,5 @@ demand1 =
       read-back-none = read-back-leaves;
       amended-none = refused-untouched;
       returned-none = refused-leaves;
-      replies-tell = replies-tell;
+      returned-tells = returned-tells;
     }

@@ -16,21 +16,21 @@ use Rattle.list.specs.ReadBack.{itemsOf}
 use Rattle.amend.specs.Laws.{flowLeft}
 use Rattle.claims.specs.Demand3.{Touched, Demand3}
 use Rattle.claims.specs.Ledger.{Call, Reply, Entry, entry, listAfter, repliesOn}
-use Rattle.claims.specs.Run.{Memory, holding, flowIn, amend, replyOf, behind, run, replies, EachCall}
+use Rattle.claims.specs.Run.{Memory, holding, flowIn, amend, replyOf, memoryAfter, run, replies, EachCall}
 use Rattle.claims.proofs.OneCall.{Held, held-as, Step, one-step, call-touched}
 
--- memory that holds a flow, and blanks behind it
-abbrev blanksBehind : List ℕ → ℕ → Memory
-blanksBehind g room = record { bytes = g ++ replicate room 32; size = length g }
+-- memory that holds a flow, and blanks after it
+abbrev blanksAfter : List ℕ → ℕ → Memory
+blanksAfter g room = record { bytes = g ++ replicate room 32; size = length g }
 
-held-so : (g : List ℕ) (room : ℕ) → flowIn (blanksBehind g room) ≡ g
+held-so : (g : List ℕ) (room : ℕ) → flowIn (blanksAfter g room) ≡ g
 held-so g room = take-at g (replicate room 32) (length g) refl
 
--- behind a call it holds the flow left, and blanks
-behind-so :
+-- after a call it holds the flow left, and blanks
+after-so :
     (call : Call) (g : List ℕ) (room : ℕ) (e : Entry) → Step g call (amend call g) e → let a = amend call g in
-    behind call (blanksBehind g room) ≡ blanksBehind (flowLeft a) (length g - a .size + room)
-behind-so call g room e s =
+    memoryAfter call (blanksAfter g room) ≡ blanksAfter (flowLeft a) (length g - a .size + room)
+after-so call g room e s =
     let a = amend call g in
     let rest : List ℕ = replicate room 32 in
     let freed : List ℕ = replicate (length g - a .size) 32 in
@@ -43,19 +43,19 @@ behind-so call g room e s =
     (λ i. record { bytes = put 0 (amend call (held-so g room i) .bytes) (g ++ rest); size = amend call (held-so g room i) .size })
     ∙ (λ i. record { bytes = (over ∙ apart) i; size = sym (h .sized) i })
 
--- what is held behind a list of calls on an accepted flow, and what was answered
+-- what is held after a list of calls on an accepted flow, and what was answered
 record After (g : List ℕ) (all : ℕ) (m : Memory) (answers : List Reply) (list : List Item) (due : List Reply) : Type 0 where
   held : Held g all m list
   answered : answers ≡ due
 
 after-calls :
-    (calls : List Call) (g : List ℕ) (room : ℕ) {t : Totals} → judge g ≡ accepted t → let m = blanksBehind g room in
+    (calls : List Call) (g : List ℕ) (room : ℕ) {t : Totals} → judge g ≡ accepted t → let m = blanksAfter g room in
     After g (length g + room) (run calls m) (replies calls m) (listAfter calls (itemsOf g)) (repliesOn calls (itemsOf g))
 unfolding run replies listAfter repliesOn
 after-calls [] g room read =
     let blank : room ≡ length g + room - length g = omega arith in
     record {
-      held = held-as g (length g + room) (blanksBehind g room) (itemsOf g) g (held-so g room) read refl (λ x. x) refl (omega arith) (ap (λ (i : ℕ). g ++ replicate i 32) blank);
+      held = held-as g (length g + room) (blanksAfter g room) (itemsOf g) g (held-so g room) read refl (λ x. x) refl (omega arith) (ap (λ (i : ℕ). g ++ replicate i 32) blank);
       answered = refl;
     }
 after-calls (call ∷ calls) g room read =
@@ -67,8 +67,8 @@ after-calls (call ∷ calls) g room read =
     let within = h .within in
     let all : length left + more ≡ length g + room = omega (arith, h .sized) in
     let rest = after-calls calls left more (h .read) in
-    let reply : replyOf call (amend call (flowIn (blanksBehind g room))) ≡ entry call (itemsOf g) .reply = ap (λ (l : List ℕ). replyOf call (amend call l)) (held-so g room) ∙ s .reply in
-    let next = sym (behind-so call g room (entry call (itemsOf g)) s) in
+    let reply : replyOf call (amend call (flowIn (blanksAfter g room))) ≡ entry call (itemsOf g) .reply = ap (λ (l : List ℕ). replyOf call (amend call l)) (held-so g room) ∙ s .reply in
+    let next = sym (after-so call g room (entry call (itemsOf g)) s) in
     let moved = subst (λ (A : Type 0). A) (λ i. After left (all i) (run calls (next i)) (replies calls (next i)) (listAfter calls (h .items i)) (repliesOn calls (h .items i))) rest in
     let kept = moved .held in
     record {
@@ -87,11 +87,11 @@ after-calls (call ∷ calls) g room read =
 touched-all : (calls : List Call) (m : Memory) → EachCall Touched calls m
 unfolding EachCall
 touched-all [] m = tt
-touched-all (call ∷ calls) m = (call-touched call (flowIn m), touched-all calls (behind call m))
+touched-all (call ∷ calls) m = (call-touched call (flowIn m), touched-all calls (memoryAfter call m))
 
 pub demand3 : Demand3
 demand3 f t read calls =
-    let first : blanksBehind f 0 ≡ holding f = λ i. record { bytes = append-nil f i; size = length f } in
+    let first : blanksAfter f 0 ≡ holding f = λ i. record { bytes = append-nil f i; size = length f } in
     let all : length f + 0 ≡ length f = omega arith in
     let x = subst (λ (A : Type 0). A) (λ i. After f (all i) (run calls (first i)) (replies calls (first i)) (listAfter calls (itemsOf f)) (repliesOn calls (itemsOf f))) (after-calls calls f 0 read) in
     let h = x .held in (

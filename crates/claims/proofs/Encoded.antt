@@ -17,8 +17,8 @@ use Rattle.fields.proofs.Decimal.{written-length}
 use Rattle.records.specs.Constants.{causale, sign, currency}
 use Rattle.records.specs.Field.{_to_}
 use Rattle.records.specs.Kinds.{typeOf, Opens, role, heads}
-use Rattle.records.specs.declared.kind.Kind.{Kind}
-use Rattle.records.specs.declared.kind.Kind.the-variants.{R14, Ef}
+use Rattle.records.specs.declared.kind.RecordKind.{RecordKind}
+use Rattle.records.specs.declared.kind.RecordKind.the-variants.{R14, Ef}
 use Rattle.records.proofs.EachKind.{each-kind}
 use Rattle.grammar.proofs.Dispositions.{Detail, each-detail}
 use Rattle.list.specs.Encode.{Placed, place, fill, blanks, abiIn, copiedIn, supplied, bodyPlaced, encodeItem, encodeTrailer}
@@ -28,7 +28,7 @@ use Rattle.list.proofs.Carried.{body-fits, body-outside}
 use Rattle.list.proofs.OneRecord.{abi-short}
 use Rattle.list.proofs.Placing.{Fits, Outside, fill-again}
 use Rattle.list.proofs.RecordsAgain.{kindFor}
-use Rattle.list.proofs.TableSpans.{carried-within, carried-behind-number}
+use Rattle.list.proofs.TableSpans.{carried-within, carried-after-number}
 use Rattle.flow.specs.declared.answer.Totals.{Totals}
 use Rattle.amend.specs.Withdraw.{renumbered, recounted}
 use Rattle.claims.specs.Ledger.{repriced}
@@ -80,19 +80,19 @@ module _ (header : List ℕ) (t u : Totals) where
       (inl (omega (arith, seven n′)), tt) in
       ap (λ (l : List ℕ). put 82 (digits 7 n′) (put 52 (digits 15 c′) l)) one ∙ ap (put 82 (digits 7 n′)) two ∙ three
 
-pub detail-heads : (k : Kind) → Detail k → heads k ≡ false
-detail-heads = each-detail (λ (k : Kind). heads k ≡ false) (refl, (refl, (refl, (refl, (refl, (refl, (refl, (refl, tt))))))))
+pub detail-heads : (k : RecordKind) → Detail k → heads k ≡ false
+detail-heads = each-detail (λ (k : RecordKind). heads k ≡ false) (refl, (refl, (refl, (refl, (refl, (refl, (refl, (refl, tt))))))))
 
 -- what a record that is neither a 14 nor header nor trailer has beside its type and its body
-detail-supplied : (k : Kind) (n : ℕ) (abi : List ℕ) → Detail k → supplied (role k) n abi ≡ place 4 (digits 7 n) ∷ []
-detail-supplied k n abi = each-detail (λ (l : Kind). supplied (role l) n abi ≡ place 4 (digits 7 n) ∷ []) (refl, (refl, (refl, (refl, (refl, (refl, (refl, (refl, tt)))))))) k
+detail-supplied : (k : RecordKind) (n : ℕ) (abi : List ℕ) → Detail k → supplied (role k) n abi ≡ place 4 (digits 7 n) ∷ []
+detail-supplied k n abi = each-detail (λ (l : RecordKind). supplied (role l) n abi ≡ place 4 (digits 7 n) ∷ []) (refl, (refl, (refl, (refl, (refl, (refl, (refl, (refl, tt)))))))) k
 
-type-fits : (k : Kind) → Fits (place 2 (typeOf k))
-type-fits = each-kind (λ (k : Kind). Fits (place 2 (typeOf k))) (omega arith, (omega arith, (omega arith, (omega arith, (omega arith, (omega arith, (omega arith, (omega arith, (omega arith, (omega arith, (omega arith, tt)))))))))))
+type-fits : (k : RecordKind) → Fits (place 2 (typeOf k))
+type-fits = each-kind (λ (k : RecordKind). Fits (place 2 (typeOf k))) (omega arith, (omega arith, (omega arith, (omega arith, (omega arith, (omega arith, (omega arith, (omega arith, (omega arith, (omega arith, (omega arith, tt)))))))))))
 
--- a number that was placed behind the type, with others behind it, written over
+-- a number that was placed after the type, with others after it, written over
 number-again :
-    (k : Kind) (i j : ℕ) (qs : List Placed) → All Fits qs → All (Outside 3 7) qs
+    (k : RecordKind) (i j : ℕ) (qs : List Placed) → All Fits qs → All (Outside 3 7) qs
     → renumbered j (fill (place 2 (typeOf k) ∷ place 4 (digits 7 i) ∷ qs) blanks) ≡ fill (place 2 (typeOf k) ∷ place 4 (digits 7 j) ∷ qs) blanks
 number-again k i j qs fits outside =
     let size : (v : ℕ) → length (digits 7 v) ≡ 7 = written-length 7 in
@@ -106,7 +106,7 @@ encoded-d :
 unfolding encodeItem
 encoded-d header it e n = λ i. fill (place 2 (typeOf (recordOf (e i))) ∷ (supplied (role (recordOf (e i))) n (abiIn header) ++ bodyPlaced (carried (e i)) (it .body))) blanks
 
--- what a 14 has behind its number and before its body: the fixed values and the ABI
+-- what a 14 has after its number and before its body: the fixed values and the ABI
 abbrev fixed : List ℕ → List Placed
 fixed header = place 29 causale ∷ place 47 sign ∷ place 48 (abiIn header) ∷ place 120 currency ∷ []
 
@@ -125,7 +125,7 @@ module _ (i j : ℕ) (header : List ℕ) (it : Item) (proper : Proper it) where
 
   -- its body carries no position of the number
   placed-outside : heads (recordKind it) ≡ false → All (Outside 3 7) placed
-  placed-outside member = body-outside 3 7 (carried (it .kind)) (it .body) (carried-behind-number (it .kind) member)
+  placed-outside member = body-outside 3 7 (carried (it .kind)) (it .body) (carried-after-number (it .kind) member)
 
   pub detail-renumbered : Detail (recordKind it) → renumbered j (encodeItem i header it) ≡ encodeItem j header it
   unfolding encodeItem
@@ -137,7 +137,7 @@ module _ (i j : ℕ) (header : List ℕ) (it : Item) (proper : Proper it) where
   pub opening-renumbered : recordKind it ≡ R14 → renumbered j (encodeItem i header it) ≡ encodeItem j header it
   unfolding encodeItem
   opening-renumbered e =
-      let told : (n : ℕ) → encodeItem n header it ≡ fill (place 2 (typeOf R14) ∷ place 4 (digits 7 n) ∷ (fixed header ++ placed)) blanks = λ n. ap (λ (k : Kind). fill (place 2 (typeOf k) ∷ (supplied (role k) n (abiIn header) ++ placed)) blanks) e in
+      let told : (n : ℕ) → encodeItem n header it ≡ fill (place 2 (typeOf R14) ∷ place 4 (digits 7 n) ∷ (fixed header ++ placed)) blanks = λ n. ap (λ (k : RecordKind). fill (place 2 (typeOf k) ∷ (supplied (role k) n (abiIn header) ++ placed)) blanks) e in
       let outside : All (Outside 3 7) (fixed header) = (inl (omega arith), (inl (omega arith), (inl (omega arith), (inl (omega arith), tt)))) in
       ap (renumbered j) (told i)
       ∙ number-again R14 i j (fixed header ++ placed) (all-append Fits (fixed header) placed (fixed-fits header) placed-fits) (all-append (Outside 3 7) (fixed header) placed outside (placed-outside (ap heads e)))
@@ -151,20 +151,20 @@ module _ (n new : ℕ) (header : List ℕ) (it : Item) (proper : Proper it) (e :
   body-length : length body ≡ 58
   body-length = proper .sized ∙ ap bodyLength e
 
-  -- what is placed before the amount, and behind it
+  -- what is placed before the amount, and after it
   abbrev before : List Placed
   before = place 2 (typeOf R14) ∷ place 4 (digits 7 n) ∷ (fixed header ++ (place 23 (take 6 body) ∷ []))
 
-  abbrev behind : List Placed
-  behind = bodyPlaced ((53 to 69) ∷ (92 to 113) ∷ []) (drop 13 (drop 6 body))
+  abbrev after : List Placed
+  after = bodyPlaced ((53 to 69) ∷ (92 to 113) ∷ []) (drop 13 (drop 6 body))
 
   before-fits : All Fits before
   before-fits =
       let f = fixed-fits header in
       (type-fits R14, (omega (arith, written-length 7 n), (f .0, (f .1 .0, (f .1 .1 .0, (f .1 .1 .1 .0, (omega (arith, length-take-le 6 body (omega (arith, body-length))), tt)))))))
 
-  behind-sized : 39 ≡ length (drop 13 (drop 6 body))
-  behind-sized = omega (arith, length-drop 13 (drop 6 body), length-drop 6 body, body-length)
+  after-sized : 39 ≡ length (drop 13 (drop 6 body))
+  after-sized = omega (arith, length-drop 13 (drop 6 body), length-drop 6 body, body-length)
 
   within : 6 + length (digits 13 new) ≤ length body
   within = omega (arith, written-length 13 new, body-length)
@@ -177,12 +177,12 @@ module _ (n new : ℕ) (header : List ℕ) (it : Item) (proper : Proper it) (e :
       let thirteen : length (digits 13 new) ≡ 13 = written-length 13 new in
       let own : length amount ≡ 13 = length-take-le 13 (drop 6 body) (omega (arith, length-drop 6 body, body-length)) in
       let spans = carried-within (kindFor R14) in
-      let fits : All Fits behind = body-fits ((53 to 69) ∷ (92 to 113) ∷ []) (drop 13 (drop 6 body)) (spans .1 .1) behind-sized in
-      let outside : All (Outside 33 (length (digits 13 new))) behind = body-outside 33 (length (digits 13 new)) ((53 to 69) ∷ (92 to 113) ∷ []) (drop 13 (drop 6 body)) (omega arith, (omega arith, tt)) in
+      let fits : All Fits after = body-fits ((53 to 69) ∷ (92 to 113) ∷ []) (drop 13 (drop 6 body)) (spans .1 .1) after-sized in
+      let outside : All (Outside 33 (length (digits 13 new))) after = body-outside 33 (length (digits 13 new)) ((53 to 69) ∷ (92 to 113) ∷ []) (drop 13 (drop 6 body)) (omega arith, (omega arith, tt)) in
       let date : take 6 body ≡ take 6 (other .body) = sym (take-put 6 (digits 13 new) body within 6 (omega arith)) in
       let cents : digits 13 new ≡ take 13 (drop 6 (other .body)) = sym (ap (λ (w : ℕ). take w (drop 6 (other .body))) (sym thirteen) ∙ part-put 6 (digits 13 new) body within) in
       let rest : drop 13 (drop 6 body) ≡ drop 13 (drop 6 (other .body)) = drop-drop 13 6 body ∙ sym (drop-drop 13 6 (other .body) ∙ drop-put 6 (digits 13 new) body within (6 + 13) (omega arith)) in
       ap (put 33 (digits 13 new)) (encoded-d header it e n)
-      ∙ fill-again before 34 amount (digits 13 new) behind blanks before-fits fits (omega arith) refl (thirteen ∙ sym own) outside
+      ∙ fill-again before 34 amount (digits 13 new) after blanks before-fits fits (omega arith) refl (thirteen ∙ sym own) outside
       ∙ (λ i. fill (place 2 (typeOf R14) ∷ (supplied Opens n (abiIn header) ++ (place 23 (date i) ∷ place 34 (cents i) ∷ bodyPlaced ((53 to 69) ∷ (92 to 113) ∷ []) (rest i)))) blanks)
       ∙ sym (encoded-d header other e n)

@@ -8,7 +8,7 @@ use Rattle.fields.proofs.read_date.Met.{met as read-date-met}
 use Rattle.fields.proofs.all_blank.Met.{met as all-blank-met}
 use Rattle.fields.proofs.equal.Met.{met as equal-met}
 use Rattle.records.proofs.judge.Met.{met as record-judge-met}
-use Rattle.records.proofs.seen_right.Met.{met as seen-right-met}
+use Rattle.records.proofs.passes_quick_test.Met.{met as passes-quick-test-met}
 use Rattle.records.proofs.bad_byte.Met.{met as bad-byte-met}
 use Rattle.records.proofs.field.Met.{met as field-met}
 use Rattle.records.proofs.write_number.Met.{met as write-number-met}
@@ -28,9 +28,9 @@ use Rattle.flow.proofs.walk.Walk.may_close.Met.{met as walk-may-close-met}
 use Rattle.flow.proofs.walk.Walk.totals.Met.{met as walk-totals-met}
 use Rattle.flow.proofs.find.Met.{met as find-met}
 use Rattle.flow.proofs.disposition.Met.{met as disposition-met}
-use Rattle.flow.proofs.seek.Met.{met as seek-met}
-use Rattle.flow.proofs.count.Met.{met as count-met}
-use Rattle.flow.proofs.index.Met.{met as index-met}
+use Rattle.flow.proofs.find_with_totals.Met.{met as find-with-totals-met}
+use Rattle.flow.proofs.as_count.Met.{met as as-count-met}
+use Rattle.flow.proofs.as_index.Met.{met as as-index-met}
 use Rattle.flow.proofs.refusal_of_call.Met.{met as refusal-of-call-met}
 use Rattle.list.proofs.write.Met.{met as write-met}
 use Rattle.list.proofs.read_back.Met.{met as read-back-met}
@@ -57,7 +57,7 @@ entry-points =
       all-blank = (λ M. all-blank-met, λ κs a g w. refl);
       equal = (λ M. equal-met, λ κs a g w. refl);
       record-judge = (λ M. record-judge-met, λ κs a g w. refl);
-      seen-right = (λ M. seen-right-met, λ κs a g w. refl);
+      passes-quick-test = (λ M. passes-quick-test-met, λ κs a g w. refl);
       bad-byte = (λ M. bad-byte-met, λ κs a g w. refl);
       field = (λ M. field-met, λ κs a g w. refl);
       write-number = (λ M. write-number-met, λ κs a g w. refl);
@@ -77,10 +77,10 @@ entry-points =
       walk-totals = (λ M. walk-totals-met, λ κs a g w. refl);
       find = (λ M. find-met, λ κs a g w. refl);
       disposition = (λ M. disposition-met, λ κs a g w. refl);
-      seek = (λ M. seek-met, λ κs a g w. refl);
+      find-with-totals = (λ M. find-with-totals-met, λ κs a g w. refl);
       refusal-of-call = (λ M. refusal-of-call-met, λ κs a g w. refl);
-      count = (λ M. count-met, λ κs a g w. refl);
-      index = (λ M. index-met, λ κs a g w. refl);
+      as-count = (λ M. as-count-met, λ κs a g w. refl);
+      as-index = (λ M. as-index-met, λ κs a g w. refl);
       write = (λ M. write-met, λ κs a g w. refl);
       read-back = (λ M. read-back-met, λ κs a g w. refl);
       change = (λ M. change-met, λ κs a g w. refl);

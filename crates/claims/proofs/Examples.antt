@@ -10,16 +10,15 @@ use Rattle.fields.specs.Digits.{numberFrom, digits}
 use Rattle.fields.proofs.Examples.{examples as fields}
 use Rattle.records.specs.Bytes.{badFrom}
 use Rattle.records.specs.Checks.{isListed, checks}
-use Rattle.records.specs.Finding.{firstFault}
-use Rattle.records.specs.Judge.{judge as Record·judge}
-use Rattle.flow.specs.Find.{find}
-use Rattle.flow.specs.Judge.{go, judge}
+use Rattle.records.specs.RecordVerdict.{firstFault}
+use Rattle.records.specs.Judge.{judgeAs}
+use Rattle.flow.specs.Find.{find, findWithTotals}
+use Rattle.flow.specs.Judge.{walkFrom, judge}
 use Rattle.flow.specs.Records.{cut}
 use Rattle.flow.specs.Order.{among}
-use Rattle.flow.specs.Seek.{seek}
-use Rattle.flow.specs.Steps.{typed, judgeRecord}
+use Rattle.flow.specs.Walking.{judgeTyped, judgeRecord}
 use Rattle.flow.proofs.Examples.{examples as flow}
-use Rattle.list.specs.Encode.{fill, bodyPlaced, encodeItem, encodeTrailer, encodeFrom, lastHeader, dispositionsOf, centsOf}
+use Rattle.list.specs.Encode.{fill, bodyPlaced, encodeItem, encodeTrailer, encodeFrom, lastHeader, listDispositions, listCents}
 use Rattle.list.specs.Items.{itemsFrom}
 use Rattle.list.specs.Table.{firstRow}
 use Rattle.list.proofs.Examples.{examples as list}
@@ -29,7 +28,7 @@ use Rattle.claims.specs.Examples.{Examples, LedgerExample}
 use Rattle.claims.specs.Ledger.{withAmount, withoutDisposition, changeOn, withdrawOn, listAfter, repliesOn}
 
 pub examples : Examples
-unfolding judge go cut judgeRecord typed among Record·judge firstFault checks isListed badFrom isEqual numberFrom digits every isDay daysIn isLeap find groups lead flatten seek fill bodyPlaced encodeItem encodeTrailer encodeFrom lastHeader dispositionsOf centsOf itemsFrom firstRow change numberedFrom withdraw
+unfolding judge walkFrom cut judgeRecord judgeTyped among judgeAs firstFault checks isListed badFrom isEqual numberFrom digits every isDay daysIn isLeap find groups lead flatten findWithTotals fill bodyPlaced encodeItem encodeTrailer encodeFrom lastHeader listDispositions listCents itemsFrom firstRow change numberedFrom withdraw
 examples =
     record {
       one = (list .trailer, list .two-rents);
@@ -45,5 +44,5 @@ examples =
     }
 
 pub ledger-example : LedgerExample
-unfolding numberFrom digits groups lead flatten dispositionsOf centsOf itemsFrom firstRow isEqual withAmount withoutDisposition changeOn withdrawOn listAfter repliesOn
+unfolding numberFrom digits groups lead flatten listDispositions listCents itemsFrom firstRow isEqual withAmount withoutDisposition changeOn withdrawOn listAfter repliesOn
 ledger-example = record { answered = refl; left = refl }

@@ -14,22 +14,22 @@ use Rattle.fields.specs.Calendar.{isLeap, daysIn, isDay}
 use Rattle.fields.specs.Digits.{numberFrom, digits}
 use Rattle.records.specs.Bytes.{badFrom}
 use Rattle.records.specs.Checks.{isListed, checks}
-use Rattle.records.specs.Finding.{firstFault}
-use Rattle.records.specs.Judge.{judge as Record·judge}
+use Rattle.records.specs.RecordVerdict.{firstFault}
+use Rattle.records.specs.Judge.{judgeAs}
 use Rattle.flow.specs.Examples.{flowOf, headerIm, trailerEf, second, further59, firstClosed, withFurther, twoRents, twoRentTotals}
-use Rattle.flow.specs.Judge.{go, judge}
+use Rattle.flow.specs.Judge.{walkFrom, judge}
 use Rattle.flow.specs.Order.{among}
 use Rattle.flow.specs.Records.{cut, recordAt, recordsOf}
-use Rattle.flow.specs.Steps.{typed, judgeRecord}
+use Rattle.flow.specs.Walking.{judgeTyped, judgeRecord}
 use Rattle.flow.specs.Verdict.{Verdict, accepted, refused, refusal, ofCall}
 use Rattle.flow.specs.declared.answer.Refusal.{Refusal}
 use Rattle.flow.specs.declared.answer.Totals.{Totals}
 use Rattle.flow.proofs.Accepted.{accepted-not-refused, accepted-same, accepted-exact}
 use Rattle.flow.proofs.Examples.{examples as flow}
-use Rattle.grammar.specs.Fault.{FaultBehind, bad-byte}
+use Rattle.grammar.specs.Fault.{FaultAfter, bad-byte}
 use Rattle.grammar.proofs.FirstFault.{first-fault-exact}
 use Rattle.grammar.proofs.Grammar.{grammar-exact}
-use Rattle.list.specs.Encode.{fill, bodyPlaced, encodeItem, encodeFrom, dispositionsOf, centsOf, encode}
+use Rattle.list.specs.Encode.{fill, bodyPlaced, encodeItem, encodeFrom, listDispositions, listCents, encode}
 use Rattle.list.specs.Examples.{headerItem, secondItems}
 use Rattle.list.specs.Items.{items, itemsFrom, parse, itemsIn}
 use Rattle.list.specs.ReadBack.{itemsOf}
@@ -39,9 +39,9 @@ use Rattle.list.proofs.Answered.{write-leaves}
 use Rattle.list.proofs.Examples.{examples as list}
 use Rattle.amend.specs.Amended.{Amended}
 use Rattle.amend.proofs.Answered.{change-refused, withdraw-refused}
-use Rattle.claims.specs.Demand3.{Kept}
+use Rattle.claims.specs.Demand3.{KeepsLedger}
 use Rattle.claims.specs.Excludes.{Reader, AcceptsExactly, RefusesFirst, Refuses, LowestNumber, lastWrong, ChangesFaithfully, WithdrawsFaithfully, Service, Serves, LibraryMeets, Excludes}
-use Rattle.claims.specs.Ledger.{Call, change, withdraw, withAmount, withoutDisposition, changeOn, withdrawOn, listAfter}
+use Rattle.claims.specs.Ledger.{Call, change-of, withdrawal-of, withAmount, withoutDisposition, changeOn, withdrawOn, listAfter}
 use Rattle.claims.specs.Run.{Memory, holding, flowIn}
 use Rattle.claims.proofs.Demand3.{demand3}
 use Rattle.claims.proofs.Examples.{examples}
@@ -72,27 +72,27 @@ changes-so amend faithful (x, e) = accepted-not-refused (sym (change-refused two
 withdraws-so : (amend : List ℕ → ℕ → Amended) → WithdrawsFaithfully amend → ¬ Refuses (amend twoRents 1 .answer)
 withdraws-so amend faithful (x, e) = accepted-not-refused (sym (withdraw-refused twoRents 1 x .1 (faithful twoRents 1 x e)) ∙ examples .three .0)
 
--- the calls, and what the ledger has behind them
+-- the calls, and what the ledger has after them
 abbrev first : Call
-first = change 2 40000
+first = change-of 2 40000
 
 abbrev both : List Call
-both = first ∷ change 1 1 ∷ []
+both = first ∷ change-of 1 1 ∷ []
 
-first-total : centsOf (listAfter (first ∷ []) (itemsOf twoRents)) ≡ 85000
-unfolding cut flatten firstRow isEqual numberFrom digits groups lead dispositionsOf centsOf withAmount changeOn listAfter
+first-total : listCents (listAfter (first ∷ []) (itemsOf twoRents)) ≡ 85000
+unfolding cut flatten firstRow isEqual numberFrom digits groups lead listDispositions listCents withAmount changeOn listAfter
 first-total = refl
 
-both-total : centsOf (listAfter both (itemsOf twoRents)) ≡ 40001
-unfolding cut flatten firstRow isEqual numberFrom digits groups lead dispositionsOf centsOf withAmount changeOn listAfter
+both-total : listCents (listAfter both (itemsOf twoRents)) ≡ 40001
+unfolding cut flatten firstRow isEqual numberFrom digits groups lead listDispositions listCents withAmount changeOn listAfter
 both-total = refl
 
-one-left : dispositionsOf (listAfter (withdraw 1 ∷ []) (itemsOf twoRents)) ≡ 1
-unfolding cut flatten firstRow isEqual numberFrom digits groups lead dispositionsOf withoutDisposition withdrawOn listAfter
+one-left : listDispositions (listAfter (withdrawal-of 1 ∷ []) (itemsOf twoRents)) ≡ 1
+unfolding cut flatten firstRow isEqual numberFrom digits groups lead listDispositions withoutDisposition withdrawOn listAfter
 one-left = refl
 
-list-left : listAfter (withdraw 1 ∷ []) (itemsOf twoRents) ≡ itemsIn (flowOf (headerItem ++ secondItems))
-unfolding cut flatten firstRow isEqual numberFrom digits groups lead dispositionsOf withoutDisposition withdrawOn listAfter itemsFrom
+list-left : listAfter (withdrawal-of 1 ∷ []) (itemsOf twoRents) ≡ itemsIn (flowOf (headerItem ++ secondItems))
+unfolding cut flatten firstRow isEqual numberFrom digits groups lead listDispositions withoutDisposition withdrawOn listAfter itemsFrom
 list-left = refl
 
 -- what a service that meets demand 3 leaves of the two-rent flow
@@ -100,7 +100,7 @@ module _ (serve : Service) (serves : Serves serve) where
   abbrev left : List Call → List ℕ
   left calls = flowIn (serve calls twoRents .after)
 
-  kept : (calls : List Call) → Kept twoRents calls (serve calls twoRents .after) (serve calls twoRents .answers)
+  kept : (calls : List Call) → KeepsLedger twoRents calls (serve calls twoRents .after) (serve calls twoRents .answers)
   kept = serves twoRents twoRentTotals (flow .two-rents)
 
   first-left : (t : Totals) → judge (left (first ∷ [])) ≡ accepted t → t .cents ≡ 85000
@@ -119,11 +119,11 @@ module _ (serve : Service) (serves : Serves serve) where
       let again = both-left _ (ap (λ (m : Memory). judge (flowIn m)) same ∙ kept (first ∷ []) .read) in
       omega (arith, first-total)
 
-  withdrawn : (t : Totals) → judge (left (withdraw 1 ∷ [])) ≡ accepted t → t .dispositions ≡ 1
-  withdrawn t e = ap (λ (u : Totals). u .dispositions) (accepted-same (sym e ∙ kept (withdraw 1 ∷ []) .read)) ∙ one-left
+  withdrawn : (t : Totals) → judge (left (withdrawal-of 1 ∷ [])) ≡ accepted t → t .dispositions ≡ 1
+  withdrawn t e = ap (λ (u : Totals). u .dispositions) (accepted-same (sym e ∙ kept (withdrawal-of 1 ∷ []) .read)) ∙ one-left
 
-  moved : left (withdraw 1 ∷ []) ≡ encode (itemsIn (flowOf (headerItem ++ secondItems)))
-  moved = kept (withdraw 1 ∷ []) .canonical (list .canonical) ∙ ap encode list-left
+  moved : left (withdrawal-of 1 ∷ []) ≡ encode (itemsIn (flowOf (headerItem ++ secondItems)))
+  moved = kept (withdrawal-of 1 ∷ []) .canonical (list .canonical) ∙ ap encode list-left
 
 -- a reader that meets demand 1 refuses where the reader of the library does
 refuses-so : (read : Reader) → RefusesFirst read → (f : List ℕ) (x : Refusal) → judge f ≡ refused x → read f ≡ refused x
@@ -135,10 +135,10 @@ abbrev twoFaults : List ℕ
 twoFaults = put 240 (10 ∷ []) (flowOf (headerIm ∷ (second ++ (trailerEf ∷ []))))
 
 lowest-record : judge twoFaults ≡ refused (refusal 9 2 4)
-unfolding judge go cut judgeRecord typed among Record·judge firstFault checks isListed badFrom isEqual numberFrom every isDay daysIn isLeap
+unfolding judge walkFrom cut judgeRecord judgeTyped among judgeAs firstFault checks isListed badFrom isEqual numberFrom every isDay daysIn isLeap
 lowest-record = refl
 
-later-fault : FaultBehind twoFaults (take 2 (recordsOf twoFaults)) (recordAt 2 twoFaults) 2 1
+later-fault : FaultAfter twoFaults (take 2 (recordsOf twoFaults)) (recordAt 2 twoFaults) 2 1
 later-fault = bad-byte [] 10 (drop 1 (recordAt 2 twoFaults)) refl tt (λ h. omega (arith, h .0))
 
 later-stands : recordsOf twoFaults ≡ take 2 (recordsOf twoFaults) ++ (recordAt 2 twoFaults ∷ drop 3 (recordsOf twoFaults))
@@ -151,12 +151,12 @@ not-lowest read exact lowest =
     omega arith
 
 mixed-judged : (judge (withFurther (take 1 firstClosed ++ (further59 ∷ []))) ≡ refused (refusal 3 7 2)) × (judge (withFurther (further59 ∷ take 1 firstClosed)) ≡ refused (refusal 3 7 2))
-unfolding judge go cut judgeRecord typed among Record·judge firstFault checks isListed badFrom isEqual numberFrom every isDay daysIn isLeap
+unfolding judge walkFrom cut judgeRecord judgeTyped among judgeAs firstFault checks isListed badFrom isEqual numberFrom every isDay daysIn isLeap
 mixed-judged = (refl, refl)
 
 -- with room the last record is refused, without it the call
 last-judged : judgeItems (itemsIn lastWrong) ≡ refused (refusal 6 15 94)
-unfolding judgeItems encodeFrom encodeItem fill bodyPlaced flatten itemsFrom firstRow digits go judgeRecord typed among Record·judge firstFault checks isListed badFrom isEqual numberFrom every isDay daysIn isLeap
+unfolding judgeItems encodeFrom encodeItem fill bodyPlaced flatten itemsFrom firstRow digits walkFrom judgeRecord judgeTyped among judgeAs firstFault checks isListed badFrom isEqual numberFrom every isDay daysIn isLeap
 last-judged = refl
 
 last-read : parse lastWrong ≡ items (itemsIn lastWrong)
@@ -183,7 +183,7 @@ excludes =
       change-always-refuses = λ amend faithful all. changes-so amend faithful (all twoRents 2 40000);
       withdraw-always-refuses = λ amend faithful all. withdraws-so amend faithful (all twoRents 1);
       touches-nothing = λ serve serves all. changed serve serves (all (first ∷ []) twoRents);
-      fakes-the-rest = λ serve serves all. changed-again serve serves (all first (change 1 1 ∷ []) twoRents);
+      fakes-the-rest = λ serve serves all. changed-again serve serves (all first (change-of 1 1 ∷ []) twoRents);
       made-up-counts = λ read exact f t e. accepted-exact f t (read-so read exact f t e);
       copied-twice = λ serve serves (t, e, two). omega (arith, withdrawn serve serves t e);
       moved-up = moved;

@@ -18,27 +18,26 @@ use Rattle.fields.proofs.Decimal.{written-length}
 use Rattle.records.specs.Amount.{amountSpan, amountIn}
 use Rattle.records.specs.Field.{Span, _to_, firstOf, lastOf}
 use Rattle.records.specs.Kinds.{heads, opens}
-use Rattle.records.specs.declared.kind.Kind.{Kind}
-use Rattle.records.specs.declared.kind.Kind.the-variants.{Im, R14}
+use Rattle.records.specs.declared.kind.RecordKind.{RecordKind}
+use Rattle.records.specs.declared.kind.RecordKind.the-variants.{Im, R14}
 use Rattle.flow.specs.declared.answer.Totals.{Totals}
-use Rattle.flow.specs.declared.location.Target.{Target}
-use Rattle.grammar.specs.Grammar.{Typed, kindsOf, Numbered, RightDisposition, Grammar}
-use Rattle.grammar.specs.Grammar.{amountOf as Grammar·amountOf}
+use Rattle.flow.specs.declared.location.WithTotals.{WithTotals}
+use Rattle.grammar.specs.Grammar.{Typed, kindsOf, RightDispositions, RightDisposition, Grammar, dispositionAmount}
 use Rattle.grammar.proofs.Dispositions.{Detail, each-detail, detail-opens, Opened, opened-by, opened-so, Member, InShape}
 use Rattle.grammar.proofs.Grammar.{grammar-shape}
-use Rattle.list.specs.Encode.{amountIndex, amountCarried, amountOf, centsOf}
+use Rattle.list.specs.Encode.{amountIndex, amountCarried, itemAmount, listCents}
 use Rattle.list.specs.Items.{Item, item, recordKind, isD}
 use Rattle.list.specs.ReadBack.{gather, itemsOf}
 use Rattle.list.specs.Table.{recordOf, carried}
 use Rattle.list.proofs.Carried.{gather-at}
 use Rattle.list.proofs.RecordsAgain.{kindFor, ownItem}
 use Rattle.list.proofs.Rewritten.{own-list-items}
-use Rattle.list.proofs.TableSpans.{carried-within, carried-behind-number}
+use Rattle.list.proofs.TableSpans.{carried-within, carried-after-number}
 use Rattle.amend.specs.Withdraw.{renumbered}
-use Rattle.amend.proofs.Among.{Among}
-use Rattle.amend.proofs.Kept.{over-kept}
-use Rattle.amend.proofs.Kept.{repriced as Kept·repriced}
-use Rattle.amend.proofs.Left.{amounts, retyped, typedFrom, retold}
+use Rattle.amend.proofs.Neighbours.{Neighbours}
+use Rattle.amend.proofs.RulesKept.{over-kept}
+use Rattle.amend.proofs.RulesKept.{repricedRecord}
+use Rattle.amend.proofs.PartsLeft.{amounts, retyped, typedFrom, retold}
 use Rattle.claims.specs.Ledger.{leading, dispositions, repriced, firstRepriced, withAmount, withoutDisposition}
 use Rattle.claims.proofs.Encoded.{detail-heads}
 
@@ -51,10 +50,10 @@ abbrev pub itemOfHeader : List ℕ → Item
 itemOfHeader header = ownItem (record { kind = Im; bytes = header })
 
 -- a record of a disposition but the first is that of its own item
-pub detail-record : (k : Kind) → Detail k → recordOf (kindFor k) ≡ k
-detail-record = each-detail (λ (k : Kind). recordOf (kindFor k) ≡ k) (refl, (refl, (refl, (refl, (refl, (refl, (refl, (refl, tt))))))))
+pub detail-record : (k : RecordKind) → Detail k → recordOf (kindFor k) ≡ k
+detail-record = each-detail (λ (k : RecordKind). recordOf (kindFor k) ≡ k) (refl, (refl, (refl, (refl, (refl, (refl, (refl, (refl, tt))))))))
 
-detail-shut : (k : Kind) → Detail k → opens (recordOf (kindFor k)) ≡ false
+detail-shut : (k : RecordKind) → Detail k → opens (recordOf (kindFor k)) ≡ false
 detail-shut k detail = ap opens (detail-record k detail) ∙ detail-opens k detail
 
 -- a disposition's items: a D, and others that are none
@@ -67,7 +66,7 @@ items-open [] shape = tt
 items-open (d ∷ ds) shape = (go d (opened-so d (shape .0)), items-open ds (shape .1))
   where
     go : (d : List Typed) → Opened d → Opens isD (map ownItem d)
-    go d (opened-by r rs e details) = record { first = ownItem r; others = map ownItem rs; whole = refl; passes = ap (λ (k : Kind). opens (recordOf (kindFor k))) e; none = details-shut rs details }
+    go d (opened-by r rs e details) = record { first = ownItem r; others = map ownItem rs; whole = refl; passes = ap (λ (k : RecordKind). opens (recordOf (kindFor k))) e; none = details-shut rs details }
 
 -- so the list of a flow is its header's item and its dispositions', and the ledger finds them there
 module _ (f : List ℕ) (t : Totals) (g : Grammar f t) where
@@ -89,7 +88,7 @@ module _ (f : List ℕ) (t : Totals) (g : Grammar f t) where
   dispositions-so = ap dispositions listed-so ∙ groups-joined isD (itemsBy ds) (items-open ds (grammar-shape f t g))
 
 -- disposition k among them
-module _ (f : List ℕ) (k : ℕ) (v : Target) (w : Among f k v) where
+module _ (f : List ℕ) (k : ℕ) (v : WithTotals) (w : Neighbours f k v) where
   abbrev own : Item
   own = itemOfHeader (w .grammar .parts .header)
 
@@ -99,33 +98,33 @@ module _ (f : List ℕ) (k : ℕ) (v : Target) (w : Among f k v) where
   abbrev here : List Item
   here = map ownItem (w .this)
 
-  abbrev behind : List (List Item)
-  behind = itemsBy (w .post)
+  abbrev after : List (List Item)
+  after = itemsBy (w .post)
 
-  found-so : dispositions (itemsOf f) ≡ before ++ (here ∷ behind)
+  found-so : dispositions (itemsOf f) ≡ before ++ (here ∷ after)
   found-so = dispositions-so f (v .totals) (w .grammar) ∙ ap itemsBy (w .split) ∙ map-append (map ownItem) (w .pre) (w .this ∷ w .post)
 
-  parts : (take (k - 1) (dispositions (itemsOf f)) ≡ before) × (getD (dispositions (itemsOf f)) (k - 1) [] ≡ here) × (drop k (dispositions (itemsOf f)) ≡ behind)
-  parts = parted k [] (dispositions (itemsOf f)) before here behind found-so (w .numbered ∙ ap (λ (i : ℕ). 1 + i) (sym (length-map (w .pre) (map ownItem))))
+  parts : (take (k - 1) (dispositions (itemsOf f)) ≡ before) × (getD (dispositions (itemsOf f)) (k - 1) [] ≡ here) × (drop k (dispositions (itemsOf f)) ≡ after)
+  parts = parted k [] (dispositions (itemsOf f)) before here after found-so (w .numbered ∙ ap (λ (i : ℕ). 1 + i) (sym (length-map (w .pre) (map ownItem))))
 
-  pub without-listed : withoutDisposition k (itemsOf f) ≡ own ∷ flatten (before ++ behind)
+  pub without-listed : withoutDisposition k (itemsOf f) ≡ own ∷ flatten (before ++ after)
   unfolding withoutDisposition
   without-listed = λ i. head-so f (v .totals) (w .grammar) i ++ flatten (parts .0 i ++ parts .2 i)
 
-  pub amount-listed : (new : ℕ) → withAmount k new (itemsOf f) ≡ own ∷ flatten (before ++ (firstRepriced new here ∷ behind))
+  pub amount-listed : (new : ℕ) → withAmount k new (itemsOf f) ≡ own ∷ flatten (before ++ (firstRepriced new here ∷ after))
   unfolding withAmount
   amount-listed new = λ i. head-so f (v .totals) (w .grammar) i ++ flatten (parts .0 i ++ (firstRepriced new (parts .1 i) ∷ parts .2 i))
 
--- bytes carried from behind the number are not touched by another number
+-- bytes carried from after the number are not touched by another number
 gather-kept :
     (ss : List Span) (rec other : List ℕ) → All (λ (t : Span). 10 ≤ firstOf t - 1) ss → ((a n : ℕ) → 10 ≤ a → part a n other ≡ part a n rec) → gather ss other ≡ gather ss rec
 unfolding flatten
-gather-kept [] rec other behind same = refl
-gather-kept ((a to e) ∷ ss) rec other behind same =
-    ap₂ (λ (xs ys : List ℕ). xs ++ ys) (same (a - 1) (e - (a - 1)) (behind .0)) (gather-kept ss rec other (behind .1) same)
+gather-kept [] rec other after same = refl
+gather-kept ((a to e) ∷ ss) rec other after same =
+    ap₂ (λ (xs ys : List ℕ). xs ++ ys) (same (a - 1) (e - (a - 1)) (after .0)) (gather-kept ss rec other (after .1) same)
 
 carried-kept : (r : Typed) (j : ℕ) → length (r .bytes) ≡ 120 → heads (recordKind (ownItem r)) ≡ false → ownItem (retyped j r) ≡ ownItem r
-carried-kept r j whole member = ap (item (kindFor (r .kind))) (gather-kept (carried (kindFor (r .kind))) (r .bytes) (renumbered j (r .bytes)) (carried-behind-number (kindFor (r .kind)) member) (λ a n h. over-kept 3 7 j (r .bytes) whole (omega arith) a n (inr h)))
+carried-kept r j whole member = ap (item (kindFor (r .kind))) (gather-kept (carried (kindFor (r .kind))) (r .bytes) (renumbered j (r .bytes)) (carried-after-number (kindFor (r .kind)) member) (λ a n h. over-kept 3 7 j (r .bytes) whole (omega arith) a n (inr h)))
 
 module _ (abi : List ℕ) where
   details-kept : (i j : ℕ) (rs : List Typed) → All Detail (kindsOf rs) → All (Member abi i) rs → map ownItem (map (retyped j) rs) ≡ map ownItem rs
@@ -138,18 +137,18 @@ module _ (abi : List ℕ) where
     where
       go : (d : List Typed) → Opened d → All (Member abi i) d → map ownItem (map (retyped j) d) ≡ map ownItem d
       go d (opened-by r rs e details) members =
-          ap₂ (λ (x : Item) (xs : List Item). x ∷ xs) (carried-kept r j (members .0 .0 .whole) (ap (λ (k : Kind). heads (recordOf (kindFor k))) e)) (details-kept i j rs details (members .1))
+          ap₂ (λ (x : Item) (xs : List Item). x ∷ xs) (carried-kept r j (members .0 .0 .whole) (ap (λ (k : RecordKind). heads (recordOf (kindFor k))) e)) (details-kept i j rs details (members .1))
 
   -- so dispositions that are numbered anew have the same items
-  pub typed-items : (i j : ℕ) (ds : List (List Typed)) → Numbered abi i ds → itemsBy (typedFrom j ds) ≡ itemsBy ds
+  pub typed-items : (i j : ℕ) (ds : List (List Typed)) → RightDispositions abi i ds → itemsBy (typedFrom j ds) ≡ itemsBy ds
   typed-items i j [] each = refl
   typed-items i j (d ∷ ds) each = ap₂ (λ (x : List Item) (xs : List (List Item)). x ∷ xs) (items-retyped i j d (each .0)) (typed-items (suc i) (suc j) ds (each .1))
 
 -- and another amount in a 14 is another amount in its D
-gather-repriced : (new : ℕ) (rec : List ℕ) → length rec ≡ 120 → gather (carried (kindFor R14)) (Kept·repriced new rec) ≡ put amountIndex (digits 13 new) (gather (carried (kindFor R14)) rec)
+gather-repriced : (new : ℕ) (rec : List ℕ) → length rec ≡ 120 → gather (carried (kindFor R14)) (repricedRecord new rec) ≡ put amountIndex (digits 13 new) (gather (carried (kindFor R14)) rec)
 unfolding flatten
 gather-repriced new rec whole =
-    let other = Kept·repriced new rec in
+    let other = repricedRecord new rec in
     let size = written-length 13 new in
     let fits : 33 + length (digits 13 new) ≤ length rec = omega arith in
     let kept : (b w : ℕ) → (b + w ≤ 33) ⊎ (46 ≤ b) → part b w other ≡ part b w rec = over-kept 33 13 new rec whole (omega arith) in
@@ -161,10 +160,10 @@ gather-repriced new rec whole =
     ∙ sym (put-at 6 (part 22 6 rec) (part 33 13 rec) (part 52 17 rec ++ (part 91 22 rec ++ [])) (digits 13 new) (part-length 22 6 rec (omega arith)) (part-length 33 13 rec (omega arith) ∙ sym size))
 
 module _ (new : ℕ) where
-  opening-item : (r : Typed) → r .kind ≡ R14 → length (r .bytes) ≡ 120 → ownItem (record { kind = r .kind; bytes = Kept·repriced new (r .bytes) }) ≡ repriced new (ownItem r)
+  opening-item : (r : Typed) → r .kind ≡ R14 → length (r .bytes) ≡ 120 → ownItem (record { kind = r .kind; bytes = repricedRecord new (r .bytes) }) ≡ repriced new (ownItem r)
   opening-item r e whole =
       ap (item (kindFor (r .kind)))
-      (subst (λ (k : Kind). gather (carried (kindFor k)) (Kept·repriced new (r .bytes)) ≡ put amountIndex (digits 13 new) (gather (carried (kindFor k)) (r .bytes))) (sym e) (gather-repriced new (r .bytes) whole))
+      (subst (λ (k : RecordKind). gather (carried (kindFor k)) (repricedRecord new (r .bytes)) ≡ put amountIndex (digits 13 new) (gather (carried (kindFor k)) (r .bytes))) (sym e) (gather-repriced new (r .bytes) whole))
 
   pub items-retold : (abi : List ℕ) (i : ℕ) (d : List Typed) → RightDisposition abi i d → map ownItem (retold new d) ≡ firstRepriced new (map ownItem d)
   items-retold abi i d right = go d (opened-so d (right .order)) (right .records)
@@ -173,32 +172,32 @@ module _ (new : ℕ) where
       go d (opened-by r rs e details) members = ap (λ (x : Item). x ∷ map ownItem rs) (opening-item r e (members .0 .0 .whole))
 
 -- the cents of items
-cents-append : (xs ys : List Item) → centsOf (xs ++ ys) ≡ centsOf xs + centsOf ys
-unfolding centsOf
+cents-append : (xs ys : List Item) → listCents (xs ++ ys) ≡ listCents xs + listCents ys
+unfolding listCents
 cents-append [] ys = omega arith
 cents-append (x ∷ xs) ys = omega (arith, cents-append xs ys)
 
-details-cents : (rs : List Typed) → All Detail (kindsOf rs) → centsOf (map ownItem rs) ≡ 0
-unfolding centsOf
+details-cents : (rs : List Typed) → All Detail (kindsOf rs) → listCents (map ownItem rs) ≡ 0
+unfolding listCents
 details-cents [] details = refl
 details-cents (r ∷ rs) details =
-    let none : amountOf (ownItem r) ≡ 0 = ap (λ (b : Bool). cond b (number (amountCarried (ownItem r .body))) 0) (detail-shut (r .kind) (details .0)) in
+    let none : itemAmount (ownItem r) ≡ 0 = ap (λ (b : Bool). cond b (number (amountCarried (ownItem r .body))) 0) (detail-shut (r .kind) (details .0)) in
     omega (arith, details-cents rs (details .1))
 
-opening-cents : (r : Typed) → r .kind ≡ R14 → length (r .bytes) ≡ 120 → amountOf (ownItem r) ≡ number (amountIn (r .bytes))
+opening-cents : (r : Typed) → r .kind ≡ R14 → length (r .bytes) ≡ 120 → itemAmount (ownItem r) ≡ number (amountIn (r .bytes))
 opening-cents r e whole =
-    subst (λ (k : Kind). amountOf (item (kindFor k) (gather (carried (kindFor k)) (r .bytes))) ≡ number (amountIn (r .bytes))) (sym e)
+    subst (λ (k : RecordKind). itemAmount (item (kindFor k) (gather (carried (kindFor k)) (r .bytes))) ≡ number (amountIn (r .bytes))) (sym e)
     (ap number (gather-at (carried (kindFor R14)) (firstOf amountSpan) (lastOf amountSpan) (r .bytes) (carried-within (kindFor R14)) whole refl))
 
-disposition-cents : (abi : List ℕ) (i : ℕ) (d : List Typed) → RightDisposition abi i d → centsOf (map ownItem d) ≡ Grammar·amountOf d
-unfolding centsOf
+disposition-cents : (abi : List ℕ) (i : ℕ) (d : List Typed) → RightDisposition abi i d → listCents (map ownItem d) ≡ dispositionAmount d
+unfolding listCents
 disposition-cents abi i d right = go d (opened-so d (right .order)) (right .records)
   where
-    go : (d : List Typed) → Opened d → All (Member abi i) d → centsOf (map ownItem d) ≡ Grammar·amountOf d
+    go : (d : List Typed) → Opened d → All (Member abi i) d → listCents (map ownItem d) ≡ dispositionAmount d
     go d (opened-by r rs e details) members = omega (arith, opening-cents r e (members .0 .0 .whole), details-cents rs details)
 
-pub items-cents : (abi : List ℕ) (i : ℕ) (ds : List (List Typed)) → Numbered abi i ds → centsOf (flatten (itemsBy ds)) ≡ amounts ds
-unfolding centsOf flatten
+pub items-cents : (abi : List ℕ) (i : ℕ) (ds : List (List Typed)) → RightDispositions abi i ds → listCents (flatten (itemsBy ds)) ≡ amounts ds
+unfolding listCents flatten
 items-cents abi i [] each = refl
 items-cents abi i (d ∷ ds) each =
     cents-append (map ownItem d) (flatten (itemsBy ds)) ∙ omega (arith, disposition-cents abi i d (each .0), items-cents abi (suc i) ds (each .1))

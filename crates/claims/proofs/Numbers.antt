@@ -15,24 +15,23 @@ use Rattle.fields.proofs.DigitField.{field-refused, amount-refused}
 use Rattle.fields.proofs.Gregorian.{date-refused}
 use Rattle.records.specs.Checks.{isListed, checks}
 use Rattle.records.specs.Context.{Header, Context}
-use Rattle.records.specs.Finding.{Check, check, right, firstFault, FirstBroken}
-use Rattle.records.specs.Finding.{refused as Finding·refused}
-use Rattle.records.specs.Judge.{asked}
-use Rattle.records.specs.Judge.{judge as Record·judge}
+use Rattle.records.specs.RecordVerdict.{Check, check, right, firstFault, FirstBroken}
+use Rattle.records.specs.RecordVerdict.{refused as RecordVerdict·refused}
+use Rattle.records.specs.Judge.{asked, judgeAs}
 use Rattle.records.specs.Kinds.{closes}
-use Rattle.records.specs.declared.kind.Kind.{Kind}
+use Rattle.records.specs.declared.kind.RecordKind.{RecordKind}
 use Rattle.records.proofs.EachKind.{each-kind}
 use Rattle.records.proofs.FirstFault.{right-not-refused}
 use Rattle.records.proofs.Numbers.{numbersOf, refused-by}
 use Rattle.flow.specs.Find.{IsNumber, find}
 use Rattle.flow.specs.Judge.{judge}
-use Rattle.flow.specs.Steps.{judgeRecord}
+use Rattle.flow.specs.Walking.{judgeRecord}
 use Rattle.flow.specs.Verdict.{accepted, refused, refusal, ofCall}
 use Rattle.flow.specs.declared.answer.Refusal.{Refusal}
 use Rattle.flow.specs.declared.answer.Totals.{Totals}
 use Rattle.flow.specs.declared.walk.Walk.{Walk}
 use Rattle.flow.proofs.Dispositions.{find-refused}
-use Rattle.flow.proofs.Sought.{seek-exact}
+use Rattle.flow.proofs.FindWithTotals.{find-with-totals-exact}
 use Rattle.grammar.specs.Fault.{Fault, bad-byte, wrong-type, broken, FirstFault, wrong-length, in-record, still-due}
 use Rattle.grammar.proofs.AtPlace.{FaultAt, place-fault-exact}
 use Rattle.grammar.proofs.FirstFault.{first-fault-exact}
@@ -72,46 +71,46 @@ broken-number [] others n p = rw (eq-eqb n n refl)
 broken-number (check holds m q ∷ held) others n p = rw (broken-number held others n p, or-true)
 
 -- so is the number of the first check of a row that fails
-row-broken : (ctx : Context) (rec : List ℕ) (k : Kind) (n p : ℕ) → FirstBroken (checks k ctx rec) n p → OneOf (numbersOf (checks k ctx rec)) n
+row-broken : (ctx : Context) (rec : List ℕ) (k : RecordKind) (n p : ℕ) → FirstBroken (checks k ctx rec) n p → OneOf (numbersOf (checks k ctx rec)) n
 row-broken ctx rec k n p (held, others, same, h) = subst (λ (cs : List Check). OneOf (numbersOf cs) n) (sym same) (broken-number held others n p)
 
 -- one record: the numbers of every row, and 1 for its length
-row-number : (ctx : Context) (rec : List ℕ) (k : Kind) (n : ℕ) → OneOf (numbersOf (checks k ctx rec)) n → OneOf recordNumbers n
+row-number : (ctx : Context) (rec : List ℕ) (k : RecordKind) (n : ℕ) → OneOf (numbersOf (checks k ctx rec)) n → OneOf recordNumbers n
 unfolding every isListed checks
 row-number ctx rec k n h =
     among recordNumbers (numbersOf (checks k ctx rec)) n
-    (each-kind (λ (k : Kind). areAmong recordNumbers (numbersOf (checks k ctx rec)) ≡ true) (refl, (refl, (refl, (refl, (refl, (refl, (refl, (refl, (refl, (refl, (refl, tt))))))))))) k) h
+    (each-kind (λ (k : RecordKind). areAmong recordNumbers (numbersOf (checks k ctx rec)) ≡ true) (refl, (refl, (refl, (refl, (refl, (refl, (refl, (refl, (refl, (refl, (refl, tt))))))))))) k) h
 
-record-judging : (k : Kind) (ctx : Context) (rec : List ℕ) (n p : ℕ) → Record·judge k ctx rec ≡ Finding·refused n p → OneOf recordNumbers n
-unfolding Record·judge isListed
+record-judging : (k : RecordKind) (ctx : Context) (rec : List ℕ) (n p : ℕ) → judgeAs k ctx rec ≡ RecordVerdict·refused n p → OneOf recordNumbers n
+unfolding judgeAs isListed
 record-judging k ctx rec n p = by (eqb (length rec) 120)
   where
-    told : (isListed n (numbersOf (checks k ctx rec)) ≡ true) ⊎ (right k (asked k rec) ≡ Finding·refused n p) → OneOf recordNumbers n
+    told : (isListed n (numbersOf (checks k ctx rec)) ≡ true) ⊎ (right k (asked k rec) ≡ RecordVerdict·refused n p) → OneOf recordNumbers n
     told (inl h) = row-number ctx rec k n h
     told (inr h) = absurd (right-not-refused (sym h))
 
-    by : (b : Bool) → cond b (firstFault (checks k ctx rec) (right k (asked k rec))) (Finding·refused 1 0) ≡ Finding·refused n p → OneOf recordNumbers n
+    by : (b : Bool) → cond b (firstFault (checks k ctx rec) (right k (asked k rec))) (RecordVerdict·refused 1 0) ≡ RecordVerdict·refused n p → OneOf recordNumbers n
     by true e = told (refused-by (checks k ctx rec) (right k (asked k rec)) n p e)
     by false e = let one : 1 ≡ n = cc in subst (OneOf recordNumbers) one refl
 
 -- at its place: 2, 3, or a number of the row of its kind
-place-number : {may : Kind → Type 0} {asked : Kind → Context} {rec : List ℕ} {n p : ℕ} → Fault may asked rec n p → OneOf placeNumbers n
+place-number : {may : RecordKind → Type 0} {asked : RecordKind → Context} {rec : List ℕ} {n p : ℕ} → Fault may asked rec n p → OneOf placeNumbers n
 unfolding every isListed
 place-number (bad-byte bs b cs same before bad) = refl
 place-number (wrong-type printable none) = refl
 place-number {rec = rec} (broken k n p printable type permitted first) = among placeNumbers recordNumbers n refl (row-number _ rec k n (row-broken _ rec k n p first))
 
-walking : (header : Header) (w : Walk) (company : List ℕ) (i : ℕ) (rec : List ℕ) (n p : ℕ) → judgeRecord header w company i rec ≡ Finding·refused n p → OneOf placeNumbers n
+walking : (header : Header) (w : Walk) (company : List ℕ) (i : ℕ) (rec : List ℕ) (n p : ℕ) → judgeRecord header w company i rec ≡ RecordVerdict·refused n p → OneOf placeNumbers n
 unfolding isListed
 walking header w company i rec n p e = by (eqb (length rec) 120) refl
   where
-    exact : (length rec ≡ 120 → (n p : ℕ) → (judgeRecord header w company i rec ≡ Finding·refused n p) ↔ FaultAt header w company i rec n p) × (¬ (length rec ≡ 120) → judgeRecord header w company i rec ≡ Finding·refused 1 0)
+    exact : (length rec ≡ 120 → (n p : ℕ) → (judgeRecord header w company i rec ≡ RecordVerdict·refused n p) ↔ FaultAt header w company i rec n p) × (¬ (length rec ≡ 120) → judgeRecord header w company i rec ≡ RecordVerdict·refused 1 0)
     exact = place-fault-exact header w company i rec
 
     by : (b : Bool) → eqb (length rec) 120 ≡ b → OneOf placeNumbers n
     by true t = place-number (exact .0 (eqb-true (length rec) 120 t) n p .0 e)
     by false t =
-        let same : Finding·refused 1 0 ≡ Finding·refused n p = sym (exact .1 (λ whole. true≢false (sym (eq-eqb (length rec) 120 whole) ∙ t))) ∙ e in
+        let same : RecordVerdict·refused 1 0 ≡ RecordVerdict·refused n p = sym (exact .1 (λ whole. true≢false (sym (eq-eqb (length rec) 120 whole) ∙ t))) ∙ e in
         let one : 1 ≡ n = cc in
         subst (OneOf placeNumbers) one refl
 
@@ -119,7 +118,7 @@ walking header w company i rec n p e = by (eqb (length rec) 120) refl
 read-number : {f : List ℕ} {x : Refusal} → FirstFault f x → OneOf readingNumbers (x .number)
 unfolding every isListed
 read-number (wrong-length wrong) = refl
-read-number (in-record before rec behind n p sized same each fault) = among readingNumbers placeNumbers n refl (place-number fault)
+read-number (in-record before rec after n p sized same each fault) = among readingNumbers placeNumbers n refl (place-number fault)
 read-number (still-due sized each none) = refl
 
 reading : (f : List ℕ) (x : Refusal) → judge f ≡ refused x → OneOf readingNumbers (x .number)
@@ -138,10 +137,10 @@ finding f k x e = by (find-refused f k x .0 e)
 abbrev rowNumbers : List ℕ
 rowNumbers = 9 ∷ writingNumbers
 
-writing-row : (ctx : Context) (rec : List ℕ) (k : Kind) → closes k ≡ false → areAmong rowNumbers (numbersOf (checks k ctx rec)) ≡ true
+writing-row : (ctx : Context) (rec : List ℕ) (k : RecordKind) → closes k ≡ false → areAmong rowNumbers (numbersOf (checks k ctx rec)) ≡ true
 unfolding every isListed checks
 writing-row ctx rec =
-    each-kind (λ (k : Kind). closes k ≡ false → areAmong rowNumbers (numbersOf (checks k ctx rec)) ≡ true)
+    each-kind (λ (k : RecordKind). closes k ≡ false → areAmong rowNumbers (numbersOf (checks k ctx rec)) ≡ true)
     (λ h. refl, (λ h. refl, (λ h. refl, (λ h. refl, (λ h. refl, (λ h. refl, (λ h. refl, (λ h. refl, (λ h. refl, (λ h. refl, (λ h. absurd (true≢false h), tt)))))))))))
 
 write-number : {list : List ℕ} {room : ℕ} {x : Refusal} → WriteFault list room x → OneOf rowNumbers (x .number)
@@ -177,7 +176,7 @@ numbers-given =
       walking = walking;
       reading = reading;
       finding = finding;
-      seeking = λ f k x e. finding f k x (seek-exact f k .1 x .0 e);
+      finding-with-totals = λ f k x e. finding f k x (find-with-totals-exact f k .1 x .0 e);
       writing = writing;
       reading-back = λ f room x e. by-room f room x (read-back-refused f room x .0 e);
       changing = λ f k new x e. change-number (change-refused f k new x .0 e);

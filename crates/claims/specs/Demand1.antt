@@ -4,21 +4,20 @@ use mathlib.Core.Bool.{true}
 use mathlib.Core.List.{List, [], _∷_, _++_}
 use mathlib.Core.Path.{_≡_}
 use Rattle.fields.specs.Amount.{amountField}
-use Rattle.fields.specs.Answer.{refused as Answer·refused}
+use Rattle.fields.specs.FieldVerdict.{refused as FieldVerdict·refused}
 use Rattle.fields.specs.Date.{dateField}
 use Rattle.fields.specs.Digits.{digitField}
 use Rattle.fields.specs.Laws.{FieldRefused, AmountRefused, DateRefused}
 use Rattle.records.specs.Checks.{isListed}
 use Rattle.records.specs.Context.{Header, Context}
-use Rattle.records.specs.Finding.{refused as Finding·refused}
-use Rattle.records.specs.Judge.{judge as Record·judge}
+use Rattle.records.specs.RecordVerdict.{refused as RecordVerdict·refused}
+use Rattle.records.specs.Judge.{judgeAs}
 use Rattle.records.specs.Laws.{ChecksInOrder, BrokenExact, OneForLength, AmountRows}
-use Rattle.records.specs.declared.kind.Kind.{Kind}
-use Rattle.flow.specs.Find.{find}
+use Rattle.records.specs.declared.kind.RecordKind.{RecordKind}
+use Rattle.flow.specs.Find.{find, findWithTotals}
 use Rattle.flow.specs.Judge.{judge}
-use Rattle.flow.specs.Laws.{LengthRefused, FindRefused, PartPlaced, SeekExact}
-use Rattle.flow.specs.Seek.{seek}
-use Rattle.flow.specs.Steps.{judgeRecord}
+use Rattle.flow.specs.Laws.{LengthRefused, FindRefused, PartPlaced, FindWithTotalsExact}
+use Rattle.flow.specs.Walking.{judgeRecord}
 use Rattle.flow.specs.Verdict.{refused}
 use Rattle.flow.specs.declared.answer.Refusal.{Refusal}
 use Rattle.flow.specs.declared.walk.Walk.{Walk}
@@ -29,7 +28,7 @@ use Rattle.list.specs.Write.{judgeList}
 use Rattle.amend.specs.Change.{change}
 use Rattle.amend.specs.Laws.{ChangeRefused, WithdrawRefused, RefusedUntouched}
 use Rattle.amend.specs.Withdraw.{withdraw}
-use Rattle.capi.specs.Laws.{RefusedLeaves, RepliesTell}
+use Rattle.capi.specs.Laws.{RefusedLeaves, ReturnedTells}
 use Rattle.claims.specs.EntryPoints.{EntryPoints}
 
 -- the numbers that document 01 gives to each call; 19 is given to none
@@ -65,14 +64,14 @@ abbrev pub OneOf : List ℕ → ℕ → Type 0
 OneOf ns n = isListed n ns ≡ true
 
 pub record NumbersGiven : Type 0 where
-  pub digits : (bs : List ℕ) (n : ℕ) → digitField bs ≡ Answer·refused n → OneOf (5 ∷ []) n
-  pub amount : (bs : List ℕ) (n : ℕ) → amountField bs ≡ Answer·refused n → OneOf (5 ∷ []) n
-  pub date : (bs : List ℕ) (n : ℕ) → dateField bs ≡ Answer·refused n → OneOf (5 ∷ 8 ∷ []) n
-  pub record-judging : (k : Kind) (ctx : Context) (rec : List ℕ) (n p : ℕ) → Record·judge k ctx rec ≡ Finding·refused n p → OneOf recordNumbers n
-  pub walking : (header : Header) (w : Walk) (company : List ℕ) (i : ℕ) (rec : List ℕ) (n p : ℕ) → judgeRecord header w company i rec ≡ Finding·refused n p → OneOf placeNumbers n
+  pub digits : (bs : List ℕ) (n : ℕ) → digitField bs ≡ FieldVerdict·refused n → OneOf (5 ∷ []) n
+  pub amount : (bs : List ℕ) (n : ℕ) → amountField bs ≡ FieldVerdict·refused n → OneOf (5 ∷ []) n
+  pub date : (bs : List ℕ) (n : ℕ) → dateField bs ≡ FieldVerdict·refused n → OneOf (5 ∷ 8 ∷ []) n
+  pub record-judging : (k : RecordKind) (ctx : Context) (rec : List ℕ) (n p : ℕ) → judgeAs k ctx rec ≡ RecordVerdict·refused n p → OneOf recordNumbers n
+  pub walking : (header : Header) (w : Walk) (company : List ℕ) (i : ℕ) (rec : List ℕ) (n p : ℕ) → judgeRecord header w company i rec ≡ RecordVerdict·refused n p → OneOf placeNumbers n
   pub reading : (f : List ℕ) (x : Refusal) → judge f ≡ refused x → OneOf readingNumbers (x .number)
   pub finding : (f : List ℕ) (k : ℕ) (x : Refusal) → find f k ≡ refused x → OneOf findingNumbers (x .number)
-  pub seeking : (f : List ℕ) (k : ℕ) (x : Refusal) → seek f k ≡ refused x → OneOf findingNumbers (x .number)
+  pub finding-with-totals : (f : List ℕ) (k : ℕ) (x : Refusal) → findWithTotals f k ≡ refused x → OneOf findingNumbers (x .number)
   pub writing : (list : List ℕ) (room : ℕ) (x : Refusal) → judgeList list room ≡ refused x → OneOf writingNumbers (x .number)
   pub reading-back : (f : List ℕ) (room : ℕ) (x : Refusal) → judgeRoom f room ≡ refused x → OneOf readingBackNumbers (x .number)
   pub changing : (f : List ℕ) (k new : ℕ) (x : Refusal) → change f k new .answer ≡ refused x → OneOf changeNumbers (x .number)
@@ -105,7 +104,7 @@ pub record Demand1 : Type 2 where
   pub find : FindRefused
   pub part : PartEmpty
   pub part-placed : PartPlaced
-  pub seek-exact : SeekExact
+  pub find-with-totals-exact : FindWithTotalsExact
   -- a list: which item is none, and each refusal of writing where those before it do not apply
   pub faulty : FaultyExact
   pub write : WriteRefused
@@ -121,4 +120,4 @@ pub record Demand1 : Type 2 where
   pub amended-none : RefusedUntouched
   -- so it is through the C interface, whose entries tell the whole answer (of an accepted date no day)
   pub returned-none : RefusedLeaves
-  pub replies-tell : RepliesTell
+  pub returned-tells : ReturnedTells

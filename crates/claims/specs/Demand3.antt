@@ -8,19 +8,19 @@ use Rattle.flow.specs.Judge.{judge}
 use Rattle.flow.specs.Verdict.{accepted, refused}
 use Rattle.flow.specs.declared.answer.Refusal.{Refusal}
 use Rattle.flow.specs.declared.answer.Totals.{Totals}
-use Rattle.flow.specs.declared.location.Target.{Target}
-use Rattle.list.specs.Encode.{totalsOf, encode}
+use Rattle.flow.specs.declared.location.WithTotals.{WithTotals}
+use Rattle.list.specs.Encode.{listTotals, encode}
 use Rattle.list.specs.Items.{Item, listBytes}
 use Rattle.list.specs.ReadBack.{itemsOf, listOf, Canonical}
 use Rattle.amend.specs.Amended.{Amended}
 use Rattle.amend.specs.Laws.{Untouched, flowLeft, AmountOnly, Moved}
-use Rattle.claims.specs.Ledger.{Call, change, withdraw, Reply, listAfter, repliesOn}
+use Rattle.claims.specs.Ledger.{Call, change-of, withdrawal-of, Reply, listAfter, repliesOn}
 use Rattle.claims.specs.Run.{Memory, holding, flowIn, run, replies, EachCall}
 
 -- what is left of the flow f in the memory, and what was answered, beside the list on the ledger and its replies
 pub record Agrees (f : List ℕ) (after : Memory) (answers : List Reply) (list : List Item) (due : List Reply) : Type 0 where
   -- "the flow left is accepted": with the count, the total and the records of the list on the ledger
-  pub read : judge (flowIn after) ≡ accepted (totalsOf list)
+  pub read : judge (flowIn after) ≡ accepted (listTotals list)
   -- "its request list is exactly the one on the sheet": as items, and as bytes
   pub items : itemsOf (flowIn after) ≡ list
   pub bytes : listOf (flowIn after) ≡ listBytes list
@@ -33,26 +33,26 @@ pub record Agrees (f : List ℕ) (after : Memory) (answers : List Reply) (list :
   pub within : after .size ≤ length f
   pub memory : after .bytes ≡ flowIn after ++ replicate (length f - after .size) 32
 
--- what holds behind a list of calls on the flow f, with the ledger that "starts as the first flow's list and is kept from the calls alone"
-abbrev pub Kept : List ℕ → List Call → Memory → List Reply → Type 0
-Kept f calls after answers = Agrees f after answers (listAfter calls (itemsOf f)) (repliesOn calls (itemsOf f))
+-- what holds after a list of calls on the flow f, with the ledger that "starts as the first flow's list and is kept from the calls alone"
+abbrev pub KeepsLedger : List ℕ → List Call → Memory → List Reply → Type 0
+KeepsLedger f calls after answers = Agrees f after answers (listAfter calls (itemsOf f)) (repliesOn calls (itemsOf f))
 
 -- the positions that document 01 names for an accepted call, where disposition k stands as it was found, and the trailer is the last
 -- record: of a change by byte index; of a withdrawal by comparing each record that is kept with the one that it came from
-abbrev pub TouchesOnly : Call → List ℕ → Amended → Target → Type 0
-TouchesOnly (change k new) f a v = AmountOnly f (a .bytes) (v .totals .records) (v .stand .first)
-TouchesOnly (withdraw k) f a v = Moved f (flowLeft a) (v .totals .records) (v .stand .first) (v .stand .records)
+abbrev pub TouchesOnly : Call → List ℕ → Amended → WithTotals → Type 0
+TouchesOnly (change-of k new) f a v = AmountOnly f (a .bytes) (v .totals .records) (v .location .first)
+TouchesOnly (withdrawal-of k) f a v = Moved f (flowLeft a) (v .totals .records) (v .location .first) (v .location .records)
 
 abbrev pub numberOf : Call → ℕ
-numberOf (change k new) = k
-numberOf (withdraw k) = k
+numberOf (change-of k new) = k
+numberOf (withdrawal-of k) = k
 
 -- an accepted call: the flow that it was lent is accepted, disposition k stands in it, and no position but these differs
 pub record Amends (call : Call) (f : List ℕ) (a : Amended) : Type 0 where
-  pub target : Target
-  pub read : judge f ≡ accepted (target .totals)
-  pub found : find f (numberOf call) ≡ accepted (target .stand)
-  pub touches : TouchesOnly call f a target
+  pub withTotals : WithTotals
+  pub read : judge f ≡ accepted (withTotals .totals)
+  pub found : find f (numberOf call) ≡ accepted (withTotals .location)
+  pub touches : TouchesOnly call f a withTotals
 
 -- "each accepted call touches only the positions document 01 names for it; each refused one touches none"
 pub record Touched (call : Call) (f : List ℕ) (a : Amended) : Type 0 where
@@ -63,4 +63,4 @@ pub record Touched (call : Call) (f : List ℕ) (a : Amended) : Type 0 where
 abbrev pub Demand3 : Type 0
 Demand3 =
     (f : List ℕ) (t : Totals) → judge f ≡ accepted t → (calls : List Call)
-    → Kept f calls (run calls (holding f)) (replies calls (holding f)) × EachCall Touched calls (holding f)
+    → KeepsLedger f calls (run calls (holding f)) (replies calls (holding f)) × EachCall Touched calls (holding f)

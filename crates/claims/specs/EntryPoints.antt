@@ -17,8 +17,8 @@ use Rattle.fields.proofs.equal.Reads.{requires as equal-requires}
 use Rattle.fields.proofs.equal.Statement.{statement as equal-statement}
 use Rattle.records.proofs.judge.Reads.{requires as record-judge-requires}
 use Rattle.records.proofs.judge.Statement.{statement as record-judge-statement}
-use Rattle.records.proofs.seen_right.Reads.{requires as seen-right-requires}
-use Rattle.records.proofs.seen_right.Statement.{statement as seen-right-statement}
+use Rattle.records.proofs.passes_quick_test.Reads.{requires as passes-quick-test-requires}
+use Rattle.records.proofs.passes_quick_test.Statement.{statement as passes-quick-test-statement}
 use Rattle.records.proofs.bad_byte.Reads.{requires as bad-byte-requires}
 use Rattle.records.proofs.bad_byte.Statement.{statement as bad-byte-statement}
 use Rattle.records.proofs.field.Reads.{requires as field-requires}
@@ -57,12 +57,12 @@ use Rattle.flow.proofs.find.Reads.{requires as find-requires}
 use Rattle.flow.proofs.find.Statement.{statement as find-statement}
 use Rattle.flow.proofs.disposition.Reads.{requires as disposition-requires}
 use Rattle.flow.proofs.disposition.Statement.{statement as disposition-statement}
-use Rattle.flow.proofs.seek.Reads.{requires as seek-requires}
-use Rattle.flow.proofs.seek.Statement.{statement as seek-statement}
-use Rattle.flow.proofs.count.Reads.{requires as count-requires}
-use Rattle.flow.proofs.count.Statement.{statement as count-statement}
-use Rattle.flow.proofs.index.Reads.{requires as index-requires}
-use Rattle.flow.proofs.index.Statement.{statement as index-statement}
+use Rattle.flow.proofs.find_with_totals.Reads.{requires as find-with-totals-requires}
+use Rattle.flow.proofs.find_with_totals.Statement.{statement as find-with-totals-statement}
+use Rattle.flow.proofs.as_count.Reads.{requires as as-count-requires}
+use Rattle.flow.proofs.as_count.Statement.{statement as as-count-statement}
+use Rattle.flow.proofs.as_index.Reads.{requires as as-index-requires}
+use Rattle.flow.proofs.as_index.Statement.{statement as as-index-statement}
 use Rattle.flow.proofs.refusal_of_call.Reads.{requires as refusal-of-call-requires}
 use Rattle.flow.proofs.refusal_of_call.Statement.{statement as refusal-of-call-statement}
 use Rattle.list.proofs.write.Reads.{requires as write-requires}
@@ -107,7 +107,7 @@ pub record EntryPoints : Type 2 where
   pub equal : EntryPoint equal-statement equal-requires
   -- records: the rules of one record
   pub record-judge : EntryPoint record-judge-statement record-judge-requires
-  pub seen-right : EntryPoint seen-right-statement seen-right-requires
+  pub passes-quick-test : EntryPoint passes-quick-test-statement passes-quick-test-requires
   pub bad-byte : EntryPoint bad-byte-statement bad-byte-requires
   pub field : EntryPoint field-statement field-requires
   pub write-number : EntryPoint write-number-statement write-number-requires
@@ -128,10 +128,10 @@ pub record EntryPoints : Type 2 where
   pub walk-totals : EntryPoint walk-totals-statement walk-totals-requires
   pub find : EntryPoint find-statement find-requires
   pub disposition : EntryPoint disposition-statement disposition-requires
-  pub seek : EntryPoint seek-statement seek-requires
+  pub find-with-totals : EntryPoint find-with-totals-statement find-with-totals-requires
   pub refusal-of-call : EntryPoint refusal-of-call-statement refusal-of-call-requires
-  pub count : EntryPoint count-statement count-requires
-  pub index : EntryPoint index-statement index-requires
+  pub as-count : EntryPoint as-count-statement as-count-requires
+  pub as-index : EntryPoint as-index-statement as-index-requires
   -- list: a list: writing it, and reading a flow back
   pub write : EntryPoint write-statement write-requires
   pub read-back : EntryPoint read-back-statement read-back-requires

@@ -5,8 +5,8 @@ use mathlib.Core.List.{List, [], _∷_, _++_}
 use mathlib.Core.Path.{_≡_}
 use lib.ListN.{length, drop, replicate}
 use Rattle.sequences.specs.Text.{text}
-use Rattle.fields.specs.Answer.{accepted as Answer·accepted}
-use Rattle.fields.specs.Answer.{refused as Answer·refused}
+use Rattle.fields.specs.FieldVerdict.{accepted as FieldVerdict·accepted}
+use Rattle.fields.specs.FieldVerdict.{refused as FieldVerdict·refused}
 use Rattle.fields.specs.Date.{dateField}
 use Rattle.records.specs.Field.{field}
 use Rattle.flow.specs.Examples.{flowOf, headerIm, trailerEf, further59, withFurther, twoRents}
@@ -19,8 +19,7 @@ use Rattle.list.specs.Items.{listBytes, itemsIn}
 use Rattle.amend.specs.Change.{change}
 use Rattle.amend.specs.Laws.{Untouched, flowLeft}
 use Rattle.amend.specs.Withdraw.{withdraw}
-use Rattle.claims.specs.Ledger.{Call, change-accepted, withdrawal-accepted, listAfter, repliesOn}
-use Rattle.claims.specs.Ledger.{change as Ledger·change, withdraw as Ledger·withdraw, refused as Reply·refused}
+use Rattle.claims.specs.Ledger.{Call, change-accepted, withdrawal-accepted, listAfter, repliesOn, change-of, withdrawal-of, call-refused}
 
 -- the flow of the first rent alone
 abbrev pub oneRent : List ℕ
@@ -50,7 +49,7 @@ pub record Examples : Type 0 where
   pub six : judge (flowOf (headerIm ∷ trailerEf ∷ [])) ≡ refused (refusal 3 2 2)
   -- "290228 is a date's digits but year 2028, February 29: a date; 290227: 8"
   pub seven :
-      (dateField (text "290228") ≡ Answer·accepted (record { day = 29; month = 2; year = 2028 })) × (dateField (text "290227") ≡ Answer·refused 8)
+      (dateField (text "290228") ≡ FieldVerdict·accepted (record { day = 29; month = 2; year = 2028 })) × (dateField (text "290227") ≡ FieldVerdict·refused 8)
   -- "six 59s: 3 at the sixth", which is record 11
   pub eight : judge (withFurther (further59 ∷ further59 ∷ further59 ∷ further59 ∷ further59 ∷ further59 ∷ [])) ≡ refused (refusal 3 11 2)
   -- "a list of one disposition with R and no S has 643 bytes and spells 1,080"
@@ -62,22 +61,22 @@ pub record Examples : Type 0 where
 -- withdrawal, one of the only disposition, and an amount of what is now the first
 abbrev pub someCalls : List Call
 someCalls =
-    Ledger·change 2 40000
-    ∷ Ledger·change 3 1
-    ∷ Ledger·change 1 10000000000000
-    ∷ Ledger·withdraw 1
-    ∷ Ledger·withdraw 1
-    ∷ Ledger·change 1 39000
+    change-of 2 40000
+    ∷ change-of 3 1
+    ∷ change-of 1 10000000000000
+    ∷ withdrawal-of 1
+    ∷ withdrawal-of 1
+    ∷ change-of 1 39000
     ∷ []
 
 pub record LedgerExample : Type 0 where
   pub answered :
       repliesOn someCalls (itemsIn twoRentList)
       ≡ change-accepted (record { dispositions = 2; cents = 85000; records = 16 })
-      ∷ Reply·refused (ofCall 15)
-      ∷ Reply·refused (ofCall 16)
+      ∷ call-refused (ofCall 15)
+      ∷ call-refused (ofCall 16)
       ∷ withdrawal-accepted (record { dispositions = 1; cents = 40000; records = 9 }) 1080
-      ∷ Reply·refused (ofCall 18)
+      ∷ call-refused (ofCall 18)
       ∷ change-accepted (record { dispositions = 1; cents = 39000; records = 9 })
       ∷ []
   -- the header's item, and the second rent's with the new amount

@@ -10,13 +10,13 @@ use Rattle.sequences.specs.Part.{put}
 use Rattle.sequences.specs.Text.{text}
 use Rattle.flow.specs.Examples.{flowOf, further59, firstClosed, withFurther, twoRents}
 use Rattle.flow.specs.Judge.{judge}
-use Rattle.flow.specs.Output.{Output, LeavesAlone}
+use Rattle.flow.specs.Output.{Output, LeftAlone}
 use Rattle.flow.specs.Records.{recordsOf}
-use Rattle.flow.specs.Sums.{dispositionsOf, centsOf}
+use Rattle.flow.specs.ExactTotals.{openingCount, amountSum}
 use Rattle.flow.specs.Verdict.{Verdict, accepted, refused, refusal}
 use Rattle.flow.specs.declared.answer.Refusal.{Refusal}
 use Rattle.flow.specs.declared.answer.Totals.{Totals}
-use Rattle.grammar.specs.Fault.{FaultBehind, FirstFault}
+use Rattle.grammar.specs.Fault.{FaultAfter, FirstFault}
 use Rattle.grammar.specs.Grammar.{Grammar}
 use Rattle.list.specs.Encode.{encode}
 use Rattle.list.specs.Examples.{headerItem, secondItems, twoRentList}
@@ -26,9 +26,8 @@ use Rattle.amend.specs.Amended.{Amended}
 use Rattle.amend.specs.Change.{change}
 use Rattle.amend.specs.Laws.{ChangeFault, WithdrawFault}
 use Rattle.amend.specs.Withdraw.{withdraw}
-use Rattle.claims.specs.Demand3.{Kept}
-use Rattle.claims.specs.Ledger.{Call, Reply}
-use Rattle.claims.specs.Ledger.{withdraw as Call·withdraw}
+use Rattle.claims.specs.Demand3.{KeepsLedger}
+use Rattle.claims.specs.Ledger.{Call, Reply, withdrawal-of}
 use Rattle.claims.specs.Run.{Memory, holding, flowIn, run, replies}
 
 -- a reader, and that it meets demand 2, or demand 1
@@ -47,15 +46,15 @@ Refuses v = (x : Refusal) × (v ≡ refused x)
 -- a reader that reports the lowest number: no fault of any record, wherever it stands, has a lower one than the refusal
 abbrev pub LowestNumber : Reader → Type 0
 LowestNumber read =
-    (f : List ℕ) (x : Refusal) → read f ≡ refused x → (before : List (List ℕ)) (rec : List ℕ) (behind : List (List ℕ)) (m q : ℕ)
-    → recordsOf f ≡ before ++ (rec ∷ behind) → FaultBehind f before rec m q → x .number ≤ m
+    (f : List ℕ) (x : Refusal) → read f ≡ refused x → (before : List (List ℕ)) (rec : List ℕ) (after : List (List ℕ)) (m q : ℕ)
+    → recordsOf f ≡ before ++ (rec ∷ after) → FaultAfter f before rec m q → x .number ≤ m
 
 -- a writer, and that it meets demand 1: a refused call leaves the output as it was
 abbrev pub Writer : Type 0
 Writer = List ℕ → List ℕ → Output Totals
 
 abbrev pub RefusesUntouched : Writer → Type 0
-RefusesUntouched writer = (list out : List ℕ) (x : Refusal) → judgeList list (length out) ≡ refused x → LeavesAlone (writer list out) out
+RefusesUntouched writer = (list out : List ℕ) (x : Refusal) → judgeList list (length out) ≡ refused x → LeftAlone (writer list out) out
 
 -- the two-rent list with a byte at 94 of its last record that is neither blank nor P nor B
 abbrev pub lastWrong : List ℕ
@@ -78,7 +77,7 @@ Service = List Call → List ℕ → Served
 
 abbrev pub Serves : Service → Type 0
 Serves serve =
-    (f : List ℕ) (t : Totals) → judge f ≡ accepted t → (calls : List Call) → Kept f calls (serve calls f .after) (serve calls f .answers)
+    (f : List ℕ) (t : Totals) → judge f ≡ accepted t → (calls : List Call) → KeepsLedger f calls (serve calls f .after) (serve calls f .answers)
 
 -- the library meets each of these
 abbrev pub library : Service
@@ -108,19 +107,19 @@ pub record Excludes : Type 0 where
   -- "made-up counts (demand 2: they equal the sums)"
   pub made-up-counts :
       (read : Reader) → AcceptsExactly read → (f : List ℕ) (t : Totals) → read f ≡ accepted t
-      → (t .dispositions ≡ dispositionsOf (recordsOf f)) × (t .cents ≡ centsOf (recordsOf f)) × (t .records * 120 ≡ length f)
+      → (t .dispositions ≡ openingCount (recordsOf f)) × (t .cents ≡ amountSum (recordsOf f)) × (t .records * 120 ≡ length f)
   -- The rest are the "errors that look right", in document 01's order. "Summing the trailer from the bytes as moved, so that a block copied
   -- twice agrees with itself": whatever its trailer says, the flow left by the withdrawal of the first rent never has two dispositions
-  pub copied-twice : (serve : Service) → Serves serve → ¬ ((t : Totals) × (judge (flowIn (serve (Call·withdraw 1 ∷ []) twoRents .after)) ≡ accepted t) × (t .dispositions ≡ 2))
+  pub copied-twice : (serve : Service) → Serves serve → ¬ ((t : Totals) × (judge (flowIn (serve (withdrawal-of 1 ∷ []) twoRents .after)) ≡ accepted t) × (t .dispositions ≡ 2))
   -- "moving records up from the wrong end, so that later records are overwritten before they are read": what is left is, byte for byte, what
   -- the header and the second rent encode
-  pub moved-up : (serve : Service) → Serves serve → flowIn (serve (Call·withdraw 1 ∷ []) twoRents .after) ≡ encode (itemsIn (flowOf (headerItem ++ secondItems)))
+  pub moved-up : (serve : Service) → Serves serve → flowIn (serve (withdrawal-of 1 ∷ []) twoRents .after) ≡ encode (itemsIn (flowOf (headerItem ++ secondItems)))
   -- "comparing 59 after 50 as a further 50: either kind excludes the other": 3 at the second of them
   pub further-mixed :
       (read : Reader) → RefusesFirst read
       → (read (withFurther (take 1 firstClosed ++ (further59 ∷ []))) ≡ refused (refusal 3 7 2)) × (read (withFurther (further59 ∷ take 1 firstClosed)) ≡ refused (refusal 3 7 2))
   -- "writing output before the last item has been judged, then refusing": the two-rent list whose last item alone breaks a rule
   pub written-early :
-      (judgeItems (itemsIn lastWrong) ≡ refused (refusal 6 15 94)) × ((writer : Writer) → RefusesUntouched writer → (out : List ℕ) → LeavesAlone (writer lastWrong out) out)
+      (judgeItems (itemsIn lastWrong) ≡ refused (refusal 6 15 94)) × ((writer : Writer) → RefusesUntouched writer → (out : List ℕ) → LeftAlone (writer lastWrong out) out)
   -- "reporting the lowest refusal number, where the lowest record is wanted"
   pub lowest-number : (read : Reader) → RefusesFirst read → ¬ LowestNumber read

@@ -15,19 +15,19 @@ use Rattle.records.specs.Limits.{mostCents}
 use Rattle.flow.specs.Verdict.{ofCall}
 use Rattle.flow.specs.declared.answer.Refusal.{Refusal}
 use Rattle.flow.specs.declared.answer.Totals.{Totals}
-use Rattle.list.specs.Encode.{amountIndex, dispositionsOf, centsOf, totalsOf}
+use Rattle.list.specs.Encode.{amountIndex, listDispositions, listCents, listTotals}
 use Rattle.list.specs.Items.{Item, item, isD}
 
 -- a call: which of the two amendments it is, its number k, and the new amount of a change
 pub data Call : Type 0 where
-  change : ℕ → ℕ → Call
-  withdraw : ℕ → Call
+  change-of : ℕ → ℕ → Call
+  withdrawal-of : ℕ → Call
 
 -- what a call is answered: accepted, with the totals, and a withdrawal with the new length too; or refused
 pub data Reply : Type 0 where
   change-accepted : Totals → Reply
   withdrawal-accepted : Totals → ℕ → Reply
-  refused : Refusal → Reply
+  call-refused : Refusal → Reply
 
 -- "disposition k is the k-th D with the items after it, up to the next D or the end"; before the first D stands the item of the header
 abbrev pub leading : List Item → List Item
@@ -55,42 +55,42 @@ withoutDisposition k is =
     let ds = dispositions is in
     leading is ++ flatten (take (k - 1) ds ++ drop k ds)
 
--- the ledger behind a call: what the call is answered, and the list that is left
+-- the ledger after a call: what the call is answered, and the list that is left
 pub record Entry : Type 0 where
   pub reply : Reply
   pub items : List Item
 
 -- "a refused call answers the refusal's number with 0, 0 and leaves the sheet as it was"
-abbrev pub refusal : ℕ → List Item → Entry
-refusal n is = record { reply = refused (ofCall n); items = is }
+abbrev pub refusedEntry : ℕ → List Item → Entry
+refusedEntry n is = record { reply = call-refused (ofCall n); items = is }
 
 -- there is a disposition k
 abbrev pub has : ℕ → List Item → Bool
-has k is = leb 1 k && leb k (dispositionsOf is)
+has k is = leb 1 k && leb k (listDispositions is)
 
 -- "refused by 15, 16, 17, the first that fits by the table"; "an accepted one answers, of the sheet it leaves, the count, the total and the
 -- number of items + 1"
 abbrev pub changeLeaving : List Item → List Item → Entry
 changeLeaving left is =
-    cond (leb (centsOf left) mostCents)
-    (record { reply = change-accepted (totalsOf left); items = left })
-    (refusal 17 is)
+    cond (leb (listCents left) mostCents)
+    (record { reply = change-accepted (listTotals left); items = left })
+    (refusedEntry 17 is)
 
 unfoldable pub changeOn : ℕ → ℕ → List Item → Entry
-changeOn k new is = cond (has k is) (cond (leb new mostAmount) (changeLeaving (withAmount k new is) is) (refusal 16 is)) (refusal 15 is)
+changeOn k new is = cond (has k is) (cond (leb new mostAmount) (changeLeaving (withAmount k new is) is) (refusedEntry 16 is)) (refusedEntry 15 is)
 
 -- "refused by 15, 18 likewise"; "a withdrawal also 120 times that last number, the new length"
 abbrev pub withdrawLeaving : List Item → Entry
-withdrawLeaving left = record { reply = withdrawal-accepted (totalsOf left) (120 * totalsOf left .records); items = left }
+withdrawLeaving left = record { reply = withdrawal-accepted (listTotals left) (120 * listTotals left .records); items = left }
 
 unfoldable pub withdrawOn : ℕ → List Item → Entry
-withdrawOn k is = cond (has k is) (cond (ltb 1 (dispositionsOf is)) (withdrawLeaving (withoutDisposition k is)) (refusal 18 is)) (refusal 15 is)
+withdrawOn k is = cond (has k is) (cond (ltb 1 (listDispositions is)) (withdrawLeaving (withoutDisposition k is)) (refusedEntry 18 is)) (refusedEntry 15 is)
 
 abbrev pub entry : Call → List Item → Entry
-entry (change k new) is = changeOn k new is
-entry (withdraw k) is = withdrawOn k is
+entry (change-of k new) is = changeOn k new is
+entry (withdrawal-of k) is = withdrawOn k is
 
--- the list on the ledger behind a list of calls, and what each was answered
+-- the list on the ledger after a list of calls, and what each was answered
 unfoldable pub listAfter : List Call → List Item → List Item
 listAfter [] is = is
 listAfter (c ∷ cs) is = listAfter cs (entry c is .items)

@@ -4,24 +4,23 @@ use Prim.Native.Nat.{ℕ}
 use mathlib.Core.List.{List, [], _∷_}
 use lib.ListN.{length, take}
 use Rattle.sequences.specs.Part.{put}
-use Rattle.flow.specs.Verdict.{Verdict, accepted}
-use Rattle.flow.specs.Verdict.{refused as Verdict·refused}
+use Rattle.flow.specs.Verdict.{Verdict, accepted, refused}
 use Rattle.flow.specs.declared.answer.Totals.{Totals}
 use Rattle.amend.specs.Amended.{Amended}
-use Rattle.amend.specs.Change.{change as Change·change}
-use Rattle.amend.specs.Withdraw.{withdraw as Withdraw·withdraw}
-use Rattle.claims.specs.Ledger.{Call, change, withdraw, Reply, change-accepted, withdrawal-accepted, refused}
+use Rattle.amend.specs.Change.{change}
+use Rattle.amend.specs.Withdraw.{withdraw}
+use Rattle.claims.specs.Ledger.{Call, change-of, withdrawal-of, Reply, change-accepted, withdrawal-accepted, call-refused}
 
 -- what a call leaves of the flow that it is lent: `amend::change` or `amend::withdraw`
 abbrev pub amend : Call → List ℕ → Amended
-amend (change k new) f = Change·change f k new
-amend (withdraw k) f = Withdraw·withdraw f k
+amend (change-of k new) f = change f k new
+amend (withdrawal-of k) f = withdraw f k
 
 -- what it is answered, with the length where it is a withdrawal that was accepted
 abbrev pub replied : Call → Verdict Totals → ℕ → Reply
-replied (change k new) (accepted t) size = change-accepted t
-replied (withdraw k) (accepted t) size = withdrawal-accepted t size
-replied call (Verdict·refused x) size = refused x
+replied (change-of k new) (accepted t) size = change-accepted t
+replied (withdrawal-of k) (accepted t) size = withdrawal-accepted t size
+replied call (refused x) size = call-refused x
 
 abbrev pub replyOf : Call → Amended → Reply
 replyOf call a = replied call (a .answer) (a .size)
@@ -39,21 +38,21 @@ holding f = record { bytes = f; size = length f }
 abbrev pub flowIn : Memory → List ℕ
 flowIn m = take (m .size) (m .bytes)
 
--- the memory behind a call
-abbrev pub behind : Call → Memory → Memory
-behind call m =
+-- the memory after a call
+abbrev pub memoryAfter : Call → Memory → Memory
+memoryAfter call m =
     let a = amend call (flowIn m) in
     record { bytes = put 0 (a .bytes) (m .bytes); size = a .size }
 
 unfoldable pub run : List Call → Memory → Memory
 run [] m = m
-run (c ∷ cs) m = run cs (behind c m)
+run (c ∷ cs) m = run cs (memoryAfter c m)
 
 unfoldable pub replies : List Call → Memory → List Reply
 replies [] m = []
-replies (c ∷ cs) m = replyOf c (amend c (flowIn m)) ∷ replies cs (behind c m)
+replies (c ∷ cs) m = replyOf c (amend c (flowIn m)) ∷ replies cs (memoryAfter c m)
 
 -- what holds of every call, of the flow that it is lent and of what it leaves
 unfoldable pub EachCall : (Call → List ℕ → Amended → Type 0) → List Call → Memory → Type 0
 EachCall P [] m = Unit
-EachCall P (c ∷ cs) m = P c (flowIn m) (amend c (flowIn m)) × EachCall P cs (behind c m)
+EachCall P (c ∷ cs) m = P c (flowIn m) (amend c (flowIn m)) × EachCall P cs (memoryAfter c m)

@@ -4,7 +4,7 @@ use mathlib.Core.Path.{_≡_, refl, sym, _∙_, ap}
 use mathlib.Core.Logic.{_↔_, _⊎_, inl, inr}
 use mathlib.Core.Bool.{Bool, true, false, cond}
 use native.Mathlib.Omega.{arith}
-use Rattle.fields.specs.Answer.{Answer, accepted, refused}
+use Rattle.fields.specs.FieldVerdict.{FieldVerdict, accepted, refused}
 use Rattle.fields.specs.Laws.{NumberDetermined, DateDetermined}
 use Rattle.fields.specs.declared.digits.Number.the-variants.{Value, Refused}
 use Rattle.fields.specs.declared.date.Date.the-variants.{On, Refused as Date·Refused}
@@ -18,15 +18,15 @@ module _ {A : Type 0} where
   accepted-same e = cc
 
   -- what was accepted has passed the test
-  pub passed : (b : Bool) (x : Answer A) (n : ℕ) {y : A} → cond b x (refused n) ≡ accepted y → (b ≡ true) × (x ≡ accepted y)
+  pub passed : (b : Bool) (x : FieldVerdict A) (n : ℕ) {y : A} → cond b x (refused n) ≡ accepted y → (b ≡ true) × (x ≡ accepted y)
   passed true x n e = (refl, e)
   passed false x n e = absurd (accepted-not-refused (sym e))
 
-  pub refused-same : {n m : ℕ} → _≡_ {A = Answer A} (refused n) (refused m) → n ≡ m
+  pub refused-same : {n m : ℕ} → _≡_ {A = FieldVerdict A} (refused n) (refused m) → n ≡ m
   refused-same e = cc
 
   -- an answer that is a value where P holds, and else the refusal k, is a refusal exactly where P fails, and then by k
-  pub refused-exactly : {P : Type 0} (x : Answer A) (k : ℕ) → (P → (y : A) × (x ≡ accepted y)) → P ⊎ (x ≡ refused k) → (n : ℕ) → (x ≡ refused n) ↔ ((n ≡ k) × ¬ P)
+  pub refused-exactly : {P : Type 0} (x : FieldVerdict A) (k : ℕ) → (P → (y : A) × (x ≡ accepted y)) → P ⊎ (x ≡ refused k) → (n : ℕ) → (x ≡ refused n) ↔ ((n ≡ k) × ¬ P)
   refused-exactly {P} x k value decided n = (λ e. (number decided e, fails e), λ h. left decided h)
     where
       fails : {m : ℕ} → x ≡ refused m → ¬ P

@@ -10,7 +10,7 @@ use borrow.Author.Tests.{eq-eqb}
 use Rattle.sequences.specs.Part.{part}
 use Rattle.sequences.proofs.Every.{every-append}
 use Rattle.sequences.proofs.Part.{part-length, part-join}
-use Rattle.fields.specs.Answer.{accepted, refused, notDigits}
+use Rattle.fields.specs.FieldVerdict.{accepted, refused, notDigits}
 use Rattle.fields.specs.Calendar.{Day}
 use Rattle.fields.specs.Date.{dayOf, onCalendar, dateField}
 use Rattle.fields.specs.Digits.{isDigit, isDigits, number, digitField}

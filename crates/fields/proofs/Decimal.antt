@@ -35,7 +35,7 @@ unfolding numberFrom
 numberFrom-append v [] ys = refl
 numberFrom-append v (x ∷ xs) ys = numberFrom-append (v * 10 + (x - 48)) xs ys
 
--- a number read before stands in front, with a zero for each digit behind it
+-- a number read before stands in front, with a zero for each digit after it
 numberFrom-shift : (v : ℕ) (bs : List ℕ) → numberFrom v bs ≡ v * 10 ^ length bs + number bs
 unfolding numberFrom
 numberFrom-shift v [] = omega arith
@@ -45,7 +45,7 @@ numberFrom-shift v (b ∷ bs) =
 pub number-append : (xs ys : List ℕ) → number (xs ++ ys) ≡ number xs * 10 ^ length ys + number ys
 number-append xs ys = numberFrom-append 0 xs ys ∙ numberFrom-shift (number xs) ys
 
--- n digits behind v stay below v + 1 with n zeros
+-- n digits after v stay below v + 1 with n zeros
 below-from : (v : ℕ) (bs : List ℕ) → isDigits bs ≡ true → numberFrom v bs < suc v * 10 ^ length bs
 unfolding numberFrom
 below-from v [] t = omega arith
@@ -84,7 +84,7 @@ written-read (suc n) v =
 pub written-read-fits : (n v : ℕ) → v < 10 ^ n → number (digits n v) ≡ v
 written-read-fits n v h = written-read n v ∙ mod-eq-of-lt h
 
--- digits read behind v are written behind v
+-- digits read after v are written after v
 digits-from : (n v : ℕ) (bs : List ℕ) → isDigits bs ≡ true → digits (n + length bs) (numberFrom v bs) ≡ digits n v ++ bs
 unfolding numberFrom digits
 digits-from n v [] t = rw (add-zero, append-nil)
@@ -105,7 +105,7 @@ read-written bs t = rw (← zero-add (length bs)) (digits-from 0 0 bs t)
 pub digit-more : (i v d : ℕ) → v < 10 ^ i → d ≤ 9 → v * 10 + d < 10 ^ (i + 1)
 digit-more i v d h k = rw (add-one, pow-suc) (omega arith)
 
--- for a loop that writes from the back: the digit stored at i joins those behind it
+-- for a loop that writes from the back: the digit stored at i joins those after it
 pub digits-store :
     (i v : ℕ) (out : List ℕ) → i < length out → digits i (v / 10) ++ drop i (set out i (48 + v % 10)) ≡ digits (suc i) v ++ drop (suc i) out
 unfolding digits

@@ -11,7 +11,7 @@ use borrow.Author.Tests.{leb-true, le-leb, lt-leb, eq-eqb, eqb-true}
 use Rattle.sequences.specs.Every.{every}
 use Rattle.sequences.proofs.Drop.{drop-next}
 use Rattle.fields.specs.Amount.{amountField}
-use Rattle.fields.specs.Answer.{Answer, accepted, refused, notDigits}
+use Rattle.fields.specs.FieldVerdict.{FieldVerdict, accepted, refused, notDigits}
 use Rattle.fields.specs.Digits.{isDigit, isDigits, numberFrom, number, digits, digitsFrom, digitField}
 use Rattle.fields.specs.Laws.{FieldExact, AmountExact, FieldRefused, AmountRefused}
 use Rattle.fields.proofs.Answers.{passed, accepted-same, refused-exactly}
@@ -125,7 +125,7 @@ pub digitsFrom-next :
 unfolding numberFrom every
 digitsFrom-next v xs i h = rw (drop-next xs i h) (pick (isDigit (getD xs i 0)) (isDigits (drop (i + 1) xs)) _ _)
   where
-    pick : (a b : Bool) (x y : Answer ℕ) → cond (a && b) x y ≡ cond a (cond b x y) y
+    pick : (a b : Bool) (x y : FieldVerdict ℕ) → cond (a && b) x y ≡ cond a (cond b x y) y
     pick true b x y = refl
     pick false b x y = refl
 

@@ -5,9 +5,9 @@ use Rattle.fields.specs.Amount.{amountField}
 use Rattle.fields.specs.Calendar.{isLeap, daysIn, isDay}
 use Rattle.fields.specs.Date.{dateField}
 use Rattle.fields.specs.Digits.{numberFrom, digits, digitField}
-use Rattle.fields.specs.Examples.{monthsDays, yearsDays, Examples}
+use Rattle.fields.specs.Examples.{monthsDays, yearsDays, FieldExamples}
 
-pub examples : Examples
+pub examples : FieldExamples
 unfolding amountField dateField digitField digits numberFrom every isDay daysIn isLeap monthsDays yearsDays
 examples =
     record {

@@ -14,7 +14,7 @@ use borrow.Author.Tests.{leb-true, le-leb, eqb-true, eqb-false, eq-eqb, ne-eqb, 
 use Rattle.sequences.specs.Part.{part}
 use Rattle.sequences.proofs.Below.{below}
 use Rattle.sequences.proofs.Every.{every-append}
-use Rattle.fields.specs.Answer.{accepted, refused, notDigits, noSuchDay}
+use Rattle.fields.specs.FieldVerdict.{accepted, refused, notDigits, noSuchDay}
 use Rattle.fields.specs.Calendar.{Day, commonYear, isLeap, daysIn, isDay, Leap, Gregorian}
 use Rattle.fields.specs.Date.{dayOf, onCalendar, dateField, dateDigits}
 use Rattle.fields.specs.Digits.{isDigits, number, digits}

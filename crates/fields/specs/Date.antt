@@ -5,7 +5,7 @@ use mathlib.Core.List.{List, _++_}
 use lib.Dec.{eqb}
 use lib.ListN.{length}
 use Rattle.sequences.specs.Part.{part}
-use Rattle.fields.specs.Answer.{Answer, accepted, refused, notDigits, noSuchDay}
+use Rattle.fields.specs.FieldVerdict.{FieldVerdict, accepted, refused, notDigits, noSuchDay}
 use Rattle.fields.specs.Calendar.{Day, isDay}
 use Rattle.fields.specs.Digits.{isDigits, number, digits}
 
@@ -14,11 +14,11 @@ abbrev pub dayOf : List ℕ → Day
 dayOf bs = record { day = number (part 0 2 bs); month = number (part 2 2 bs); year = 2000 + number (part 4 2 bs) }
 
 -- the day where the calendar has it, else 8
-abbrev pub onCalendar : Day → Answer Day
+abbrev pub onCalendar : Day → FieldVerdict Day
 onCalendar t = cond (isDay (t .day) (t .month) (t .year)) (accepted t) (refused noSuchDay)
 
 -- six digits, else 5; a day of the calendar, else 8
-unfoldable pub dateField : List ℕ → Answer Day
+unfoldable pub dateField : List ℕ → FieldVerdict Day
 dateField bs = cond (eqb (length bs) 6 && isDigits bs) (onCalendar (dayOf bs)) (refused notDigits)
 
 -- a day of this century's calendar as GGMMAA

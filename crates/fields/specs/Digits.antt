@@ -5,7 +5,7 @@ use mathlib.Core.List.{List, [], _∷_, _++_}
 use lib.Dec.{leb}
 use lib.ListN.{length}
 use Rattle.sequences.specs.Every.{every}
-use Rattle.fields.specs.Answer.{Answer, accepted, refused, notDigits}
+use Rattle.fields.specs.FieldVerdict.{FieldVerdict, accepted, refused, notDigits}
 
 abbrev pub isDigit : ℕ → Bool
 isDigit b = leb 48 b && leb b 57
@@ -13,7 +13,7 @@ isDigit b = leb 48 b && leb b 57
 abbrev pub isDigits : List ℕ → Bool
 isDigits bs = every isDigit bs
 
--- the number that the digits bs give behind a number v that was read before them
+-- the number that the digits bs give after a number v that was read before them
 unfoldable pub numberFrom : ℕ → List ℕ → ℕ
 numberFrom v [] = v
 numberFrom v (b ∷ bs) = numberFrom (v * 10 + (b - 48)) bs
@@ -27,9 +27,9 @@ digits zero v = []
 digits (suc n) v = digits n (v / 10) ++ ((48 + v % 10) ∷ [])
 
 -- the answer of a digit field once its length is right
-abbrev pub digitsFrom : ℕ → List ℕ → Answer ℕ
+abbrev pub digitsFrom : ℕ → List ℕ → FieldVerdict ℕ
 digitsFrom v bs = cond (isDigits bs) (accepted (numberFrom v bs)) (refused notDigits)
 
 -- a digit field of 1 to 15 bytes gives its number, anything else 5
-unfoldable pub digitField : List ℕ → Answer ℕ
+unfoldable pub digitField : List ℕ → FieldVerdict ℕ
 digitField bs = cond (leb 1 (length bs) && leb (length bs) 15) (digitsFrom 0 bs) (refused notDigits)

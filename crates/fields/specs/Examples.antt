@@ -4,7 +4,7 @@ use mathlib.Core.Path.{_≡_}
 use mathlib.Core.List.{[]}
 use Rattle.sequences.specs.Text.{text}
 use Rattle.fields.specs.Amount.{amountField}
-use Rattle.fields.specs.Answer.{accepted, refused}
+use Rattle.fields.specs.FieldVerdict.{accepted, refused}
 use Rattle.fields.specs.Calendar.{daysIn}
 use Rattle.fields.specs.Date.{dateField}
 use Rattle.fields.specs.Digits.{digits, digitField}
@@ -18,7 +18,7 @@ unfoldable pub yearsDays : ℕ → ℕ
 yearsDays zero = 0
 yearsDays (suc n) = monthsDays 12 (2000 + n) + yearsDays n
 
-pub record Examples : Type 0 where
+pub record FieldExamples : Type 0 where
   -- document 01, example 7: 29 February of 2028, and of 2027
   pub leap-day : dateField (text "290228") ≡ accepted (record { day = 29; month = 2; year = 2028 })
   pub no-leap-day : dateField (text "290227") ≡ refused 8

@@ -7,7 +7,7 @@ use mathlib.Core.List.{List}
 use mathlib.Core.Logic.{_↔_, _⊎_}
 use lib.ListN.{length, replicate}
 use Rattle.fields.specs.Amount.{amountField}
-use Rattle.fields.specs.Answer.{accepted, refused, numberAnswer, dateAnswer}
+use Rattle.fields.specs.FieldVerdict.{accepted, refused, numberVerdict, dateVerdict}
 use Rattle.fields.specs.Bytes.{isBlank, isEqual}
 use Rattle.fields.specs.Calendar.{Day, Gregorian}
 use Rattle.fields.specs.Date.{dayOf, dateField, dateDigits}
@@ -76,7 +76,7 @@ BlankExact = (bs : List ℕ) → (isBlank bs ≡ true) ↔ (bs ≡ replicate (le
 
 -- what an answer stands for on paper determines it: a contract that gives the one gives the other
 abbrev pub NumberDetermined : Type 0
-NumberDetermined = (r s : Number) → numberAnswer r ≡ numberAnswer s → r ≡ s
+NumberDetermined = (r s : Number) → numberVerdict r ≡ numberVerdict s → r ≡ s
 
 abbrev pub DateDetermined : Type 0
-DateDetermined = (r s : Date) → dateAnswer r ≡ dateAnswer s → r ≡ s
+DateDetermined = (r s : Date) → dateVerdict r ≡ dateVerdict s → r ≡ s

@@ -1,8 +1,8 @@
 pub mod Amount
-pub mod Answer
 pub mod Bytes
 pub mod Calendar
 pub mod Date
 pub mod Digits
 pub mod Examples
+pub mod FieldVerdict
 pub mod Laws

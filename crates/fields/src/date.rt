@@ -1,6 +1,6 @@
 // Dates: GGMMAA, of the years 2000 to 2099.
 ghost use mathlib.Core.Path.{_≡_};
-ghost use Rattle.fields.specs.Answer.{dateAnswer};
+ghost use Rattle.fields.specs.FieldVerdict.{dateVerdict};
 ghost use Rattle.fields.specs.Date.{dateField};
 use crate::Number;
 use crate::calendar::has_day;
@@ -17,7 +17,7 @@ pub enum Date {
 // The day of the calendar that six digits give: day, month and the year's last two digits. What is
 // not six digits is refused, and then what is no day of the calendar.
 pub fn read_date(field: &[u8]) -> Date
-    ensures { λ r. ⌜ dateAnswer r ≡ dateField (now (field .entry)) ⌝ }
+    ensures { λ r. ⌜ dateVerdict r ≡ dateField (now (field .entry)) ⌝ }
 {
     if field.len() != 6 {
         return Date::Refused(NOT_DIGITS);

@@ -1,7 +1,7 @@
 // Digit fields: a number read from decimal digits, and written as them.
 ghost use mathlib.Core.Path.{_≡_};
 ghost use lib.ListN.{length};
-ghost use Rattle.fields.specs.Answer.{numberAnswer};
+ghost use Rattle.fields.specs.FieldVerdict.{numberVerdict};
 ghost use Rattle.fields.specs.Digits.{digitField};
 ghost use Rattle.fields.specs.Digits.{digits as Digits·digits};
 use crate::limits::MOST_DIGITS;
@@ -16,7 +16,7 @@ pub enum Number {
 // The number that a field of 1 to 15 digits gives. Any other length and any byte that is no digit
 // is refused.
 pub fn read_digits(field: &[u8]) -> Number
-    ensures { λ r. ⌜ numberAnswer r ≡ digitField (now (field .entry)) ⌝ }
+    ensures { λ r. ⌜ numberVerdict r ≡ digitField (now (field .entry)) ⌝ }
 {
     if field.len() == 0 {
         return Number::Refused(NOT_DIGITS);

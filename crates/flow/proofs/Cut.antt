@@ -68,7 +68,7 @@ unfolding flatten
 flatten-length [] whole = refl
 flatten-length (rec ∷ recs) whole = length-append rec (flatten recs) ∙ omega (arith, flatten-length recs (whole .1))
 
--- also from the front of what they make with other bytes behind them
+-- also from the front of what they make with other bytes after them
 pub cut-front : (recs : List (List ℕ)) (rest : List ℕ) → Whole recs → cut (length recs) (flatten recs ++ rest) ≡ recs
 unfolding flatten cut
 cut-front [] rest whole = refl

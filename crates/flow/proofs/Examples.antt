@@ -8,17 +8,17 @@ use Rattle.fields.specs.Calendar.{isLeap, daysIn, isDay}
 use Rattle.fields.specs.Digits.{numberFrom}
 use Rattle.records.specs.Bytes.{badFrom}
 use Rattle.records.specs.Checks.{isListed, checks}
-use Rattle.records.specs.Finding.{firstFault}
-use Rattle.records.specs.Judge.{judge as Record·judge}
-use Rattle.flow.specs.Examples.{Examples}
+use Rattle.records.specs.RecordVerdict.{firstFault}
+use Rattle.records.specs.Judge.{judgeAs}
+use Rattle.flow.specs.Examples.{FlowExamples}
 use Rattle.flow.specs.Find.{find}
-use Rattle.flow.specs.Judge.{go, judge}
+use Rattle.flow.specs.Judge.{walkFrom, judge}
 use Rattle.flow.specs.Records.{cut}
 use Rattle.flow.specs.Order.{among}
-use Rattle.flow.specs.Steps.{typed, judgeRecord}
+use Rattle.flow.specs.Walking.{judgeTyped, judgeRecord}
 
-pub examples : Examples
-unfolding judge go cut judgeRecord typed among Record·judge firstFault checks isListed badFrom isEqual numberFrom every isDay daysIn isLeap find groups lead flatten
+pub examples : FlowExamples
+unfolding judge walkFrom cut judgeRecord judgeTyped among judgeAs firstFault checks isListed badFrom isEqual numberFrom every isDay daysIn isLeap find groups lead flatten
 examples =
     record {
       two-rents = refl;

@@ -1,4 +1,4 @@
--- The fast path of the reader: a record that was settled is right, and behind a right record the next one's number is known. Assumes
+-- The fast path of the reader: a record that was settled is right, and after a right record the next one's number is known. Assumes
 -- nothing.
 use Prim.Native.Nat.{ℕ, suc, _+_, _-_, _/_, min, _≤_, _<_}
 use mathlib.Core.Bool.{Bool, true, false, and-eq-true-iff, true≢false}
@@ -12,26 +12,26 @@ use Rattle.fields.specs.Digits.{isDigits, number}
 use Rattle.records.specs.Checks.{checks}
 use Rattle.records.specs.Context.{Header, Context, context}
 use Rattle.records.specs.Field.{field}
-use Rattle.records.specs.Finding.{right, Hold}
-use Rattle.records.specs.Judge.{judge}
+use Rattle.records.specs.RecordVerdict.{right, Hold}
+use Rattle.records.specs.Judge.{judgeAs}
 use Rattle.records.specs.Kinds.{opened, closes}
 use Rattle.records.specs.Limits.{countLimit, centsLimit}
-use Rattle.records.specs.Seen.{seenRight}
-use Rattle.records.specs.declared.kind.Kind.{Kind}
-use Rattle.records.specs.declared.kind.Kind.the-variants.{Im, R14, R16, R20, R30, R40, R50, R59, R51, R70, Ef}
+use Rattle.records.specs.QuickTest.{passesQuickTest}
+use Rattle.records.specs.declared.kind.RecordKind.{RecordKind}
+use Rattle.records.specs.declared.kind.RecordKind.the-variants.{Im, R14, R16, R20, R30, R40, R50, R59, R51, R70, Ef}
 use Rattle.records.proofs.ByKind.{right-asked}
-use Rattle.records.proofs.Found.{right-exact}
-use Rattle.records.proofs.SeenRight.{seen-right}
-use Rattle.flow.specs.FastPath.{isInside, Inside, Numbered, atPlace, PassedOver}
-use Rattle.flow.specs.Judge.{go}
+use Rattle.records.proofs.RightOrBroken.{right-exact}
+use Rattle.records.proofs.QuickTestRight.{quick-test-right}
+use Rattle.flow.specs.FastPath.{isInside, Inside, NumberBefore, atPlace, PassedOver}
+use Rattle.flow.specs.Judge.{walkFrom}
 use Rattle.flow.specs.Order.{permitted, isDue, allGoOn, placeAfter, among}
 use Rattle.flow.specs.Records.{recordAt, recordsFrom}
-use Rattle.flow.specs.Steps.{counted, step, latest, judgeRecord, stopped}
+use Rattle.flow.specs.Walking.{dispositionsWith, step, latest, judgeRecord, saturated}
 use Rattle.flow.specs.Verdict.{Verdict}
 use Rattle.flow.specs.declared.answer.Totals.{Totals}
 use Rattle.flow.specs.declared.order.Due.{Due}
-use Rattle.flow.specs.declared.order.Found.{Found}
-use Rattle.flow.specs.declared.order.Found.the-variants.{Of, Missing}
+use Rattle.flow.specs.declared.order.TypeFound.{TypeFound}
+use Rattle.flow.specs.declared.order.TypeFound.the-variants.{Of, Missing}
 use Rattle.flow.specs.declared.order.Place.{Place}
 use Rattle.flow.specs.declared.walk.Walk.{Walk}
 use Rattle.flow.proofs.Cut.{cut-next, record-whole}
@@ -40,27 +40,27 @@ use Rattle.flow.proofs.Places.{handed, handed-alike, of-type}
 use Rattle.flow.proofs.Reading.{Reading}
 
 -- a kind that was found among those permitted, where a disposition goes on
-pub inside-found : {due known : Due} (rec : List ℕ) {r : Found} → due ≡ known → isInside known ≡ true → r ≡ among (permitted known) rec → Inside due rec r
+pub inside-found : {due known : Due} (rec : List ℕ) {r : TypeFound} → due ≡ known → isInside known ≡ true → r ≡ among (permitted known) rec → Inside due rec r
 inside-found {due} {known} rec {r} d inside e = subst (λ (x : Due). Inside x rec r) (sym d) (by r e)
   where
-    by : (x : Found) → x ≡ among (permitted known) rec → Inside known rec x
+    by : (x : TypeFound) → x ≡ among (permitted known) rec → Inside known rec x
     by Missing e = tt
     by (Of k) e = (inside, sym e)
 
 -- a record that was seen to be right is right at its place
 right-at-place :
-    (header : Header) (w : Walk) (company : List ℕ) (n : ℕ) (before rec : List ℕ) (k : Kind) → length rec ≡ 120 → Numbered w before
-    → Inside (w .place .due) rec (Of k) → seenRight k (field 4 10 before) rec ≡ true → judgeRecord header w company n rec ≡ right k 0
+    (header : Header) (w : Walk) (company : List ℕ) (n : ℕ) (before rec : List ℕ) (k : RecordKind) → length rec ≡ 120 → NumberBefore w before
+    → Inside (w .place .due) rec (Of k) → passesQuickTest k (field 4 10 before) rec ≡ true → judgeRecord header w company n rec ≡ right k 0
 right-at-place header w company n before rec k whole numbered inside seen =
-    let told = seen-right k (field 4 10 before) rec seen in
+    let told = quick-test-right k (field 4 10 before) rec seen in
     let known = numbered (inside .0) in
     let value = known .1 in
     let none : opened k ≡ 0 = rw (told .1) in
     of-type header w company n rec whole k (told .0) (inside .1) ∙ told .4 (context header company (handed w n k)) (known .0) (omega arith)
 
--- a record behind which a disposition goes on has its number
+-- a record after which a disposition goes on has its number
 number-held :
-    (f : ℕ) (k : Kind) (ctx : Context) (rec : List ℕ) → isInside (placeAfter f k .due) ≡ true → Hold (checks k ctx rec)
+    (f : ℕ) (k : RecordKind) (ctx : Context) (rec : List ℕ) → isInside (placeAfter f k .due) ≡ true → Hold (checks k ctx rec)
     → (isDigits (field 4 10 rec) ≡ true) × (eqb (number (field 4 10 rec)) (ctx .counts .dispositions) ≡ true)
 unfolding checks
 number-held f Im ctx rec e h = absurd (true≢false (sym e))
@@ -75,77 +75,77 @@ number-held f R51 ctx rec e h = (h .0, h .1 .0)
 number-held f R70 ctx rec e h = absurd (true≢false (sym e))
 number-held f Ef ctx rec e h = absurd (true≢false (sym e))
 
--- so behind a right record the next one's number is known
+-- so after a right record the next one's number is known
 numbered-next :
-    (header : Header) (w : Walk) (company : List ℕ) (n : ℕ) (rec : List ℕ) (k : Kind) (c : ℕ) → length rec ≡ 120
-    → judgeRecord header w company n rec ≡ right k c → Numbered (step w k c) rec
+    (header : Header) (w : Walk) (company : List ℕ) (n : ℕ) (rec : List ℕ) (k : RecordKind) (c : ℕ) → length rec ≡ 120
+    → judgeRecord header w company n rec ≡ right k c → NumberBefore (step w k c) rec
 numbered-next header w company n rec k c whole found inside =
     let ctx : Context = context header company (handed w n k) in
-    let told : judge k ctx rec ≡ right k c = sym (handed-alike header w company n rec k) ∙ right-typed header w company n rec k c found .1 in
+    let told : judgeAs k ctx rec ≡ right k c = sym (handed-alike header w company n rec k) ∙ right-typed header w company n rec k c found .1 in
     let asks = right-asked k k ctx rec c told .1 in
     let held = number-held (w .place .further) k ctx rec inside (right-exact k ctx rec whole .0 (told ∙ ap (right k) asks)) in
-    (held .0, eqb-true (number (field 4 10 rec)) (min (counted w k) countLimit) (held .1))
+    (held .0, eqb-true (number (field 4 10 rec)) (min (dispositionsWith w k) countLimit) (held .1))
 
 -- also where the counts have stopped
 pub numbered-stopped :
-    (header : Header) (w : Walk) (company : List ℕ) (n : ℕ) (rec : List ℕ) (k : Kind) (c : ℕ) → length rec ≡ 120
-    → judgeRecord header w company n rec ≡ right k c → Numbered (stopped (step w k c)) rec
+    (header : Header) (w : Walk) (company : List ℕ) (n : ℕ) (rec : List ℕ) (k : RecordKind) (c : ℕ) → length rec ≡ 120
+    → judgeRecord header w company n rec ≡ right k c → NumberBefore (saturated (step w k c)) rec
 numbered-stopped header w company n rec k c whole found inside =
     let held = numbered-next header w company n rec k c whole found inside in
     let value = held .1 in
     (held .0, omega arith)
 
--- behind one record more the counts stay, the place moves on, and what is left decides as it did
+-- after one record more the counts stay, the place moves on, and what is left decides as it did
 pass-one :
-    (end : Walk → ℕ → Verdict Totals) (header : Header) (company : List ℕ) (w : Walk) (i : ℕ) (before rec : List ℕ) (recs : List (List ℕ)) (p : Place) (k : Kind) → length rec ≡ 120
-    → Numbered (atPlace w p) before → Inside (p .due) rec (Of k) → seenRight k (field 4 10 before) rec ≡ true
-    → go end header (atPlace w p) company i (rec ∷ recs) ≡ go end header (atPlace w (placeAfter (p .further) k)) company (suc i) recs
-unfolding go
+    (end : Walk → ℕ → Verdict Totals) (header : Header) (company : List ℕ) (w : Walk) (i : ℕ) (before rec : List ℕ) (recs : List (List ℕ)) (p : Place) (k : RecordKind) → length rec ≡ 120
+    → NumberBefore (atPlace w p) before → Inside (p .due) rec (Of k) → passesQuickTest k (field 4 10 before) rec ≡ true
+    → walkFrom end header (atPlace w p) company i (rec ∷ recs) ≡ walkFrom end header (atPlace w (placeAfter (p .further) k)) company (suc i) recs
+unfolding walkFrom
 pass-one end header company w i before rec recs p k whole numbered inside seen =
     let found = right-at-place header (atPlace w p) company (suc i) before rec k whole numbered inside seen in
-    let opens-no = seen-right k (field 4 10 before) rec seen .1 in
+    let opens-no = quick-test-right k (field 4 10 before) rec seen .1 in
     let none : opened k ≡ 0 = rw opens-no in
-    let count : counted w k ≡ w .dispositions = omega arith in
+    let count : dispositionsWith w k ≡ w .dispositions = omega arith in
     let cents : w .cents + 0 ≡ w .cents = omega arith in
     let state : step (atPlace w p) k 0 ≡ atPlace w (placeAfter (p .further) k) = λ i. record { place = placeAfter (p .further) k; dispositions = count i; cents = cents i } in
     let company-stays : latest k company rec ≡ company = rw opens-no in
-    rw (found, company-stays) (ap (λ (v : Walk). go end header v company (suc i) recs) state)
+    rw (found, company-stays) (ap (λ (v : Walk). walkFrom end header v company (suc i) recs) state)
 
--- where a disposition goes on a record is due, and one is due behind a record that does not close the flow
-still-due : (p : Place) (k : Kind) → isInside (p .due) ≡ true → closes k ≡ false → isDue (permitted (placeAfter (p .further) k .due)) ≡ isDue (permitted (p .due))
-still-due p k inside stays = due-behind (isDue (permitted (placeAfter (p .further) k .due))) refl ∙ sym (inside-due (p .due) inside)
+-- where a disposition goes on a record is due, and one is due after a record that does not close the flow
+still-due : (p : Place) (k : RecordKind) → isInside (p .due) ≡ true → closes k ≡ false → isDue (permitted (placeAfter (p .further) k .due)) ≡ isDue (permitted (p .due))
+still-due p k inside stays = due-after (isDue (permitted (placeAfter (p .further) k .due))) refl ∙ sym (inside-due (p .due) inside)
   where
     inside-due : (d : Due) → isInside d ≡ true → isDue (permitted d) ≡ true
     inside-due d e = and-eq-true-iff (isDue (permitted d)) (allGoOn (permitted d)) .0 e .0
 
-    due-behind : (b : Bool) → isDue (permitted (placeAfter (p .further) k .due)) ≡ b → b ≡ true
-    due-behind true e = refl
-    due-behind false e = absurd (true≢false (sym (ap closes (last-kind (p .further) k e)) ∙ stays))
+    due-after : (b : Bool) → isDue (permitted (placeAfter (p .further) k .due)) ≡ b → b ≡ true
+    due-after true e = refl
+    due-after false e = absurd (true≢false (sym (ap closes (last-kind (p .further) k e)) ∙ stays))
 
 -- what has stopped stays
-pub stopped-twice : (w : Walk) → stopped (stopped w) ≡ stopped w
+pub stopped-twice : (w : Walk) → saturated (saturated w) ≡ saturated w
 stopped-twice w =
     let count : min (min (w .dispositions) countLimit) countLimit ≡ min (w .dispositions) countLimit = omega arith in
     let sum : min (min (w .cents) centsLimit) centsLimit ≡ min (w .cents) centsLimit = omega arith in
     λ i. record { place = w .place; dispositions = count i; cents = sum i }
 
--- the walk's own step behind a record that opens nothing and asks for nothing: its counts, which have stopped where they must, stay
-pub next-place : (w : Walk) (k : Kind) → opened k ≡ 0 → stopped w ≡ w → stopped (step w k 0) ≡ atPlace w (placeAfter (w .place .further) k)
+-- the walk's own step after a record that opens nothing and asks for nothing: its counts, which have stopped where they must, stay
+pub next-place : (w : Walk) (k : RecordKind) → opened k ≡ 0 → saturated w ≡ w → saturated (step w k 0) ≡ atPlace w (placeAfter (w .place .further) k)
 next-place w k none stays =
     let count : min (w .dispositions) countLimit ≡ w .dispositions = ap (λ (v : Walk). v .dispositions) stays in
     let sum : min (w .cents) centsLimit ≡ w .cents = ap (λ (v : Walk). v .cents) stays in
-    let dispositions : min (counted w k) countLimit ≡ w .dispositions = omega arith in
+    let dispositions : min (dispositionsWith w k) countLimit ≡ w .dispositions = omega arith in
     let cents : min (w .cents + 0) centsLimit ≡ w .cents = omega arith in
     λ i. record { place = placeAfter (w .place .further) k; dispositions = dispositions i; cents = cents i }
 
 -- the loop over records that are seen to be right: those up to index i were passed over, and the number due at i is known
 pub record Passing (f : List ℕ) (from : ℕ) (w : Walk) (i : ℕ) (here : Walk) : Type 0 where
   pub some : 1 ≤ from
-  pub stays : stopped w ≡ w
+  pub stays : saturated w ≡ w
   pub passed : PassedOver f from w i here
-  pub known : (v : Walk) → Numbered (atPlace v (w .place)) (recordAt (from - 1) f) → Numbered (atPlace v (here .place)) (recordAt (i - 1) f)
+  pub known : (v : Walk) → NumberBefore (atPlace v (w .place)) (recordAt (from - 1) f) → NumberBefore (atPlace v (here .place)) (recordAt (i - 1) f)
 
-pub pass-begin : (f : List ℕ) (from : ℕ) (w : Walk) → 1 ≤ from → from ≤ length f / 120 → stopped w ≡ w → Passing f from w from w
+pub pass-begin : (f : List ℕ) (from : ℕ) (w : Walk) → 1 ≤ from → from ≤ length f / 120 → saturated w ≡ w → Passing f from w from w
 pass-begin f from w some within stays =
     record {
       some = some;
@@ -155,20 +155,20 @@ pass-begin f from w some within stays =
     }
 
 -- the walk that has come there has stopped too
-pub counts-stay : {f : List ℕ} {from : ℕ} {w : Walk} {i : ℕ} {here : Walk} → Passing f from w i here → stopped here ≡ here
+pub counts-stay : {f : List ℕ} {from : ℕ} {w : Walk} {i : ℕ} {here : Walk} → Passing f from w i here → saturated here ≡ here
 counts-stay {here = here} so-far =
     let counts = so-far .passed .counts in
-    ap stopped counts ∙ ap (λ (v : Walk). atPlace v (here .place)) (so-far .stays) ∙ sym counts
+    ap saturated counts ∙ ap (λ (v : Walk). atPlace v (here .place)) (so-far .stays) ∙ sym counts
 
 -- one record more
 pub pass-next :
-    (f : List ℕ) {from : ℕ} {w : Walk} (i : ℕ) (here : Walk) (k : Kind) → Passing f from w i here → i < length f / 120 → Inside (here .place .due) (recordAt i f) (Of k)
-    → seenRight k (field 4 10 (recordAt (i - 1) f)) (recordAt i f) ≡ true → Passing f from w (suc i) (stopped (step here k 0))
+    (f : List ℕ) {from : ℕ} {w : Walk} (i : ℕ) (here : Walk) (k : RecordKind) → Passing f from w i here → i < length f / 120 → Inside (here .place .due) (recordAt i f) (Of k)
+    → passesQuickTest k (field 4 10 (recordAt (i - 1) f)) (recordAt i f) ≡ true → Passing f from w (suc i) (saturated (step here k 0))
 pass-next f {from} {w} i here k so-far more inside seen =
     let passed = so-far .passed in
     let on = passed .on in
     let q = here .place in
-    let told = seen-right k (field 4 10 (recordAt (i - 1) f)) (recordAt i f) seen in
+    let told = quick-test-right k (field 4 10 (recordAt (i - 1) f)) (recordAt i f) seen in
     let none : opened k ≡ 0 = rw (told .1) in
     let moved = next-place here k none (counts-stay so-far) in
     let back : suc i - 1 ≡ i = omega arith in
@@ -180,26 +180,26 @@ pass-next f {from} {w} i here k so-far more inside seen =
         within = omega arith;
         counts = moved ∙ ap (λ (v : Walk). atPlace v (placeAfter (q .further) k)) (passed .counts);
         due = still-due q k (inside .0) (told .2) ∙ passed .due;
-        left = λ end header company v numbered. passed .left end header company v numbered ∙ ap (go end header (atPlace v q) company i) (cut-next (length f / 120) i f more)
+        left = λ end header company v numbered. passed .left end header company v numbered ∙ ap (walkFrom end header (atPlace v q) company i) (cut-next (length f / 120) i f more)
             ∙ pass-one end header company v i (recordAt (i - 1) f) (recordAt i f) (recordsFrom (suc i) f) q k (record-whole f i more) (so-far .known v numbered) inside seen;
       };
       known = λ v numbered goes-on. rw (back, told .3) (so-far .known v numbered (inside .0));
     }
 
--- a reading that has come to an index goes on behind the records that are passed over from there
+-- a reading that has come to an index goes on after the records that are passed over from there
 pub pass-on :
-    (f : List ℕ) {end : Walk → ℕ → Verdict Totals} {header : Header} {all : List (List ℕ)} {company : List ℕ} (w : Walk) {from to : ℕ} {behind : Walk}
-    → Reading end header all w company from (recordsFrom from f) → Numbered w (recordAt (from - 1) f) → PassedOver f from w to behind
-    → Reading end header all behind company to (recordsFrom to f)
-pass-on f {end} {header} {all} {company} w {from} {to} {behind} r numbered passed =
+    (f : List ℕ) {end : Walk → ℕ → Verdict Totals} {header : Header} {all : List (List ℕ)} {company : List ℕ} (w : Walk) {from to : ℕ} {after : Walk}
+    → Reading end header all w company from (recordsFrom from f) → NumberBefore w (recordAt (from - 1) f) → PassedOver f from w to after
+    → Reading end header all after company to (recordsFrom to f)
+pass-on f {end} {header} {all} {company} w {from} {to} {after} r numbered passed =
     let exact = r .exact in
-    let q = behind .place in
+    let q = after .place in
     let few = r .few in
     let on = passed .on in
     let place : w .place ≡ exact .place = ap (λ (v : Walk). v .place) (r .stops) in
     let count : w .dispositions ≡ min (exact .dispositions) countLimit = ap (λ (v : Walk). v .dispositions) (r .stops) in
     let same-due : isDue (permitted (exact .place .due)) ≡ isDue (permitted (q .due)) = ap (λ (p : Place). isDue (permitted (p .due))) (sym place) ∙ sym (passed .due) in
-    let known : Numbered (atPlace exact (w .place)) (recordAt (from - 1) f) = λ inside.
+    let known : NumberBefore (atPlace exact (w .place)) (recordAt (from - 1) f) = λ inside.
     let held = numbered inside in
     let value = held .1 in
     (held .0, omega arith)
@@ -209,5 +209,5 @@ pass-on f {end} {header} {all} {company} w {from} {to} {behind} r numbered passe
       stops = passed .counts ∙ ap (λ (v : Walk). atPlace v q) (r .stops);
       final = λ e. ap (λ (v : Walk). atPlace v q) (r .final (same-due ∙ e));
       few = omega arith;
-      left = r .left ∙ ap (λ (p : Place). go end header (atPlace exact p) company from (recordsFrom from f)) (sym place) ∙ passed .left end header company exact known;
+      left = r .left ∙ ap (λ (p : Place). walkFrom end header (atPlace exact p) company from (recordsFrom from f)) (sym place) ∙ passed .left end header company exact known;
     }

@@ -10,4 +10,4 @@ pub mod Lengths
 pub mod Output
 pub mod Places
 pub mod Reading
-pub mod Sought
+pub mod FindWithTotals

@@ -9,23 +9,23 @@ use lib.ListN.{length}
 use borrow.Author.Tests.{leb-true, leb-false, le-leb, lt-leb}
 use Rattle.sequences.proofs.Part.{part-put, drop-put}
 use Rattle.flow.specs.Laws.{OutputLeaves, RoomExact}
-use Rattle.flow.specs.Output.{output, withRoom, Leaves, LeavesAlone}
+use Rattle.flow.specs.Output.{output, withRoom, FilledWith, LeftAlone}
 use Rattle.flow.specs.Verdict.{Verdict, accepted, refused, ofCall}
 use Rattle.flow.specs.declared.answer.Refusal.{Refusal}
 use Rattle.flow.proofs.Accepted.{accepted-not-refused, refused-same}
 
 pub output-leaves : OutputLeaves
-output-leaves A v bytes out = (answered v, accepts, λ x e. subst (λ (u : Verdict A). LeavesAlone (output u bytes out) out) (sym e) (refl, refl))
+output-leaves A v bytes out = (answered v, accepts, λ x e. subst (λ (u : Verdict A). LeftAlone (output u bytes out) out) (sym e) (refl, refl))
   where
     answered : (v : Verdict A) → output v bytes out .answer ≡ v
     answered (accepted a) = refl
     answered (refused x) = refl
 
-    accepts : (a : A) → v ≡ accepted a → length bytes ≤ length out → Leaves (output v bytes out) bytes out
+    accepts : (a : A) → v ≡ accepted a → length bytes ≤ length out → FilledWith (output v bytes out) bytes out
     accepts a e fits =
         let within : 0 + length bytes ≤ length out = omega arith in
-        subst (λ (u : Verdict A). Leaves (output u bytes out) bytes out) (sym e)
-        (record { length-said = refl; front = part-put 0 bytes out within; behind = drop-put 0 bytes out within (length bytes) (omega arith) })
+        subst (λ (u : Verdict A). FilledWith (output u bytes out) bytes out) (sym e)
+        (record { length-said = refl; front = part-put 0 bytes out within; after = drop-put 0 bytes out within (length bytes) (omega arith) })
 
 pub room-exact : RoomExact
 room-exact A v size room = (λ a. (accepts a v refl, λ (e, fits). rw (e, le-leb size room fits)), λ x. (refuses x v refl, back x))

@@ -8,30 +8,30 @@ use lib.ListN.{length}
 use borrow.Author.Tests.{eq-eqb, ne-eqb}
 use Rattle.records.specs.Bytes.{badByte}
 use Rattle.records.specs.Context.{Header, context}
-use Rattle.records.specs.Finding.{refused}
-use Rattle.records.specs.Judge.{judge}
+use Rattle.records.specs.RecordVerdict.{refused}
+use Rattle.records.specs.Judge.{judgeAs}
 use Rattle.records.specs.Kinds.{hasType}
-use Rattle.records.specs.Limits.{countLimit, centsLimit, stoppedCounts}
+use Rattle.records.specs.Limits.{countLimit, centsLimit, saturatedCounts}
 use Rattle.records.specs.declared.judged.Counts.{Counts}
-use Rattle.records.specs.declared.kind.Kind.{Kind}
+use Rattle.records.specs.declared.kind.RecordKind.{RecordKind}
 use Rattle.flow.specs.Order.{In, permitted, among}
-use Rattle.flow.specs.Steps.{counted, typed, judgeRecord, countsAt}
-use Rattle.flow.specs.declared.order.Found.{Found}
-use Rattle.flow.specs.declared.order.Found.the-variants.{Of, Missing}
+use Rattle.flow.specs.Walking.{dispositionsWith, judgeTyped, judgeRecord, countsAt}
+use Rattle.flow.specs.declared.order.TypeFound.{TypeFound}
+use Rattle.flow.specs.declared.order.TypeFound.the-variants.{Of, Missing}
 use Rattle.flow.specs.declared.walk.Walk.{Walk}
 use Rattle.flow.proofs.Among.{HasNone, among-tested, none-missing}
 use Rattle.flow.proofs.Exact.{counts-alike}
 
 -- the counts handed to the rules: that of the dispositions may have stopped
-abbrev pub handed : Walk → ℕ → Kind → Counts
-handed w n k = record { dispositions = min (counted w k) countLimit; cents = w .cents; records = n }
+abbrev pub handed : Walk → ℕ → RecordKind → Counts
+handed w n k = record { dispositions = min (dispositionsWith w k) countLimit; cents = w .cents; records = n }
 
 module _ (header : Header) (w : Walk) (company : List ℕ) (n : ℕ) (rec : List ℕ) where
   -- no record is judged otherwise for it
-  pub handed-alike : (k : Kind) → judge k (context header company (countsAt w n k)) rec ≡ judge k (context header company (handed w n k)) rec
+  pub handed-alike : (k : RecordKind) → judgeAs k (context header company (countsAt w n k)) rec ≡ judgeAs k (context header company (handed w n k)) rec
   handed-alike k =
-      let count : min (counted w k) countLimit ≡ min (min (counted w k) countLimit) countLimit = omega arith in
-      let alike : stoppedCounts (countsAt w n k) ≡ stoppedCounts (handed w n k) = λ i. record { dispositions = count i; cents = min (w .cents) centsLimit; records = n } in
+      let count : min (dispositionsWith w k) countLimit ≡ min (min (dispositionsWith w k) countLimit) countLimit = omega arith in
+      let alike : saturatedCounts (countsAt w n k) ≡ saturatedCounts (handed w n k) = λ i. record { dispositions = count i; cents = min (w .cents) centsLimit; records = n } in
       counts-alike header company k (countsAt w n k) (handed w n k) rec alike
 
   pub other-length : (length rec ≡ 120 → ⊥) → judgeRecord header w company n rec ≡ refused 1 0
@@ -43,21 +43,21 @@ module _ (header : Header) (w : Walk) (company : List ℕ) (n : ℕ) (rec : List
     unfolding judgeRecord
     bad-byte h = rw (eq-eqb (length rec) 120 whole, ne-eqb (badByte rec) 0 h)
 
-    by-type : (x : Found) → badByte rec ≡ 0 → among (permitted (w .place .due)) rec ≡ x → judgeRecord header w company n rec ≡ typed header w company n rec x
+    by-type : (x : TypeFound) → badByte rec ≡ 0 → among (permitted (w .place .due)) rec ≡ x → judgeRecord header w company n rec ≡ judgeTyped header w company n rec x
     unfolding judgeRecord
     by-type x printable e = rw (eq-eqb (length rec) 120 whole, eq-eqb (badByte rec) 0 printable, e)
 
     pub no-type : badByte rec ≡ 0 → among (permitted (w .place .due)) rec ≡ Missing → judgeRecord header w company n rec ≡ refused 3 2
-    unfolding typed
+    unfolding judgeTyped
     no-type printable e = by-type Missing printable e
 
-    pub of-type : (k : Kind) → badByte rec ≡ 0 → among (permitted (w .place .due)) rec ≡ Of k → judgeRecord header w company n rec ≡ judge k (context header company (handed w n k)) rec
-    unfolding typed
+    pub of-type : (k : RecordKind) → badByte rec ≡ 0 → among (permitted (w .place .due)) rec ≡ Of k → judgeRecord header w company n rec ≡ judgeAs k (context header company (handed w n k)) rec
+    unfolding judgeTyped
     of-type k printable e = by-type (Of k) printable e ∙ handed-alike k
 
     -- a record of a permitted type is judged by the rules of its kind
-    pub judged-of : (k : Kind) → badByte rec ≡ 0 → In k (permitted (w .place .due)) → hasType k rec ≡ true → judgeRecord header w company n rec ≡ judge k (context header company (countsAt w n k)) rec
-    unfolding typed
+    pub judged-of : (k : RecordKind) → badByte rec ≡ 0 → In k (permitted (w .place .due)) → hasType k rec ≡ true → judgeRecord header w company n rec ≡ judgeAs k (context header company (countsAt w n k)) rec
+    unfolding judgeTyped
     judged-of k printable i t = by-type (Of k) printable (among-tested (permitted (w .place .due)) rec k i t)
 
     -- one of none of them by 3

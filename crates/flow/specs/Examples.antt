@@ -64,14 +64,14 @@ twoRentTotals = record { dispositions = 2; cents = 83050; records = 16 }
 abbrev pub withFurther : List String → List ℕ
 withFurther furthers = flowOf ((headerIm ∷ firstOpened) ++ furthers)
 
-pub record Examples : Type 0 where
+pub record FlowExamples : Type 0 where
   pub two-rents : judge twoRents ≡ accepted twoRentTotals
   -- document 01, examples 4, 5, 6 and 8
   pub empty : judge [] ≡ refused (ofCall 1)
   pub header-alone : judge (flowOf (headerIm ∷ [])) ≡ refused (refusal 4 2 0)
   pub no-disposition : judge (flowOf (headerIm ∷ trailerEf ∷ [])) ≡ refused (refusal 3 2 2)
   pub six-further : judge (withFurther (further59 ∷ further59 ∷ further59 ∷ further59 ∷ further59 ∷ further59 ∷ [])) ≡ refused (refusal 3 11 2)
-  -- five are not too many: behind them a record is due
+  -- five are not too many: after them a record is due
   pub five-further : judge (withFurther (further59 ∷ further59 ∷ further59 ∷ further59 ∷ further59 ∷ [])) ≡ refused (refusal 4 11 0)
   -- where the two rents stand: their records are 2 to 8 and 9 to 15
   pub first-rent : find twoRents 1 ≡ accepted (record { first = 2; records = 7; cents = 45000 })
@@ -81,6 +81,6 @@ pub record Examples : Type 0 where
   pub none-in-empty : find [] 1 ≡ refused (ofCall 1)
   -- the part is the second rent's seven records
   pub second-part : partOf twoRents 2 ≡ flowOf second
-  -- it starts behind eight records; that of a refusal at the flow's start
+  -- it starts after eight records; that of a refusal at the flow's start
   pub second-offset : offsetOf twoRents 2 ≡ 960
   pub no-offset : offsetOf twoRents 3 ≡ 0

@@ -15,43 +15,57 @@ use Rattle.flow.specs.Judge.{judge}
 use Rattle.flow.specs.Records.{recordsOf}
 use Rattle.flow.specs.Verdict.{Verdict, accepted, refused, ofCall, andThen}
 use Rattle.flow.specs.declared.answer.Totals.{Totals}
+use Rattle.flow.specs.declared.location.Found.{Found}
+use Rattle.flow.specs.declared.location.Found.the-variants.{At, Refused}
+use Rattle.flow.specs.declared.location.FoundWithTotals.{FoundWithTotals}
+use Rattle.flow.specs.declared.location.FoundWithTotals.the-variants.{At as FoundWithTotals·At, Refused as FoundWithTotals·Refused}
 use Rattle.flow.specs.declared.location.Location.{Location}
-use Rattle.flow.specs.declared.location.Location.the-variants.{At, Refused}
-use Rattle.flow.specs.declared.location.Stand.{Stand}
+use Rattle.flow.specs.declared.location.WithTotals.{WithTotals}
 
--- the paper's values for each case of `flow::Location`
-abbrev pub located : Location → Verdict Stand
-located (At s) = accepted s
-located (Refused x) = refused x
+-- the paper's values for each case of `flow::Found`, and of `flow::FoundWithTotals`
+abbrev pub foundVerdict : Found → Verdict Location
+foundVerdict (At s) = accepted s
+foundVerdict (Refused x) = refused x
 
--- the dispositions of an accepted flow: each record that opens one with those behind it, up to the
+abbrev pub foundWithTotalsVerdict : FoundWithTotals → Verdict WithTotals
+foundWithTotalsVerdict (FoundWithTotals·At g) = accepted g
+foundWithTotalsVerdict (FoundWithTotals·Refused x) = refused x
+
+-- the dispositions of an accepted flow: each record that opens one with those after it, up to the
 -- next such record or the trailer
 abbrev pub dispositionsIn : List ℕ → List (List (List ℕ))
 dispositionsIn f = groups isOpening (dropLast (recordsOf f))
 
--- the index of the first record of the k-th of them, where dispositions count from 1 and indexes from 0: behind the header and those
+-- the index of the first record of the k-th of them, where dispositions count from 1 and indexes from 0: after the header and those
 -- before it
-abbrev pub startsAt : List (List (List ℕ)) → ℕ → ℕ
-startsAt ds k = suc (length (flatten (take (k - 1) ds)))
+abbrev pub startOf : List (List (List ℕ)) → ℕ → ℕ
+startOf ds k = suc (length (flatten (take (k - 1) ds)))
 
 -- a number that one of d dispositions has
 abbrev pub IsNumber : ℕ → ℕ → Type 0
 IsNumber k d = (1 ≤ k) × (k ≤ d)
 
 -- the k-th of them
-abbrev pub standsAt : List (List (List ℕ)) → ℕ → Stand
-standsAt ds k =
+abbrev pub locationOf : List (List (List ℕ)) → ℕ → Location
+locationOf ds k =
     let d = getD ds (k - 1) [] in
-    record { first = suc (startsAt ds k); records = length d; cents = number (amountIn (getD d 0 [])) }
+    record { first = suc (startOf ds k); records = length d; cents = number (amountIn (getD d 0 [])) }
 
 -- what the reader refuses is refused, and a number that no disposition has by 15
-unfoldable pub find : List ℕ → ℕ → Verdict Stand
+unfoldable pub find : List ℕ → ℕ → Verdict Location
 find f k =
     andThen (judge f)
-    (λ (t : Totals). cond (leb 1 k && leb k (t .dispositions)) (accepted (standsAt (dispositionsIn f) k)) (refused (ofCall 15)))
+    (λ (t : Totals). cond (leb 1 k && leb k (t .dispositions)) (accepted (locationOf (dispositionsIn f) k)) (refused (ofCall 15)))
+
+-- what reading and finding answer together, for the amendments: the totals of an accepted flow, and where disposition k is in it
+abbrev pub withTotals : Totals → Location → WithTotals
+withTotals t s = record { totals = t; location = s }
+
+unfoldable pub findWithTotals : List ℕ → ℕ → Verdict WithTotals
+findWithTotals f k = andThen (judge f) (λ (t : Totals). andThen (find f k) (λ (s : Location). accepted (withTotals t s)))
 
 -- the bytes of a disposition that stands in f; of a refusal none
-abbrev pub bytesAt : Verdict Stand → List ℕ → List ℕ
+abbrev pub bytesAt : Verdict Location → List ℕ → List ℕ
 bytesAt (accepted s) f = part (120 * (s .first - 1)) (120 * s .records) f
 bytesAt (refused x) f = []
 
@@ -59,7 +73,7 @@ abbrev pub partOf : List ℕ → ℕ → List ℕ
 partOf f k = bytesAt (find f k) f
 
 -- the index in f of the first of them; of a refusal 0
-abbrev pub offsetAt : Verdict Stand → ℕ
+abbrev pub offsetAt : Verdict Location → ℕ
 offsetAt (accepted s) = 120 * (s .first - 1)
 offsetAt (refused x) = 0
 
@@ -67,13 +81,13 @@ abbrev pub offsetOf : List ℕ → ℕ → ℕ
 offsetOf f k = offsetAt (find f k)
 
 -- For the contracts of private functions: disposition k stands in the flow f, which is accepted
-pub record Stands (f : List ℕ) (k : ℕ) : Type 0 where
+pub record HasDisposition (f : List ℕ) (k : ℕ) : Type 0 where
   pub totals : Totals
   pub read : judge f ≡ accepted totals
   pub some : 1 ≤ k
   pub within : k ≤ totals .dispositions
 
--- and the index of the first record that opens a disposition, at index i of f's records or behind it, or of the trailer where there is
--- none; and i itself where it is behind the trailer
+-- and the index of the first record that opens a disposition, at index i of f's records or after it, or of the trailer where there is
+-- none; and i itself where it is after the trailer
 abbrev pub openingFrom : List ℕ → ℕ → ℕ
 openingFrom f i = i + length (lead isOpening (drop i (dropLast (recordsOf f))))

@@ -1,3 +1,4 @@
+pub mod ExactTotals
 pub mod Examples
 pub mod FastPath
 pub mod Find
@@ -6,7 +7,5 @@ pub mod Laws
 pub mod Order
 pub mod Output
 pub mod Records
-pub mod Seek
-pub mod Steps
-pub mod Sums
 pub mod Verdict
+pub mod Walking

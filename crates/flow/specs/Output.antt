@@ -25,10 +25,10 @@ abbrev pub withRoom : {A : Type 0} → Verdict A → ℕ → ℕ → Verdict A
 withRoom {A} v size room = andThen v (λ (a : A). cond (leb size room) (accepted a) (refused (ofCall 21)))
 
 -- what a call leaves in the output: bytes at its front and the rest as it was, or all of it as it was
-pub record Leaves {A : Type 0} (o : Output A) (bytes out : List ℕ) : Type 0 where
+pub record FilledWith {A : Type 0} (o : Output A) (bytes out : List ℕ) : Type 0 where
   pub length-said : o .written ≡ length bytes
   pub front : take (o .written) (o .bytes) ≡ bytes
-  pub behind : drop (o .written) (o .bytes) ≡ drop (o .written) out
+  pub after : drop (o .written) (o .bytes) ≡ drop (o .written) out
 
-abbrev pub LeavesAlone : {A : Type 0} → Output A → List ℕ → Type 0
-LeavesAlone o out = (o .written ≡ 0) × (o .bytes ≡ out)
+abbrev pub LeftAlone : {A : Type 0} → Output A → List ℕ → Type 0
+LeftAlone o out = (o .written ≡ 0) × (o .bytes ≡ out)

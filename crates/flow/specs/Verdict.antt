@@ -11,9 +11,9 @@ pub data Verdict (A : Type 0) : Type 0 where
   refused : Refusal → Verdict A
 
 -- the paper's values for each case of `flow::Answer`
-abbrev pub verdict : Answer → Verdict Totals
-verdict (Accepted t) = accepted t
-verdict (Refused x) = refused x
+abbrev pub answerVerdict : Answer → Verdict Totals
+answerVerdict (Accepted t) = accepted t
+answerVerdict (Refused x) = refused x
 
 -- a refusal by its number, record and position; and that of a call, by a number that stands for no record
 abbrev pub refusal : ℕ → ℕ → ℕ → Refusal
@@ -22,7 +22,7 @@ refusal n r p = record { number = n; «record» = r; position = p }
 abbrev pub ofCall : ℕ → Refusal
 ofCall n = refusal n 0 0
 
--- what is refused stays refused, and behind an acceptance the rest decides
+-- what is refused stays refused, and after an acceptance the rest decides
 abbrev pub andThen : {A B : Type 0} → Verdict A → (A → Verdict B) → Verdict B
 andThen (accepted a) rest = rest a
 andThen (refused x) rest = refused x

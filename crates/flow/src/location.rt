@@ -7,71 +7,69 @@ ghost use lib.ListN.{length};
 ghost use Rattle.sequences.specs.Slice.{StartsAt};
 ghost use Rattle.fields.specs.Digits.{number as Digits·number};
 ghost use Rattle.records.specs.Amount.{amountIn, HasAmount};
-ghost use Rattle.flow.specs.Find.{located, dispositionsIn, startsAt, standsAt, partOf, offsetOf, Stands, openingFrom};
+ghost use Rattle.flow.specs.Find.{foundVerdict, dispositionsIn, startOf, locationOf, partOf, offsetOf, HasDisposition, openingFrom, foundWithTotalsVerdict, findWithTotals};
 ghost use Rattle.flow.specs.Find.{find as Find·find};
-ghost use Rattle.flow.specs.Seek.{sought};
-ghost use Rattle.flow.specs.Seek.{seek as Seek·seek};
 use crate::answer::Answer;
 use crate::answer::Refusal;
 use crate::answer::Totals;
 use crate::answer::refusal_of_call;
-use crate::counting::count;
-use crate::counting::index;
+use crate::casts::as_count;
+use crate::casts::as_index;
 use crate::reader::read;
 use crate::refusals::NO_DISPOSITION;
 use fields::Number;
 
 // Where disposition k stands; or refused.
-pub enum Location {
-    At(Stand),
+pub enum Found {
+    At(Location),
     Refused(Refusal),
 }
 
 // The first record of a disposition, counted from 1, the number of its records and its amount in cents.
-pub struct Stand {
+pub struct Location {
     pub first: u64,
     pub records: u64,
     pub cents: u64,
 }
 
 // The totals of an accepted flow, and where disposition k stands in it; or refused.
-pub enum Sought {
-    At(Target),
+pub enum FoundWithTotals {
+    At(WithTotals),
     Refused(Refusal),
 }
 
-// What is sought: the flow's totals, and where one of its dispositions stands.
-pub struct Target {
+// The flow's totals, and where one of its dispositions is.
+pub struct WithTotals {
     pub totals: Totals,
-    pub stand: Stand,
+    pub location: Location,
 }
 
 // Where disposition k of the flow stands, counted from 1. What the reader refuses is refused alike, and
 // then a k of 0 or above the count by 15.
-pub fn find(flow: &[u8], k: u64) -> Location
-    ensures { λ r. ⌜ located r ≡ Find·find (now (flow .entry)) k ⌝ }
+pub fn find(flow: &[u8], k: u64) -> Found
+    ensures { λ r. ⌜ foundVerdict r ≡ Find·find (now (flow .entry)) k ⌝ }
 {
-    match seek(flow, k) {
-        Sought::Refused(refusal) => Location::Refused(refusal),
-        Sought::At(target) => {
-            let stand = target.stand;
-            Location::At(stand)
+    match find_with_totals(flow, k) {
+        FoundWithTotals::Refused(refusal) => Found::Refused(refusal),
+        FoundWithTotals::At(found) => {
+            let location = found.location;
+            Found::At(location)
         }
     }
 }
 
 // What `read` and `find` answer, from one reading: an amendment needs both.
-pub fn seek(flow: &[u8], k: u64) -> Sought
-    ensures { λ r. ⌜ sought r ≡ Seek·seek (now (flow .entry)) k ⌝ }
+pub fn find_with_totals(flow: &[u8], k: u64) -> FoundWithTotals
+    ensures { λ r. ⌜ foundWithTotalsVerdict r ≡ findWithTotals (now (flow .entry)) k ⌝ }
 {
     match read(flow) {
-        Answer::Refused(refusal) => Sought::Refused(refusal),
+        Answer::Refused(refusal) => FoundWithTotals::Refused(refusal),
         Answer::Accepted(totals) => {
             if !is_number(k, totals.dispositions) {
-                return Sought::Refused(refusal_of_call(NO_DISPOSITION));
+                return FoundWithTotals::Refused(refusal_of_call(NO_DISPOSITION));
             }
-            let stand = locate(flow, k);
-            Sought::At(Target { totals, stand })
+            let location = location_of(flow, k);
+            FoundWithTotals::At(WithTotals { totals, location })
         }
     }
 }
@@ -83,11 +81,11 @@ pub fn disposition(flow: &[u8], k: u64) -> &[u8]
     ensures place { λ r. ⌜ StartsAt r (flow .entry) (offsetOf (now (flow .entry)) k) ⌝ }
 {
     match find(flow, k) {
-        Location::At(stand) => {
-            let from = index(stand.first - 1);
-            return &flow[120 * from..120 * (from + index(stand.records))];
+        Found::At(location) => {
+            let from = as_index(location.first - 1);
+            return &flow[120 * from..120 * (from + as_index(location.records))];
         }
-        Location::Refused(_) => {
+        Found::Refused(_) => {
             return &flow[0..0];
         }
     }
@@ -104,25 +102,25 @@ fn is_number(k: u64, dispositions: u64) -> bool
 }
 
 // Where disposition k of an accepted flow stands: up to the next record that opens one or the trailer.
-fn locate(flow: &[u8], k: u64) -> Stand
-    requires { ⌜ Stands (now flow) k ⌝ }
-    ensures { λ r. ⌜ r ≡ standsAt (dispositionsIn (now (flow .entry))) k ⌝ }
+fn location_of(flow: &[u8], k: u64) -> Location
+    requires { ⌜ HasDisposition (now flow) k ⌝ }
+    ensures { λ r. ⌜ r ≡ locationOf (dispositionsIn (now (flow .entry))) k ⌝ }
 {
     let at = start_of(flow, k);
     let end = next_opening(flow, at + 1);
     let cents = amount(&flow[120 * at..120 * at + 120]);
-    Stand {
-        first: count(at + 1),
-        records: count(end - at),
+    Location {
+        first: as_count(at + 1),
+        records: as_count(end - at),
         cents,
     }
 }
 
-// The index of the first record of disposition k of an accepted flow: from the record behind the
+// The index of the first record of disposition k of an accepted flow: from the record after the
 // header, as many times to the next record that opens one as there are dispositions before it.
 fn start_of(flow: &[u8], k: u64) -> usize
-    requires { ⌜ Stands (now flow) k ⌝ }
-    ensures { λ r. ⌜ r ≡ startsAt (dispositionsIn (now (flow .entry))) k ⌝ }
+    requires { ⌜ HasDisposition (now flow) k ⌝ }
+    ensures { λ r. ⌜ r ≡ startOf (dispositionsIn (now (flow .entry))) k ⌝ }
 {
     let mut at = 1;
     let mut j: u64 = 1;
@@ -133,8 +131,8 @@ fn start_of(flow: &[u8], k: u64) -> usize
     at
 }
 
-// The index of the first record at an index or behind it that opens a disposition, or that of the trailer
-// where there is none. An index behind the trailer comes back as it is.
+// The index of the first record at an index or after it that opens a disposition, or that of the trailer
+// where there is none. An index after the trailer comes back as it is.
 fn next_opening(flow: &[u8], from: usize) -> usize
     requires { ⌜ 120 ≤ length (now flow) ⌝ }
     ensures { λ r. ⌜ r ≡ openingFrom (now (flow .entry)) from ⌝ }

@@ -7,28 +7,28 @@ ghost use lib.ListN.{length};
 ghost use denote.Ref.{ptr};
 ghost use Rattle.records.specs.Context.{headerOf};
 ghost use Rattle.records.specs.Limits.{mostRecords};
-ghost use Rattle.flow.specs.Judge.{ended, go};
+ghost use Rattle.flow.specs.Judge.{ended, walkFrom};
 ghost use Rattle.flow.specs.Records.{isLength, recordsOf};
 ghost use Rattle.flow.specs.Judge.{judge as Judge·judge};
-ghost use Rattle.flow.specs.Steps.{start, latestBy, latestOf};
-ghost use Rattle.flow.specs.Verdict.{verdict};
+ghost use Rattle.flow.specs.Walking.{start, latestBy, latestOf};
+ghost use Rattle.flow.specs.Verdict.{answerVerdict};
 use crate::answer::Answer;
 use crate::answer::Refusal;
 use crate::answer::refusal_of_call;
-use crate::counting::count;
+use crate::casts::as_count;
 use crate::fast_path::pass_over;
 use crate::limits::MOST_BYTES;
 use crate::refusals::ENDED;
 use crate::walk::Walk;
 use records::Judged;
-use records::Kind;
+use records::RecordKind;
 use records::WRONG_LENGTH;
 use records::field;
 
 // The answer to a flow: its totals where it keeps the rules, and else its first fault. Any bytes, of
 // any length.
 pub fn read(flow: &[u8]) -> Answer
-    ensures { λ r. ⌜ verdict r ≡ Judge·judge (now (flow .entry)) ⌝ }
+    ensures { λ r. ⌜ answerVerdict r ≡ Judge·judge (now (flow .entry)) ⌝ }
 {
     if !is_length(flow.len()) {
         return Answer::Refused(refusal_of_call(WRONG_LENGTH));
@@ -52,7 +52,7 @@ fn is_length(n: usize) -> bool
 // Each record in turn, with the header: by the rules, and then those that are passed over.
 fn read_records(flow: &[u8], header: &[u8]) -> Answer
     requires { ⌜ isLength (length (now flow)) ≡ true ⌝ }
-    ensures { λ r. ⌜ verdict r ≡ go ended
+    ensures { λ r. ⌜ answerVerdict r ≡ walkFrom ended
         (headerOf (now (header .entry)))
         start [] 0 (recordsOf (now (flow .entry))) ⌝ }
 {
@@ -61,7 +61,7 @@ fn read_records(flow: &[u8], header: &[u8]) -> Answer
     let mut i = 0;
     while i < flow.len() / 120 {
         let rec = &flow[120 * i..120 * i + 120];
-        let n = count(i + 1);
+        let n = as_count(i + 1);
         match walk.judge(rec, n, header, company) {
             Judged::Refused(number, position) => {
                 return Answer::Refused(Refusal {
@@ -81,12 +81,12 @@ fn read_records(flow: &[u8], header: &[u8]) -> Answer
         walk = passed.walk;
         i = passed.index;
     }
-    end(walk, count(i))
+    end(walk, as_count(i))
 }
 
-// The latest company code present, behind a record of the kind that has the code at 92-96: one of the
+// The latest company code present, after a record of the kind that has the code at 92-96: one of the
 // two slices, as it was lent.
-pub fn latest_company<'a>(company: &'a [u8], code: &'a [u8], kind: Kind) -> &'a [u8]
+pub fn latest_company<'a>(company: &'a [u8], code: &'a [u8], kind: RecordKind) -> &'a [u8]
     ensures bytes { λ r. ⌜ now r ≡ latestOf kind (now (company .entry)) (now (code .entry)) ⌝ }
     ensures place { λ r. ⌜ ptr r ≡ latestBy kind (now (code .entry)) (ptr (company .entry)) (ptr (code .entry)) ⌝ }
 {
@@ -99,10 +99,10 @@ pub fn latest_company<'a>(company: &'a [u8], code: &'a [u8], kind: Kind) -> &'a 
     code
 }
 
-// The answer behind the last of n records.
+// The answer after the last of n records.
 fn end(walk: Walk, n: u64) -> Answer
     requires { ⌜ n ≤ mostRecords ⌝ }
-    ensures { λ r. ⌜ verdict r ≡ ended walk n ⌝ }
+    ensures { λ r. ⌜ answerVerdict r ≡ ended walk n ⌝ }
 {
     if walk.complete() {
         return Answer::Accepted(walk.totals(n));

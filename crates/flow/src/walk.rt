@@ -1,29 +1,29 @@
-// The walk over a flow: its state goes in by value and comes back behind the next record.
+// The walk over a flow: its state goes in by value and comes back after the next record.
 ghost use Prim.Native.Nat.{_+_, min};
 ghost use mathlib.Core.Bool.{false, not};
 ghost use mathlib.Core.Path.{_≡_};
 ghost use Rattle.records.specs.Context.{headerOf};
-ghost use Rattle.records.specs.Finding.{finding};
+ghost use Rattle.records.specs.RecordVerdict.{judgedVerdict};
 ghost use Rattle.records.specs.Kinds.{opens};
 ghost use Rattle.records.specs.Limits.{countLimit};
-ghost use Rattle.flow.specs.Judge.{totals as Judge·totals};
+ghost use Rattle.flow.specs.Judge.{walkTotals};
 ghost use Rattle.flow.specs.Order.{isDue, mayClose, permitted};
-ghost use Rattle.flow.specs.Steps.{step, stopped, counted, judgeRecord};
-ghost use Rattle.flow.specs.Steps.{start as Steps·start};
+ghost use Rattle.flow.specs.Walking.{step, saturated, dispositionsWith, judgeRecord};
+ghost use Rattle.flow.specs.Walking.{start as Walking·start};
 use crate::answer::Totals;
 use crate::limits::CENTS_LIMIT;
 use crate::limits::COUNT_LIMIT;
 use crate::order::Due;
-use crate::order::Found;
 use crate::order::Place;
+use crate::order::TypeFound;
 use crate::order::kind_due;
 use crate::order::place_after;
 use crate::refusals::BAD_BYTE;
 use crate::refusals::WRONG_TYPE;
 use records::Counts;
 use records::Judged;
-use records::Kind;
 use records::Record;
+use records::RecordKind;
 use records::WRONG_LENGTH;
 
 // What may come next, the dispositions so far and the cents so far. The counts stop one above what
@@ -37,7 +37,7 @@ pub struct Walk {
 impl Walk {
     // Before the header.
     pub fn start() -> Walk
-        ensures { λ r. ⌜ r ≡ Steps·start ⌝ }
+        ensures { λ r. ⌜ r ≡ Walking·start ⌝ }
     {
         Walk {
             place: Place {
@@ -53,7 +53,7 @@ impl Walk {
     // what stands elsewhere in it than `headerOf` names may be anything; `company` is the latest company
     // code present, blank or empty where there is none.
     pub fn judge(self, rec: &[u8], n: u64, header: &[u8], company: &[u8]) -> Judged
-        ensures { λ r. ⌜ finding r ≡ judgeRecord
+        ensures { λ r. ⌜ judgedVerdict r ≡ judgeRecord
             (headerOf (now (header .entry))) self (now (company .entry)) n (now (rec .entry)) ⌝ }
     {
         if rec.len() != 120 {
@@ -66,39 +66,39 @@ impl Walk {
         let place = self.place;
         let due = place.due;
         match kind_due(due, rec) {
-            Found::Of(kind) => {
+            TypeFound::Of(kind) => {
                 let counts = Counts {
-                    dispositions: self.counted(kind),
+                    dispositions: self.dispositions_with(kind),
                     cents: self.cents,
                     records: n,
                 };
                 records::judge(rec, kind, counts, header, company)
             }
-            Found::Missing => Judged::Refused(WRONG_TYPE, 2),
+            TypeFound::Missing => Judged::Refused(WRONG_TYPE, 2),
         }
     }
 
-    // The state behind a right record.
+    // The state after a right record.
     pub fn next(self, right: Record) -> Walk
-        ensures { λ r. ⌜ r ≡ stopped (step self (right .kind) (right .cents)) ⌝ }
+        ensures { λ r. ⌜ r ≡ saturated (step self (right .kind) (right .cents)) ⌝ }
     {
         let kind = right.kind;
         let place = self.place;
         let next = place_after(place.further, kind);
         Walk {
             place: next,
-            dispositions: self.counted(kind),
+            dispositions: self.dispositions_with(kind),
             cents: sum(self.cents, right.cents, CENTS_LIMIT),
         }
     }
 
-    // The same behind a right record that opens no disposition: the counts stay, so that none need be
+    // The same after a right record that opens no disposition: the counts stay, so that none need be
     // compared with its limit.
     pub(crate) fn pass(self, right: Record) -> Walk
         requires { ⌜ opens (right .kind) ≡ false ⌝ }
         requires { ⌜ right .cents ≡ 0 ⌝ }
-        requires { ⌜ stopped self ≡ self ⌝ }
-        ensures { λ r. ⌜ r ≡ stopped (step self (right .kind) (right .cents)) ⌝ }
+        requires { ⌜ saturated self ≡ self ⌝ }
+        ensures { λ r. ⌜ r ≡ saturated (step self (right .kind) (right .cents)) ⌝ }
     {
         let kind = right.kind;
         let place = self.place;
@@ -130,7 +130,7 @@ impl Walk {
 
     // The totals of n records that the walk has gone over.
     pub fn totals(self, n: u64) -> Totals
-        ensures { λ r. ⌜ r ≡ Judge·totals self n ⌝ }
+        ensures { λ r. ⌜ r ≡ walkTotals self n ⌝ }
     {
         let dispositions = self.dispositions;
         let cents = self.cents;
@@ -142,8 +142,8 @@ impl Walk {
     }
 
     // The dispositions up to and with a record of the kind.
-    fn counted(self, kind: Kind) -> u64
-        ensures { λ r. ⌜ r ≡ min (counted self kind) countLimit ⌝ }
+    fn dispositions_with(self, kind: RecordKind) -> u64
+        ensures { λ r. ⌜ r ≡ min (dispositionsWith self kind) countLimit ⌝ }
     {
         if records::opens(kind) {
             return sum(self.dispositions, 1, COUNT_LIMIT);

@@ -1,5 +1,5 @@
 // The line that says where a disposition is.
-use flow::Location;
+use flow::Found;
 use libc::STDOUT_FILENO;
 use printing::labelled;
 use printing::line_feed;
@@ -10,15 +10,15 @@ pub(crate) fn print(bytes: &[u8], k: u64) {
     let part = flow::disposition(bytes, k);
     let location = flow::find(bytes, k);
     match location {
-        Location::At(stand) => {
-            labelled(b"found first ", stand.first);
-            labelled(b" records ", stand.records);
-            labelled(b" cents ", stand.cents);
+        Found::At(location) => {
+            labelled(b"found first ", location.first);
+            labelled(b" records ", location.records);
+            labelled(b" cents ", location.cents);
             labelled(b" part ", part.len() as u64);
             quoted(part);
             quoted(last_record(part));
         }
-        Location::Refused(refusal) => {
+        Found::Refused(refusal) => {
             report::print_refusal(refusal);
             labelled(b" part ", part.len() as u64);
         }

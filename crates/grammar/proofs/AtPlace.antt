@@ -10,15 +10,15 @@ use Rattle.records.specs.Bytes.{badByte}
 use Rattle.records.specs.Checks.{checks}
 use Rattle.records.specs.Context.{Header, Context, context}
 use Rattle.records.specs.Field.{field}
-use Rattle.records.specs.Finding.{Finding, right, refused, Hold}
-use Rattle.records.specs.Judge.{asked, judge}
+use Rattle.records.specs.RecordVerdict.{RecordVerdict, right, refused, Hold}
+use Rattle.records.specs.Judge.{asked, judgeAs}
 use Rattle.records.specs.Kinds.{typeOf}
-use Rattle.records.specs.declared.kind.Kind.{Kind}
+use Rattle.records.specs.declared.kind.RecordKind.{RecordKind}
 use Rattle.records.proofs.ByKind.{type-said, type-tested, right-asked}
 use Rattle.records.proofs.FirstFault.{right-not-refused}
-use Rattle.records.proofs.Found.{right-exact, broken-exact}
+use Rattle.records.proofs.RightOrBroken.{right-exact, broken-exact}
 use Rattle.flow.specs.Order.{In, permitted}
-use Rattle.flow.specs.Steps.{countsAt, judgeRecord}
+use Rattle.flow.specs.Walking.{countsAt, judgeRecord}
 use Rattle.flow.specs.declared.walk.Walk.{Walk}
 use Rattle.flow.proofs.Among.{Has, HasNone, has-or-none}
 use Rattle.flow.proofs.Places.{other-length, bad-byte as judged-bad-byte, judged-of, judged-none}
@@ -28,14 +28,14 @@ use Rattle.grammar.specs.Rules.{Printable, Formed}
 use Rattle.grammar.proofs.Rules.{printable-exact, bad-byte-exact}
 
 -- what the checks of a record of the kind are asked with, at a state of the walk
-abbrev pub asks : Header → Walk → List ℕ → ℕ → Kind → Context
+abbrev pub asks : Header → Walk → List ℕ → ℕ → RecordKind → Context
 asks h w company n k = context h company (countsAt w n k)
 
-abbrev pub May : Walk → Kind → Type 0
+abbrev pub May : Walk → RecordKind → Type 0
 May w k = In k (permitted (w .place .due))
 
 -- right at its place, of the kind
-pub record RightAt (h : Header) (w : Walk) (company : List ℕ) (n : ℕ) (k : Kind) (rec : List ℕ) : Type 0 where
+pub record RightAt (h : Header) (w : Walk) (company : List ℕ) (n : ℕ) (k : RecordKind) (rec : List ℕ) : Type 0 where
   pub may : May w k
   pub formed : Formed k rec
   pub keeps : Hold (checks k (asks h w company n k) rec)
@@ -45,14 +45,14 @@ abbrev pub FaultAt : Header → Walk → List ℕ → ℕ → List ℕ → ℕ �
 FaultAt h w company n rec m p = Fault (May w) (asks h w company n) rec m p
 
 abbrev pub Judgement : Header → Walk → List ℕ → ℕ → List ℕ → Type 0
-Judgement h w company n rec = ((k : Kind) × RightAt h w company n k rec) ⊎ ((m p : ℕ) × FaultAt h w company n rec m p)
+Judgement h w company n rec = ((k : RecordKind) × RightAt h w company n k rec) ⊎ ((m p : ℕ) × FaultAt h w company n rec m p)
 
 module _ (h : Header) (w : Walk) (company : List ℕ) (n : ℕ) (rec : List ℕ) (whole : length rec ≡ 120) where
   -- by the rules of its kind
-  of-kind : (k : Kind) → All Printable rec → field 2 3 rec ≡ typeOf k → May w k → judgeRecord h w company n rec ≡ judge k (asks h w company n k) rec
+  of-kind : (k : RecordKind) → All Printable rec → field 2 3 rec ≡ typeOf k → May w k → judgeRecord h w company n rec ≡ judgeAs k (asks h w company n k) rec
   of-kind k printable type may = judged-of h w company n rec whole k (printable-exact rec .1 printable) may (type-tested k rec type)
 
-  pub right-judged : (k : Kind) → RightAt h w company n k rec → judgeRecord h w company n rec ≡ right k (asked k rec)
+  pub right-judged : (k : RecordKind) → RightAt h w company n k rec → judgeRecord h w company n rec ≡ right k (asked k rec)
   right-judged k r = of-kind k (r .formed .printable) (r .formed .type) (r .may) ∙ right-exact k (asks h w company n k) rec whole .1 (r .keeps)
 
   pub fault-judged : (m p : ℕ) → FaultAt h w company n rec m p → judgeRecord h w company n rec ≡ refused m p
@@ -63,10 +63,10 @@ module _ (h : Header) (w : Walk) (company : List ℕ) (n : ℕ) (rec : List ℕ)
   fault-judged m p (broken k q r printable type may first) = of-kind k printable type may ∙ broken-exact k (asks h w company n k) rec m p whole .1 first
 
   -- one of the two it is
-  by-checks : (k : Kind) (x : Finding) → judge k (asks h w company n k) rec ≡ x → All Printable rec → field 2 3 rec ≡ typeOf k → May w k → Judgement h w company n rec
+  by-checks : (k : RecordKind) (x : RecordVerdict) → judgeAs k (asks h w company n k) rec ≡ x → All Printable rec → field 2 3 rec ≡ typeOf k → May w k → Judgement h w company n rec
   by-checks k (right l c) e printable type may =
       let same = right-asked k l (asks h w company n k) rec c e in
-      let found : judge k (asks h w company n k) rec ≡ right k (asked k rec) = e ∙ cc in
+      let found : judgeAs k (asks h w company n k) rec ≡ right k (asked k rec) = e ∙ cc in
       inl (k, record { may = may; formed = record { whole = whole; printable = printable; type = type }; keeps = right-exact k (asks h w company n k) rec whole .0 found })
   by-checks k (refused m p) e printable type may =
       inr (m, p, broken k m p printable type may (broken-exact k (asks h w company n k) rec m p whole .0 e))
@@ -75,7 +75,7 @@ module _ (h : Header) (w : Walk) (company : List ℕ) (n : ℕ) (rec : List ℕ)
   judgement = bytes (badByte rec) refl
     where
       typed : All Printable rec → Has (permitted (w .place .due)) rec ⊎ HasNone (permitted (w .place .due)) rec → Judgement h w company n rec
-      typed printable (inl o) = by-checks (o .0) (judge (o .0) (asks h w company n (o .0)) rec) refl printable (type-said (o .0) rec (o .2)) (o .1)
+      typed printable (inl o) = by-checks (o .0) (judgeAs (o .0) (asks h w company n (o .0)) rec) refl printable (type-said (o .0) rec (o .2)) (o .1)
       typed printable (inr none) = inr (3, 2, wrong-type printable (λ k e i. none k i (type-tested k rec e)))
 
       bytes : (p : ℕ) → badByte rec ≡ p → Judgement h w company n rec

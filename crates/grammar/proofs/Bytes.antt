@@ -3,7 +3,7 @@ use Prim.Native.Nat.{ℕ}
 use mathlib.Core.List.{List, [], _∷_, _++_, append-nil, map, map-map, map-append, flatten}
 use mathlib.Core.Path.{_≡_, sym, _∙_, ap}
 use Rattle.sequences.proofs.Flatten.{flatten-append, flatten-flatten, map-flatten}
-use Rattle.records.specs.declared.kind.Kind.the-variants.{Im, Ef}
+use Rattle.records.specs.declared.kind.RecordKind.the-variants.{Im, Ef}
 use Rattle.grammar.specs.Grammar.{Typed, Parts, recordsIn, bytesOf}
 
 -- the records of a flow that is taken apart, in order

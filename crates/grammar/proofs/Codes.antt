@@ -9,7 +9,7 @@ use Rattle.grammar.specs.Grammar.{AllEqual}
 use Rattle.grammar.specs.Rules.{Present}
 use Rattle.grammar.proofs.Rules.{present-exact, agrees-exact}
 
--- the latest one present behind a code
+-- the latest one present after a code
 abbrev pub latestOf : List ℕ → List ℕ → List ℕ
 latestOf latest code = cond (isPresent code) code latest
 
@@ -35,10 +35,10 @@ module _ (latest c : List ℕ) (cs : List (List ℕ)) where
           go (inr k) = each x k p
 
   blank-front : ¬ Present c → (Present latest → Each latest cs) → AllEqual cs → (Present latest → Each latest (c ∷ cs)) × AllEqual (c ∷ cs)
-  blank-front blank each equal = (λ there x m p. each there x (behind x m p) p, λ a b m k p q. equal a b (behind a m p) (behind b k q) p q)
+  blank-front blank each equal = (λ there x m p. each there x (after x m p) p, λ a b m k p q. equal a b (after a m p) (after b k q) p q)
     where
-      behind : (x : List ℕ) → List·Memᴰ x (c ∷ cs) → Present x → List·Memᴰ x cs
-      behind x m p = go (List·Memᴰ·cases-cons m)
+      after : (x : List ℕ) → List·Memᴰ x (c ∷ cs) → Present x → List·Memᴰ x cs
+      after x m p = go (List·Memᴰ·cases-cons m)
         where
           go : (x ≡ c) ⊎ List·Memᴰ x cs → List·Memᴰ x cs
           go (inl e) = absurd (blank (subst Present e p))

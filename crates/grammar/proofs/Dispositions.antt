@@ -16,26 +16,26 @@ use Rattle.records.specs.Context.{Header}
 use Rattle.records.specs.Field.{field}
 use Rattle.records.specs.Judge.{asked}
 use Rattle.records.specs.Kinds.{opens, goesOn, opened}
-use Rattle.records.specs.declared.kind.Kind.{Kind}
-use Rattle.records.specs.declared.kind.Kind.the-variants.{Im, R14, R16, R20, R30, R40, R50, R59, R51, R70, Ef}
-use Rattle.flow.specs.Steps.{step, latest}
+use Rattle.records.specs.declared.kind.RecordKind.{RecordKind}
+use Rattle.records.specs.declared.kind.RecordKind.the-variants.{Im, R14, R16, R20, R30, R40, R50, R59, R51, R70, Ef}
+use Rattle.flow.specs.Walking.{step, latest}
 use Rattle.flow.specs.declared.order.Place.{Place}
 use Rattle.flow.specs.declared.walk.Walk.{Walk}
-use Rattle.grammar.specs.Grammar.{Typed, kindsOf, amountOf, codeOf, RightDisposition, Numbered}
+use Rattle.grammar.specs.Grammar.{Typed, kindsOf, dispositionAmount, dispositionCode, RightDisposition, RightDispositions}
 use Rattle.grammar.specs.Rules.{Formed, MemberRules}
-use Rattle.grammar.specs.Shape.{Coordinates, without, with-16, Reasons, one-50, some-59, Disposition, disposition}
+use Rattle.grammar.specs.Shape.{Coordinates, no-16, with-16, Reasons, one-50, some-59, Disposition, disposition}
 use Rattle.grammar.proofs.AtPlace.{asks, May, RightAt}
 use Rattle.grammar.proofs.Codes.{latestOf, Agreeing}
-use Rattle.grammar.proofs.Order.{Allowed, allowed-before, allowed-behind}
+use Rattle.grammar.proofs.Order.{Allowed, allowed-before, allowed-after}
 use Rattle.grammar.proofs.Rules.{CodeAgrees, member-rules}
-use Rattle.grammar.proofs.Walked.{stateBehind, codeBehind, Walked, walked-append, state-append, walked-allowed, state-place}
+use Rattle.grammar.proofs.Walked.{stateAfter, codeAfter, Walked, walked-append, state-append, walked-allowed, state-place}
 
 -- a kind of record that stands in a disposition and does not open it
-abbrev pub Detail : Kind → Type 0
+abbrev pub Detail : RecordKind → Type 0
 Detail k = goesOn k ≡ true
 
 -- what holds of each of these
-pub each-detail : (P : Kind → Type 0) → All P (R16 ∷ R20 ∷ R30 ∷ R40 ∷ R50 ∷ R59 ∷ R51 ∷ R70 ∷ []) → (k : Kind) → Detail k → P k
+pub each-detail : (P : RecordKind → Type 0) → All P (R16 ∷ R20 ∷ R30 ∷ R40 ∷ R50 ∷ R59 ∷ R51 ∷ R70 ∷ []) → (k : RecordKind) → Detail k → P k
 each-detail P all Im d = absurd (true≢false (sym d))
 each-detail P all R14 d = absurd (true≢false (sym d))
 each-detail P all R16 d = all .0
@@ -48,15 +48,15 @@ each-detail P all R51 d = all .1 .1 .1 .1 .1 .1 .0
 each-detail P all R70 d = all .1 .1 .1 .1 .1 .1 .1 .0
 each-detail P all Ef d = absurd (true≢false (sym d))
 
-pub detail-opens : (k : Kind) → Detail k → opens k ≡ false
-detail-opens = each-detail (λ (k : Kind). opens k ≡ false) (refl, (refl, (refl, (refl, (refl, (refl, (refl, (refl, tt))))))))
+pub detail-opens : (k : RecordKind) → Detail k → opens k ≡ false
+detail-opens = each-detail (λ (k : RecordKind). opens k ≡ false) (refl, (refl, (refl, (refl, (refl, (refl, (refl, (refl, tt))))))))
 
 -- a disposition is a 14 and its details
-coordinates-details : {cs : List Kind} → Coordinates cs → All Detail cs
-coordinates-details without = tt
+coordinates-details : {cs : List RecordKind} → Coordinates cs → All Detail cs
+coordinates-details no-16 = tt
 coordinates-details with-16 = (refl, tt)
 
-reasons-details : {rs : List Kind} → Reasons rs → All Detail rs
+reasons-details : {rs : List RecordKind} → Reasons rs → All Detail rs
 reasons-details one-50 = (refl, tt)
 reasons-details (some-59 n some few) = go n
   where
@@ -71,23 +71,23 @@ pub data Opened : List Typed → Type 0 where
 pub opened-so : (d : List Typed) → Disposition (kindsOf d) → Opened d
 opened-so d order = go d (kindsOf d) refl order
   where
-    details : {ks : List Kind} → Disposition ks → (ls : List Kind) × (ks ≡ R14 ∷ ls) × All Detail ls
+    details : {ks : List RecordKind} → Disposition ks → (ls : List RecordKind) × (ks ≡ R14 ∷ ls) × All Detail ls
     details (disposition {cs = cs} {rs = rs} c r) =
         let rest = R51 ∷ R70 ∷ [] in
         let middle = R20 ∷ R30 ∷ R40 ∷ (rs ++ rest) in
         (cs ++ middle, refl, all-append Detail cs middle (coordinates-details c) (refl, (refl, (refl, all-append Detail rs rest (reasons-details r) (refl, (refl, tt))))))
 
-    go : (d : List Typed) (ks : List Kind) → kindsOf d ≡ ks → Disposition ks → Opened d
+    go : (d : List Typed) (ks : List RecordKind) → kindsOf d ≡ ks → Disposition ks → Opened d
     go [] ks e o = absurd (nil≢cons (e ∙ details o .1))
     go (r ∷ rs) ks e o =
         let split = details o in
         let same = e ∙ split .1 in
         opened-by r rs (head-eq-of-cons-eq same) (subst (All Detail) (sym (tail-eq-of-cons-eq same)) (split .2))
 
--- behind details the state is as before, but for its place
+-- after details the state is as before, but for its place
 details-state :
     (w : Walk) (code : List ℕ) (rs : List Typed) → All Detail (kindsOf rs)
-    → (stateBehind w rs .dispositions ≡ w .dispositions) × (stateBehind w rs .cents ≡ w .cents) × (codeBehind code rs ≡ code)
+    → (stateAfter w rs .dispositions ≡ w .dispositions) × (stateAfter w rs .cents ≡ w .cents) × (codeAfter code rs ≡ code)
 details-state w code [] details = (refl, refl, refl)
 details-state w code (r ∷ rs) details =
     let k = r .kind in
@@ -98,15 +98,15 @@ details-state w code (r ∷ rs) details =
     let rest = details-state (step w k (asked k (r .bytes))) (latest k code (r .bytes)) rs (details .1) in
     (omega arith, omega arith, rest .2 ∙ same)
 
--- behind a disposition one more is counted, and its amount
+-- after a disposition one more is counted, and its amount
 pub disposition-state :
     (w : Walk) (code : List ℕ) (d : List Typed) → Opened d
-    → (stateBehind w d .dispositions ≡ suc (w .dispositions)) × (stateBehind w d .cents ≡ w .cents + amountOf d) × (codeBehind code d ≡ latestOf code (codeOf d))
+    → (stateAfter w d .dispositions ≡ suc (w .dispositions)) × (stateAfter w d .cents ≡ w .cents + dispositionAmount d) × (codeAfter code d ≡ latestOf code (dispositionCode d))
 disposition-state w code d (opened-by r rs e details) =
     let k = r .kind in
     let count : opened k ≡ 1 = ap opened e in
-    let cents : asked k (r .bytes) ≡ number (amountIn (r .bytes)) = ap (λ (l : Kind). asked l (r .bytes)) e in
-    let code-so : latest k code (r .bytes) ≡ latestOf code (field 92 96 (r .bytes)) = ap (λ (l : Kind). latest l code (r .bytes)) e in
+    let cents : asked k (r .bytes) ≡ number (amountIn (r .bytes)) = ap (λ (l : RecordKind). asked l (r .bytes)) e in
+    let code-so : latest k code (r .bytes) ≡ latestOf code (field 92 96 (r .bytes)) = ap (λ (l : RecordKind). latest l code (r .bytes)) e in
     let rest = details-state (step w k (asked k (r .bytes))) (latest k code (r .bytes)) rs details in
     (omega arith, omega arith, rest .2 ∙ code-so)
 
@@ -132,8 +132,8 @@ member-exact h w code i n r not-header not-trailer number-due =
       },
     )
 
-detail-agrees : (k : Kind) (code rec : List ℕ) → Detail k → CodeAgrees k code rec
-detail-agrees k code rec = each-detail (λ (l : Kind). CodeAgrees l code rec) (tt, (tt, (tt, (tt, (tt, (tt, (tt, (tt, tt)))))))) k
+detail-agrees : (k : RecordKind) (code rec : List ℕ) → Detail k → CodeAgrees k code rec
+detail-agrees k code rec = each-detail (λ (l : RecordKind). CodeAgrees l code rec) (tt, (tt, (tt, (tt, (tt, (tt, (tt, (tt, tt)))))))) k
 
 details-exact :
     (h : Header) (w : Walk) (code : List ℕ) (i n : ℕ) (rs : List Typed) → All Detail (kindsOf rs) → w .dispositions ≡ n
@@ -155,10 +155,10 @@ details-exact h w code i n (r ∷ rs) details same =
 -- the n-th disposition
 disposition-exact :
     (h : Header) (w : Walk) (code : List ℕ) (i n : ℕ) (d : List Typed) → Disposition (kindsOf d) → suc (w .dispositions) ≡ n
-    → Walked h w code i d ↔ (Allowed (w .place) (kindsOf d) × RightDisposition (h .abi) n d × (agrees code (codeOf d) ≡ true))
+    → Walked h w code i d ↔ (Allowed (w .place) (kindsOf d) × RightDisposition (h .abi) n d × (agrees code (dispositionCode d) ≡ true))
 disposition-exact h w code i n d order same = go d order (opened-so d order)
   where
-    go : (d : List Typed) → Disposition (kindsOf d) → Opened d → Walked h w code i d ↔ (Allowed (w .place) (kindsOf d) × RightDisposition (h .abi) n d × (agrees code (codeOf d) ≡ true))
+    go : (d : List Typed) → Disposition (kindsOf d) → Opened d → Walked h w code i d ↔ (Allowed (w .place) (kindsOf d) × RightDisposition (h .abi) n d × (agrees code (dispositionCode d) ≡ true))
     go d order (opened-by r rs e details) =
         let k = r .kind in
         let opens-one : opened k ≡ 1 = ap opened e in
@@ -168,8 +168,8 @@ disposition-exact h w code i n d order same = go d order (opened-so d order)
           λ walked.
               let front = one .0 (walked .0) in
               let back = rest .0 (walked .1) in
-              ((front .0, back .0), record { order = order; records = (front .1, back .1) }, subst (λ (l : Kind). CodeAgrees l code (r .bytes)) e (front .2)),
-          λ g. (one .1 (g .0 .0, g .1 .records .0, subst (λ (l : Kind). CodeAgrees l code (r .bytes)) (sym e) (g .2)), rest .1 (g .0 .1, g .1 .records .1)),
+              ((front .0, back .0), record { order = order; records = (front .1, back .1) }, subst (λ (l : RecordKind). CodeAgrees l code (r .bytes)) e (front .2)),
+          λ g. (one .1 (g .0 .0, g .1 .records .0, subst (λ (l : RecordKind). CodeAgrees l code (r .bytes)) (sym e) (g .2)), rest .1 (g .0 .1, g .1 .records .1)),
         )
       where
         apart : R14 ≡ Im → ⊥
@@ -181,33 +181,33 @@ disposition-exact h w code i n d order same = go d order (opened-so d order)
 abbrev pub InShape : List (List Typed) → Type 0
 InShape ds = All (λ (d : List Typed). Disposition (kindsOf d)) ds
 
-pub numbered-shape : (abi : List ℕ) (n : ℕ) (ds : List (List Typed)) → Numbered abi n ds → InShape ds
+pub numbered-shape : (abi : List ℕ) (n : ℕ) (ds : List (List Typed)) → RightDispositions abi n ds → InShape ds
 numbered-shape abi n [] each = tt
 numbered-shape abi n (d ∷ ds) each = (each .0 .order, numbered-shape abi (suc n) ds (each .1))
 
--- behind dispositions they are counted, and their amounts
+-- after dispositions they are counted, and their amounts
 pub dispositions-state :
     (w : Walk) (ds : List (List Typed)) → InShape ds
-    → (stateBehind w (flatten ds) .dispositions ≡ w .dispositions + length ds) × (stateBehind w (flatten ds) .cents ≡ w .cents + sum (map amountOf ds))
+    → (stateAfter w (flatten ds) .dispositions ≡ w .dispositions + length ds) × (stateAfter w (flatten ds) .cents ≡ w .cents + sum (map dispositionAmount ds))
 unfolding flatten
 dispositions-state w [] shape = (omega arith, omega arith)
 dispositions-state w (d ∷ ds) shape =
     let one = disposition-state w [] d (opened-so d (shape .0)) in
-    let rest = dispositions-state (stateBehind w d) ds (shape .1) in
+    let rest = dispositions-state (stateAfter w d) ds (shape .1) in
     let same = state-append w d (flatten ds) in
     let count = ap (λ (v : Walk). v .dispositions) same in
     let cents = ap (λ (v : Walk). v .cents) same in
     (omega arith, omega arith)
 
--- dispositions numbered behind n
+-- dispositions numbered after n
 pub dispositions-exact :
     (h : Header) (w : Walk) (code : List ℕ) (i n : ℕ) (ds : List (List Typed)) → InShape ds → suc (w .dispositions) ≡ n
-    → Walked h w code i (flatten ds) ↔ (Allowed (w .place) (kindsOf (flatten ds)) × Numbered (h .abi) n ds × Agreeing code (map codeOf ds))
+    → Walked h w code i (flatten ds) ↔ (Allowed (w .place) (kindsOf (flatten ds)) × RightDispositions (h .abi) n ds × Agreeing code (map dispositionCode ds))
 unfolding flatten
 dispositions-exact h w code i n [] shape same = (λ u. (tt, tt, tt), λ u. tt)
 dispositions-exact h w code i n (d ∷ ds) shape same =
-    let w′ = stateBehind w d in
-    let code′ = codeBehind code d in
+    let w′ = stateAfter w d in
+    let code′ = codeAfter code d in
     let state = disposition-state w code d (opened-so d (shape .0)) in
     let next : suc (w′ .dispositions) ≡ suc n = omega arith in
     let one = disposition-exact h w code i n d (shape .0) same in
@@ -218,10 +218,10 @@ dispositions-exact h w code i n (d ∷ ds) shape same =
           let both = parts .0 walked in
           let front = one .0 (both .0) in
           let back = rest .0 (both .1) in
-          (walked-allowed h w code i (d ++ flatten ds) walked, (front .1, back .1), (front .2, subst (λ (c : List ℕ). Agreeing c (map codeOf ds)) (state .2) (back .2))),
+          (walked-allowed h w code i (d ++ flatten ds) walked, (front .1, back .1), (front .2, subst (λ (c : List ℕ). Agreeing c (map dispositionCode ds)) (state .2) (back .2))),
       λ g.
           let allowed = subst (Allowed (w .place)) kinds (g .0) in
           let front = one .1 (allowed-before (w .place) (kindsOf d) (kindsOf (flatten ds)) allowed, g .1 .0, g .2 .0) in
-          let here = subst (λ (p : Place). Allowed p (kindsOf (flatten ds))) (sym (state-place w d)) (allowed-behind (w .place) (kindsOf d) (kindsOf (flatten ds)) allowed) in
-          parts .1 (front, rest .1 (here, g .1 .1, subst (λ (c : List ℕ). Agreeing c (map codeOf ds)) (sym (state .2)) (g .2 .1))),
+          let here = subst (λ (p : Place). Allowed p (kindsOf (flatten ds))) (sym (state-place w d)) (allowed-after (w .place) (kindsOf d) (kindsOf (flatten ds)) allowed) in
+          parts .1 (front, rest .1 (here, g .1 .1, subst (λ (c : List ℕ). Agreeing c (map dispositionCode ds)) (sym (state .2)) (g .2 .1))),
     )

@@ -14,14 +14,14 @@ use Rattle.sequences.proofs.Part.{part-length}
 use Rattle.records.specs.Checks.{checks}
 use Rattle.records.specs.Context.{Header, headerOf}
 use Rattle.records.specs.Field.{field}
-use Rattle.records.specs.Finding.{Hold}
+use Rattle.records.specs.RecordVerdict.{Hold}
 use Rattle.records.specs.Limits.{centsLimit, countLimit}
-use Rattle.records.specs.declared.kind.Kind.{Kind}
-use Rattle.records.specs.declared.kind.Kind.the-variants.{Im, Ef}
-use Rattle.flow.specs.Judge.{totals, ended, judge}
+use Rattle.records.specs.declared.kind.RecordKind.{RecordKind}
+use Rattle.records.specs.declared.kind.RecordKind.the-variants.{Im, Ef}
+use Rattle.flow.specs.Judge.{walkTotals, ended, judge}
 use Rattle.flow.specs.Records.{RightLength, recordsOf}
-use Rattle.flow.specs.Order.{place}
-use Rattle.flow.specs.Steps.{start, step}
+use Rattle.flow.specs.Order.{placeDue}
+use Rattle.flow.specs.Walking.{start, step}
 use Rattle.flow.specs.Verdict.{Verdict, accepted, refused}
 use Rattle.flow.specs.declared.answer.Refusal.{Refusal}
 use Rattle.flow.specs.declared.answer.Totals.{Totals}
@@ -33,19 +33,19 @@ use Rattle.flow.proofs.Cut.{Whole, flatten-length, records-joined, joined-recor
 use Rattle.flow.proofs.Dispositions.{accepted-records}
 use Rattle.flow.proofs.Lengths.{length-said}
 use Rattle.grammar.specs.Fault.{FirstFault}
-use Rattle.grammar.specs.Grammar.{Typed, Parts, kindsOf, recordsIn, codeOf, bytesOf, dispositionCount, totalCents, recordCount, totalsOf, Numbered, Right, Grammar}
+use Rattle.grammar.specs.Grammar.{Typed, Parts, kindsOf, recordsIn, dispositionCode, bytesOf, dispositionCount, totalCents, recordCount, partsTotals, RightDispositions, RightParts, Grammar}
 use Rattle.grammar.specs.Laws.{GrammarExact, RightOrFaulty}
 use Rattle.grammar.specs.Rules.{TrailerRules}
 use Rattle.grammar.specs.Shape.{Disposition, Dispositions, last, more, InOrder, in-order}
 use Rattle.grammar.proofs.AtPlace.{asks, RightAt}
-use Rattle.grammar.proofs.Behind.{FromStart}
+use Rattle.grammar.proofs.ContextAfter.{FromStart}
 use Rattle.grammar.proofs.Bytes.{typedOf, parts-joined}
 use Rattle.grammar.proofs.Codes.{Agreeing, all-equal-exact}
 use Rattle.grammar.proofs.Dispositions.{InShape, numbered-shape, dispositions-state, dispositions-exact}
 use Rattle.grammar.proofs.FirstFault.{judgeFrom, judged, whole-records, ends-so, stops-so, complete-order, order-complete, first-fault-exact}
-use Rattle.grammar.proofs.Order.{Allowed, allowed-before, allowed-behind, order-runs}
+use Rattle.grammar.proofs.Order.{Allowed, allowed-before, allowed-after, order-runs}
 use Rattle.grammar.proofs.Rules.{header-rules, trailer-rules, said-below}
-use Rattle.grammar.proofs.Walked.{stateBehind, codeBehind, Walked, walked-append, walked-formed, formed-whole, state-append, state-place, Outcome, all-right, stops, outcome}
+use Rattle.grammar.proofs.Walked.{stateAfter, codeAfter, Walked, walked-append, walked-formed, formed-whole, state-append, state-place, Outcome, all-right, stops, outcome}
 
 -- records in the order of a flow are a header, dispositions and a trailer
 pub record TakenApart (rs : List Typed) : Type 0 where
@@ -54,7 +54,7 @@ pub record TakenApart (rs : List Typed) : Type 0 where
   pub some : 1 ≤ dispositionCount parts
   pub shape : InShape (parts .dispositions)
 
-cut-up : {ks : List Kind} → Dispositions ks → (ms : List Typed) → kindsOf ms ≡ ks → (ds : List (List Typed)) × (ms ≡ flatten ds) × (1 ≤ length ds) × InShape ds
+cut-up : {ks : List RecordKind} → Dispositions ks → (ms : List Typed) → kindsOf ms ≡ ks → (ds : List (List Typed)) × (ms ≡ flatten ds) × (1 ≤ length ds) × InShape ds
 unfolding flatten
 cut-up (last d) ms e = (ms ∷ [], sym (append-nil ms), omega arith, (subst Disposition (sym e) d, tt))
 cut-up (more {ks = ks} {ls = ls} d ds) ms e =
@@ -62,7 +62,7 @@ cut-up (more {ks = ks} {ls = ls} d ds) ms e =
     let rest = cut-up ds (split .1) (split .4) in
     (split .0 ∷ rest .0, split .2 ∙ ap (λ (l : List Typed). split .0 ++ l) (rest .1), omega arith, (subst Disposition (sym (split .3)) d, rest .3))
 
-of-kind : (r : Typed) {k : Kind} → r .kind ≡ k → r ≡ record { kind = k; bytes = r .bytes }
+of-kind : (r : Typed) {k : RecordKind} → r .kind ≡ k → r ≡ record { kind = k; bytes = r .bytes }
 of-kind r e = λ i. record { kind = e i; bytes = r .bytes }
 
 pub take-apart : (rs : List Typed) → InOrder (kindsOf rs) → TakenApart rs
@@ -75,7 +75,7 @@ take-apart rs o = go rs (kindsOf rs) refl o
         (e .bytes, ap (λ (r : Typed). r ∷ []) kind)
     ends (e ∷ x ∷ es) s = absurd (nil≢cons (sym (tail-eq-of-cons-eq s)))
 
-    go : (rs : List Typed) (ks : List Kind) → kindsOf rs ≡ ks → InOrder ks → TakenApart rs
+    go : (rs : List Typed) (ks : List RecordKind) → kindsOf rs ≡ ks → InOrder ks → TakenApart rs
     go [] ks e (in-order ds) = absurd (nil≢cons e)
     go (r ∷ rs) ks e (in-order {ks = ls} ds) =
         let split = map-split (λ (x : Typed). x .kind) rs ls (Ef ∷ []) (tail-eq-of-cons-eq e) in
@@ -100,35 +100,35 @@ in-shape (d ∷ x ∷ ds) some shape =
 
 pub parts-order : (p : Parts) → 1 ≤ dispositionCount p → InShape (p .dispositions) → InOrder (kindsOf (typedOf p))
 parts-order p some shape =
-    subst (λ (ks : List Kind). InOrder (Im ∷ ks)) (sym (map-append (λ (r : Typed). r .kind) (flatten (p .dispositions)) (record { kind = Ef; bytes = p .trailer } ∷ []))) (in-order (in-shape (p .dispositions) some shape))
+    subst (λ (ks : List RecordKind). InOrder (Im ∷ ks)) (sym (map-append (λ (r : Typed). r .kind) (flatten (p .dispositions)) (record { kind = Ef; bytes = p .trailer } ∷ []))) (in-order (in-shape (p .dispositions) some shape))
 
--- what the walk counts behind the header, and behind all of them
-abbrev behindHeader : Walk
-behindHeader = step start Im 0
+-- what the walk counts after the header, and after all of them
+abbrev afterHeader : Walk
+afterHeader = step start Im 0
 
 module _ (p : Parts) (some : 1 ≤ dispositionCount p) (shape : InShape (p .dispositions)) where
   -- the trailer is asked with the exact counts
   trailer-counts :
-      (stateBehind behindHeader (flatten (p .dispositions)) .dispositions + 0 ≡ dispositionCount p)
-      × (stateBehind behindHeader (flatten (p .dispositions)) .cents ≡ totalCents p)
+      (stateAfter afterHeader (flatten (p .dispositions)) .dispositions + 0 ≡ dispositionCount p)
+      × (stateAfter afterHeader (flatten (p .dispositions)) .cents ≡ totalCents p)
       × (suc (1 + length (flatten (p .dispositions))) ≡ recordCount p)
   trailer-counts =
-      let state = dispositions-state behindHeader (p .dispositions) shape in
+      let state = dispositions-state afterHeader (p .dispositions) shape in
       (omega arith, omega arith, omega (arith, flatten-count (p .dispositions)))
 
-  trailer-said : (h : Header) (code : List ℕ) → let w = stateBehind behindHeader (flatten (p .dispositions)) in
-      Hold (checks Ef (asks h w code (suc (1 + length (flatten (p .dispositions)))) Ef) (p .trailer)) ↔ TrailerRules h (totalsOf p) (p .trailer)
+  trailer-said : (h : Header) (code : List ℕ) → let w = stateAfter afterHeader (flatten (p .dispositions)) in
+      Hold (checks Ef (asks h w code (suc (1 + length (flatten (p .dispositions)))) Ef) (p .trailer)) ↔ TrailerRules h (partsTotals p) (p .trailer)
   trailer-said h code =
-      let w = stateBehind behindHeader (flatten (p .dispositions)) in
+      let w = stateAfter afterHeader (flatten (p .dispositions)) in
       let n = suc (1 + length (flatten (p .dispositions))) in
       let rules = trailer-rules (asks h w code n Ef) (p .trailer) in
       let counts = trailer-counts in
-      let same : TrailerRules h (record { dispositions = w .dispositions + 0; cents = w .cents; records = n }) (p .trailer) ≡ TrailerRules h (totalsOf p) (p .trailer) =
+      let same : TrailerRules h (record { dispositions = w .dispositions + 0; cents = w .cents; records = n }) (p .trailer) ≡ TrailerRules h (partsTotals p) (p .trailer) =
       λ i. TrailerRules h (record { dispositions = counts .0 i; cents = counts .1 i; records = counts .2 i }) (p .trailer) in
       (λ hold. subst (λ (A : Type 0). A) same (rules .0 hold), λ said. rules .1 (subst (λ (A : Type 0). A) (sym same) said))
 
   -- the walk over all the records, and the grammar
-  pub parts-exact : Walked (headerOf (p .header)) start [] 0 (typedOf p) ↔ Right p
+  pub parts-exact : Walked (headerOf (p .header)) start [] 0 (typedOf p) ↔ RightParts p
   parts-exact = (said, walked)
     where
       h : Header
@@ -140,13 +140,13 @@ module _ (p : Parts) (some : 1 ≤ dispositionCount p) (shape : InShape (p .disp
       end : Typed
       end = record { kind = Ef; bytes = p .trailer }
 
-      middle : Walked h behindHeader [] 1 ms ↔ (Allowed (behindHeader .place) (kindsOf ms) × Numbered (h .abi) 1 (p .dispositions) × Agreeing [] (map codeOf (p .dispositions)))
-      middle = dispositions-exact h behindHeader [] 1 1 (p .dispositions) shape refl
+      middle : Walked h afterHeader [] 1 ms ↔ (Allowed (afterHeader .place) (kindsOf ms) × RightDispositions (h .abi) 1 (p .dispositions) × Agreeing [] (map dispositionCode (p .dispositions)))
+      middle = dispositions-exact h afterHeader [] 1 1 (p .dispositions) shape refl
 
-      parts : Walked h behindHeader [] 1 (ms ++ (end ∷ [])) ↔ (Walked h behindHeader [] 1 ms × Walked h (stateBehind behindHeader ms) (codeBehind [] ms) (1 + length ms) (end ∷ []))
-      parts = walked-append h behindHeader [] 1 ms (end ∷ [])
+      parts : Walked h afterHeader [] 1 (ms ++ (end ∷ [])) ↔ (Walked h afterHeader [] 1 ms × Walked h (stateAfter afterHeader ms) (codeAfter [] ms) (1 + length ms) (end ∷ []))
+      parts = walked-append h afterHeader [] 1 ms (end ∷ [])
 
-      said : Walked h start [] 0 (typedOf p) → Right p
+      said : Walked h start [] 0 (typedOf p) → RightParts p
       said w =
           let both = parts .0 (w .1) in
           let within = middle .0 (both .0) in
@@ -156,30 +156,30 @@ module _ (p : Parts) (some : 1 ≤ dispositionCount p) (shape : InShape (p .disp
             header-rules = header-rules (asks h start [] 1 Im) (p .header) .0 (w .0 .keeps);
             some = some;
             each = within .1;
-            codes = all-equal-exact (map codeOf (p .dispositions)) .0 (within .2);
+            codes = all-equal-exact (map dispositionCode (p .dispositions)) .0 (within .2);
             trailer-formed = closing .formed;
-            trailer-rules = trailer-said h (codeBehind [] ms) .0 (closing .keeps);
+            trailer-rules = trailer-said h (codeAfter [] ms) .0 (closing .keeps);
           }
 
-      walked : Right p → Walked h start [] 0 (typedOf p)
+      walked : RightParts p → Walked h start [] 0 (typedOf p)
       walked r =
-          let allowed = subst (Allowed (place OnlyR14)) (map-append (λ (x : Typed). x .kind) ms (end ∷ [])) (order-runs (parts-order p some shape) .0 .1) in
-          let may = subst (λ (q : Place). Allowed q (Ef ∷ [])) (sym (state-place behindHeader ms)) (allowed-behind (place OnlyR14) (kindsOf ms) (Ef ∷ []) allowed) .0 in
+          let allowed = subst (Allowed (placeDue OnlyR14)) (map-append (λ (x : Typed). x .kind) ms (end ∷ [])) (order-runs (parts-order p some shape) .0 .1) in
+          let may = subst (λ (q : Place). Allowed q (Ef ∷ [])) (sym (state-place afterHeader ms)) (allowed-after (placeDue OnlyR14) (kindsOf ms) (Ef ∷ []) allowed) .0 in
           let opening : RightAt h start [] 1 Im (p .header) = record { may = inl refl; formed = r .header-formed; keeps = header-rules (asks h start [] 1 Im) (p .header) .1 (r .header-rules) } in
-          let closing : RightAt h (stateBehind behindHeader ms) (codeBehind [] ms) (suc (1 + length ms)) Ef (p .trailer) = record { may = may; formed = r .trailer-formed; keeps = trailer-said h (codeBehind [] ms) .1 (r .trailer-rules) } in
-          let within = middle .1 (allowed-before (place OnlyR14) (kindsOf ms) (Ef ∷ []) allowed, r .each, all-equal-exact (map codeOf (p .dispositions)) .1 (r .codes)) in
+          let closing : RightAt h (stateAfter afterHeader ms) (codeAfter [] ms) (suc (1 + length ms)) Ef (p .trailer) = record { may = may; formed = r .trailer-formed; keeps = trailer-said h (codeAfter [] ms) .1 (r .trailer-rules) } in
+          let within = middle .1 (allowed-before (placeDue OnlyR14) (kindsOf ms) (Ef ∷ []) allowed, r .each, all-equal-exact (map dispositionCode (p .dispositions)) .1 (r .codes)) in
           (opening, parts .1 (within, (closing, tt)))
 
-  -- the totals behind all of them
-  all-counted : totals (stateBehind start (typedOf p)) (length (typedOf p)) ≡ totalsOf p
+  -- the totals after all of them
+  all-counted : walkTotals (stateAfter start (typedOf p)) (length (typedOf p)) ≡ partsTotals p
   all-counted =
       let end : List Typed = record { kind = Ef; bytes = p .trailer } ∷ [] in
-      let same = state-append behindHeader (flatten (p .dispositions)) end in
+      let same = state-append afterHeader (flatten (p .dispositions)) end in
       let count = ap (λ (w : Walk). w .dispositions) same in
       let cents = ap (λ (w : Walk). w .cents) same in
       let counts = trailer-counts in
-      let dispositions : stateBehind start (typedOf p) .dispositions ≡ dispositionCount p = omega arith in
-      let sum : stateBehind start (typedOf p) .cents ≡ totalCents p = omega arith in
+      let dispositions : stateAfter start (typedOf p) .dispositions ≡ dispositionCount p = omega arith in
+      let sum : stateAfter start (typedOf p) .cents ≡ totalCents p = omega arith in
       let records : length (typedOf p) ≡ recordCount p = omega (arith, length-append (flatten (p .dispositions)) end) in
       λ i. record { dispositions = dispositions i; cents = sum i; records = records i }
 
@@ -189,9 +189,9 @@ header-first p f e whole = ap (take 120) (sym e) ∙ take-at (p .header) _ 120 w
 
 -- from the answer to the grammar
 module _ (f : List ℕ) (t : Totals) (sized : RightLength (length f)) where
-  at-end : (rs : List Typed) → recordsOf f ≡ recordsIn rs → FromStart f rs → ended (stateBehind start rs) (length rs) ≡ accepted t → Grammar f t
+  at-end : (rs : List Typed) → recordsOf f ≡ recordsIn rs → FromStart f rs → ended (stateAfter start rs) (length rs) ≡ accepted t → Grammar f t
   at-end rs same walked e =
-      let told = ended-so (stateBehind start rs) (length rs) e in
+      let told = ended-so (stateAfter start rs) (length rs) e in
       let apart = take-apart rs (complete-order f rs walked (told .0)) in
       let p = apart .parts in
       let bytes : bytesOf p ≡ f = sym (parts-joined p) ∙ ap (λ (l : List Typed). flatten (recordsIn l)) (sym (apart .same)) ∙ ap flatten (sym same) ∙ records-joined f (length f / 120) (omega arith) in
@@ -202,7 +202,7 @@ module _ (f : List ℕ) (t : Totals) (sized : RightLength (length f)) where
         parts = p;
         bytes = bytes;
         right = parts-exact p (apart .some) (apart .shape) .0 (subst (λ (l : List ℕ). Walked (headerOf l) start [] 0 (typedOf p)) head typed);
-        totals = sym counts ∙ ap (λ (rs : List Typed). totals (stateBehind start rs) (length rs)) (sym (apart .same)) ∙ told .1;
+        totals = sym counts ∙ ap (λ (rs : List Typed). walkTotals (stateAfter start rs) (length rs)) (sym (apart .same)) ∙ told .1;
       }
 
   at-outcome : {recs : List (List ℕ)} → recordsOf f ≡ recs → Whole recs → Outcome (headerOf (take 120 f)) start [] 0 recs → judgeFrom f recs ≡ accepted t → Grammar f t
@@ -218,7 +218,7 @@ grammar-of f t e =
 
 -- from the grammar to the answer
 -- the trailer's digits bound what it counts
-pub counts-below : (p : Parts) → Right p → (dispositionCount p < countLimit) × (totalCents p < centsLimit) × (recordCount p < countLimit)
+pub counts-below : (p : Parts) → RightParts p → (dispositionCount p < countLimit) × (totalCents p < centsLimit) × (recordCount p < countLimit)
 counts-below p r =
     let t = p .trailer in
     let rules = r .trailer-rules in

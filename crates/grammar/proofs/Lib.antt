@@ -1,7 +1,7 @@
 pub mod AtPlace
-pub mod Behind
 pub mod Bytes
 pub mod Codes
+pub mod ContextAfter
 pub mod Dispositions
 pub mod FirstFault
 pub mod Grammar

@@ -11,7 +11,7 @@ use Rattle.sequences.specs.All.{All}
 use Rattle.sequences.specs.Groups.{groups}
 use Rattle.sequences.specs.Part.{part}
 use Rattle.sequences.specs.Sum.{sum, upTo}
-use Rattle.sequences.proofs.All.{all-before, all-behind, all-getD}
+use Rattle.sequences.proofs.All.{all-before, all-after, all-getD}
 use Rattle.sequences.proofs.DropLast.{dropLast-append}
 use Rattle.sequences.proofs.Flatten.{flatten-append, flatten-flatten, map-flatten, flatten-next}
 use Rattle.sequences.proofs.Groups.{Opens, groups-joined}
@@ -21,27 +21,27 @@ use Rattle.records.specs.Amount.{amountIn}
 use Rattle.records.specs.Context.{headerOf}
 use Rattle.records.specs.Field.{field}
 use Rattle.records.specs.Kinds.{typeOf, isOpening, opens}
-use Rattle.records.specs.declared.kind.Kind.{Kind}
-use Rattle.records.specs.declared.kind.Kind.the-variants.{Im, R14, Ef}
+use Rattle.records.specs.declared.kind.RecordKind.{RecordKind}
+use Rattle.records.specs.declared.kind.RecordKind.the-variants.{Im, R14, Ef}
 use Rattle.records.proofs.ByKind.{type-tested, opens-type}
-use Rattle.flow.specs.Find.{dispositionsIn, startsAt, find, bytesAt, partOf}
+use Rattle.flow.specs.Find.{dispositionsIn, startOf, find, bytesAt, partOf}
 use Rattle.flow.specs.Judge.{judge}
 use Rattle.flow.specs.Records.{recordAt, recordsOf}
 use Rattle.flow.specs.Verdict.{Verdict, accepted, refused}
 use Rattle.flow.specs.declared.answer.Refusal.{Refusal}
 use Rattle.flow.specs.declared.answer.Totals.{Totals}
-use Rattle.flow.specs.declared.location.Stand.{Stand}
+use Rattle.flow.specs.declared.location.Location.{Location}
 use Rattle.flow.proofs.Accepted.{accepted-exact}
 use Rattle.flow.proofs.Cut.{Whole, flatten-length, part-joined}
 use Rattle.flow.proofs.Dispositions.{dispositions-counted, disposition-stands, find-so, found-stands}
-use Rattle.grammar.specs.Grammar.{Typed, kindsOf, recordsIn, opening, RightDisposition, Numbered, Grammar}
+use Rattle.grammar.specs.Grammar.{Typed, kindsOf, recordsIn, opening, RightDisposition, RightDispositions, Grammar}
 use Rattle.grammar.specs.Laws.{DispositionsExact, centsAt, firstAt, endAt, PartsExact, PlacesExact, OpeningExact, PartEmpty}
 use Rattle.grammar.specs.Rules.{Digits, Says, Formed, MemberRules}
 use Rattle.grammar.proofs.Dispositions.{Detail, detail-opens, Opened, opened-by, opened-so, Member}
 use Rattle.grammar.proofs.Grammar.{grammar-records, grammar-whole, grammar-bytes, grammar-exact}
 
 -- a record opens a disposition by its type where it does by its kind
-opening-so : (k : Kind) (rec : List ℕ) → Formed k rec → isOpening rec ≡ opens k
+opening-so : (k : RecordKind) (rec : List ℕ) → Formed k rec → isOpening rec ≡ opens k
 opening-so k rec formed = sym (opens-type k rec (type-tested k rec (formed .type)))
 
 module _ (abi : List ℕ) where
@@ -64,7 +64,7 @@ module _ (abi : List ℕ) where
             none = details-shut n xs details (members .1);
           }
 
-  pub all-open : (n : ℕ) (ds : List (List Typed)) → Numbered abi n ds → All (Opens isOpening) (map recordsIn ds)
+  pub all-open : (n : ℕ) (ds : List (List Typed)) → RightDispositions abi n ds → All (Opens isOpening) (map recordsIn ds)
   all-open n [] each = tt
   all-open n (d ∷ ds) each = (opens-so n d (each .0), all-open (suc n) ds (each .1))
 
@@ -123,11 +123,11 @@ module _ (f : List ℕ) (t : Totals) (e : judge f ≡ accepted t) where
       let all : (g .parts .header ∷ flatten found) ++ (g .parts .trailer ∷ []) ≡ xs ++ (here ++ zs) = ap (λ (l : List (List ℕ)). (g .parts .header ∷ l) ++ (g .parts .trailer ∷ [])) split ∙ ap (λ (l : List (List ℕ)). g .parts .header ∷ l) (simp append-assoc) in
       let whole : Whole (xs ++ (here ++ zs)) = subst Whole all whole-so in
       let front : Whole xs = all-before (λ (l : List ℕ). length l ≡ 120) xs (here ++ zs) whole in
-      let within : Whole here = all-before (λ (l : List ℕ). length l ≡ 120) here zs (all-behind (λ (l : List ℕ). length l ≡ 120) xs (here ++ zs) whole) in
+      let within : Whole here = all-before (λ (l : List ℕ). length l ≡ 120) here zs (all-after (λ (l : List ℕ). length l ≡ 120) xs (here ++ zs) whole) in
       let joined : f ≡ flatten (xs ++ (here ++ zs)) = sym bytes-so ∙ ap flatten all in
       let first : suc (suc (length (flatten (take k found)))) - 1 ≡ length xs = omega arith in
       let bytes = ap (λ (m : ℕ). part (120 * m) (120 * length here) f) first ∙ ap (part (120 * length xs) (120 * length here)) joined ∙ part-joined xs here zs front within in
-      (within, ap (λ (l : Verdict Stand). bytesAt l f) (stands-so k h) ∙ bytes)
+      (within, ap (λ (l : Verdict Location). bytesAt l f) (stands-so k h) ∙ bytes)
 
   -- the flow has the header, their records and the trailer
   size-so : length f ≡ 120 * (2 + length (flatten (dispositionsIn f)))
@@ -204,9 +204,9 @@ some-bytes f t e k h none =
     omega arith
 
 pub part-empty : PartEmpty
-part-empty f k = (λ none. go none (find f k) refl, λ o. ap (λ (l : Verdict Stand). bytesAt l f) (o .1))
+part-empty f k = (λ none. go none (find f k) refl, λ o. ap (λ (l : Verdict Location). bytesAt l f) (o .1))
   where
-    go : partOf f k ≡ [] → (l : Verdict Stand) → find f k ≡ l → (x : Refusal) × (find f k ≡ refused x)
+    go : partOf f k ≡ [] → (l : Verdict Location) → find f k ≡ l → (x : Refusal) × (find f k ≡ refused x)
     go none (refused x) e = (x, e)
     go none (accepted place) e =
         let s = found-stands f k e .0 in
@@ -216,7 +216,7 @@ part-empty f k = (λ none. go none (find f k) refl, λ o. ap (λ (l : Verdict St
         absurd (some-bytes f (s .totals) (s .read) (k - 1) (omega arith) (ap (partOf f) same ∙ none))
 
 -- the number and the amount of a disposition stand in the record that opens it
-pub numbered-at : (abi : List ℕ) (n : ℕ) (ds : List (List Typed)) (k : ℕ) → k < length ds → Numbered abi n ds → RightDisposition abi (n + k) (getD ds k [])
+pub numbered-at : (abi : List ℕ) (n : ℕ) (ds : List (List Typed)) (k : ℕ) → k < length ds → RightDispositions abi n ds → RightDisposition abi (n + k) (getD ds k [])
 numbered-at abi n [] k h each = absurd (not-suc-le-zero h)
 numbered-at abi n (d ∷ ds) zero h each = let same : n ≡ n + 0 = omega arith in subst (λ (m : ℕ). RightDisposition abi m d) same (each .0)
 numbered-at abi n (d ∷ ds) (suc k) h each =
@@ -228,7 +228,7 @@ opening-says abi n d r = go d (opened-so d (r .order)) (r .records)
   where
     go : (d : List Typed) → Opened d → All (Member abi n) d → (field 2 3 (opening d) ≡ typeOf R14) × Says n (field 4 10 (opening d)) × Digits (amountIn (opening d))
     go d (opened-by x xs e details) members =
-        let rules = subst (λ (k : Kind). MemberRules k abi n (x .bytes)) e (members .0 .1) in
+        let rules = subst (λ (k : RecordKind). MemberRules k abi n (x .bytes)) e (members .0 .1) in
         (members .0 .0 .type ∙ ap typeOf e, rules .number-said, rules .others .amount)
 
 pub opening-exact : OpeningExact
@@ -241,14 +241,14 @@ opening-exact f k place e =
     let ds = g .parts .dispositions in
     let abi = headerOf (g .parts .header) .abi in
     let less : k - 1 < length ds = omega (arith, ap (λ (u : Totals). u .dispositions) (g .totals)) in
-    let first : place .first ≡ suc (startsAt (dispositionsIn f) k) = ap (λ (x : Stand). x .first) (found .1) in
-    let start : startsAt (dispositionsIn f) k ≡ place .first - 1 = omega arith in
+    let first : place .first ≡ suc (startOf (dispositionsIn f) k) = ap (λ (x : Location). x .first) (found .1) in
+    let start : startOf (dispositionsIn f) k ≡ place .first - 1 = omega arith in
     let same = dispositions-exact f (s .totals) g in
     let own : getD (getD (dispositionsIn f) (k - 1) []) 0 [] ≡ opening (getD ds (k - 1) []) = ap (λ (l : List (List (List ℕ))). getD (getD l (k - 1) []) 0 []) same ∙ ap (λ (l : List (List ℕ)). getD l 0 []) (List·getD-map recordsIn ds (k - 1) []) in
     let here : opening (getD ds (k - 1) []) ≡ recordAt (place .first - 1) f = sym own ∙ disposition-stands f k s .opening ∙ ap (λ (m : ℕ). recordAt m f) start in
     let one : 1 + (k - 1) ≡ k = omega arith in
     let says = opening-says abi (1 + (k - 1)) (getD ds (k - 1) []) (numbered-at abi 1 ds (k - 1) less (g .right .each)) in
-    let amount = ap (λ (r : List ℕ). number (amountIn r)) (sym here ∙ sym own) ∙ sym (ap (λ (x : Stand). x .cents) (found .1)) in
+    let amount = ap (λ (r : List ℕ). number (amountIn r)) (sym here ∙ sym own) ∙ sym (ap (λ (x : Location). x .cents) (found .1)) in
     let number-said = subst (λ (r : List ℕ). Says (1 + (k - 1)) (field 4 10 r)) here (says .1) in
     let digits = subst (λ (r : List ℕ). Digits (amountIn r)) here (says .2) in
-    (ap (field 2 3) (sym here) ∙ says .0, subst (λ (m : ℕ). Says m (field 4 10 (recordAt (place .first - 1) f))) one number-said, (digits, amount), ap (λ (l : Verdict Stand). bytesAt l f) e)
+    (ap (field 2 3) (sym here) ∙ says .0, subst (λ (m : ℕ). Says m (field 4 10 (recordAt (place .first - 1) f))) one number-said, (digits, amount), ap (λ (l : Verdict Location). bytesAt l f) e)

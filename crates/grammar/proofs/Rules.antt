@@ -26,10 +26,10 @@ use Rattle.records.specs.Checks.{isPresent, isDate, isListed, agrees, numberChe
 use Rattle.records.specs.Constants.{causale, sign, currency}
 use Rattle.records.specs.Context.{Context}
 use Rattle.records.specs.Field.{field, byteAt}
-use Rattle.records.specs.Finding.{Check, check, Hold}
+use Rattle.records.specs.RecordVerdict.{Check, check, Hold}
 use Rattle.records.specs.declared.judged.Counts.{Counts}
-use Rattle.records.specs.declared.kind.Kind.{Kind}
-use Rattle.records.specs.declared.kind.Kind.the-variants.{Im, R14, R16, R20, R30, R40, R50, R59, R51, R70, Ef}
+use Rattle.records.specs.declared.kind.RecordKind.{RecordKind}
+use Rattle.records.specs.declared.kind.RecordKind.the-variants.{Im, R14, R16, R20, R30, R40, R50, R59, R51, R70, Ef}
 use Rattle.records.proofs.Printable.{no-bad-byte}
 use Rattle.flow.specs.declared.answer.Totals.{Totals}
 use Rattle.grammar.specs.Rules.{Digits, Blank, Present, Says, Printable, HeaderRules, DispositionRules, CoordinatesRules, BesideNumber, MemberRules, TrailerRules}
@@ -171,7 +171,7 @@ header-rules ctx rec =
     part h f = ⊎-elim (λ b. inl b) (λ a. inr (f a)) h
 
 -- the company code of row 14, compared with the latest one present; no other record has one
-abbrev pub CodeAgrees : Kind → List ℕ → List ℕ → Type 0
+abbrev pub CodeAgrees : RecordKind → List ℕ → List ℕ → Type 0
 CodeAgrees Im company rec = Unit
 CodeAgrees R14 company rec = agrees company (field 92 96 rec) ≡ true
 CodeAgrees R16 company rec = Unit
@@ -221,7 +221,7 @@ coordinates-rules abi rec =
 
 -- a record's number, and then its other checks
 numbered :
-    (k : Kind) (ctx : Context) (rec : List ℕ) (cs : List Check) → Hold cs ↔ (BesideNumber k (ctx .header .abi) rec × CodeAgrees k (ctx .company) rec)
+    (k : RecordKind) (ctx : Context) (rec : List ℕ) (cs : List Check) → Hold cs ↔ (BesideNumber k (ctx .header .abi) rec × CodeAgrees k (ctx .company) rec)
     → Hold (numberChecks (ctx .counts .dispositions) rec ++ cs) ↔ (MemberRules k (ctx .header .abi) (ctx .counts .dispositions) rec × CodeAgrees k (ctx .company) rec)
 numbered k ctx rec cs e =
     Iff·trans
@@ -231,7 +231,7 @@ numbered k ctx rec cs e =
     (λ (d, (v, (o, g))). (record { number-said = (d, v); others = o }, g), λ (h, g). (h .number-said .0, (h .number-said .1, (h .others, g))))
 
 pub member-rules :
-    (k : Kind) (ctx : Context) (rec : List ℕ) → (k ≡ Im → ⊥) → (k ≡ Ef → ⊥)
+    (k : RecordKind) (ctx : Context) (rec : List ℕ) → (k ≡ Im → ⊥) → (k ≡ Ef → ⊥)
     → Hold (checks k ctx rec) ↔ (MemberRules k (ctx .header .abi) (ctx .counts .dispositions) rec × CodeAgrees k (ctx .company) rec)
 unfolding checks
 member-rules Im ctx rec f g = absurd (f refl)

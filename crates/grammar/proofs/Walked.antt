@@ -1,4 +1,4 @@
--- The walk over the records of a flow: it goes on behind right records, and stops at a fault. Assumes nothing.
+-- The walk over the records of a flow: it goes on after right records, and stops at a fault. Assumes nothing.
 use Prim.Native.Nat.{ℕ, suc, _+_}
 use mathlib.Core.Bool.{Bool, cond, _&&_}
 use mathlib.Core.List.{List, [], _∷_, _++_}
@@ -15,9 +15,9 @@ use Rattle.records.specs.Field.{field}
 use Rattle.records.specs.Judge.{asked}
 use Rattle.records.specs.Kinds.{isOpening, opens, opened}
 use Rattle.records.proofs.ByKind.{type-tested, opens-type}
-use Rattle.flow.specs.Judge.{go}
-use Rattle.flow.specs.Steps.{step, latest}
-use Rattle.flow.specs.Sums.{dispositionsOf, centsOf}
+use Rattle.flow.specs.Judge.{walkFrom}
+use Rattle.flow.specs.Walking.{step, latest}
+use Rattle.flow.specs.ExactTotals.{openingCount, amountSum}
 use Rattle.flow.specs.Verdict.{Verdict, refused, refusal}
 use Rattle.flow.specs.declared.answer.Totals.{Totals}
 use Rattle.flow.specs.declared.walk.Walk.{Walk}
@@ -26,16 +26,16 @@ use Rattle.grammar.specs.Fault.{latestCode}
 use Rattle.grammar.specs.Grammar.{Typed, kindsOf, recordsIn}
 use Rattle.grammar.specs.Rules.{Formed}
 use Rattle.grammar.proofs.AtPlace.{RightAt, FaultAt, Judgement, right-judged, fault-judged, judgement}
-use Rattle.grammar.proofs.Order.{placeBehind, Allowed}
+use Rattle.grammar.proofs.Order.{placeThrough, Allowed}
 
--- the state, and the company code, behind records
-abbrev pub stateBehind : Walk → List Typed → Walk
-stateBehind w [] = w
-stateBehind w (r ∷ rs) = stateBehind (step w (r .kind) (asked (r .kind) (r .bytes))) rs
+-- the state, and the company code, after records
+abbrev pub stateAfter : Walk → List Typed → Walk
+stateAfter w [] = w
+stateAfter w (r ∷ rs) = stateAfter (step w (r .kind) (asked (r .kind) (r .bytes))) rs
 
-abbrev pub codeBehind : List ℕ → List Typed → List ℕ
-codeBehind code [] = code
-codeBehind code (r ∷ rs) = codeBehind (latest (r .kind) code (r .bytes)) rs
+abbrev pub codeAfter : List ℕ → List Typed → List ℕ
+codeAfter code [] = code
+codeAfter code (r ∷ rs) = codeAfter (latest (r .kind) code (r .bytes)) rs
 
 -- records that are right one after the other, from a state on that has i records before it
 abbrev pub Walked : Header → Walk → List ℕ → ℕ → List Typed → Type 0
@@ -46,7 +46,7 @@ Walked h w code i (r ∷ rs) =
 -- records and then others
 pub walked-append :
     (h : Header) (w : Walk) (code : List ℕ) (i : ℕ) (bs cs : List Typed)
-    → Walked h w code i (bs ++ cs) ↔ (Walked h w code i bs × Walked h (stateBehind w bs) (codeBehind code bs) (i + length bs) cs)
+    → Walked h w code i (bs ++ cs) ↔ (Walked h w code i bs × Walked h (stateAfter w bs) (codeAfter code bs) (i + length bs) cs)
 walked-append h w code i [] cs =
     let same : i ≡ i + 0 = omega arith in
     (λ walked. (tt, subst (λ (n : ℕ). Walked h w code n cs) same walked), λ both. subst (λ (n : ℕ). Walked h w code n cs) (sym same) (both .1))
@@ -57,11 +57,11 @@ walked-append h w code i (b ∷ bs) cs =
     let same : suc i + length bs ≡ i + suc (length bs) = omega arith in (
       λ walked.
           let both = rest .0 (walked .1) in
-          ((walked .0, both .0), subst (λ (n : ℕ). Walked h (stateBehind w′ bs) (codeBehind code′ bs) n cs) same (both .1)),
-      λ both. (both .0 .0, rest .1 (both .0 .1, subst (λ (n : ℕ). Walked h (stateBehind w′ bs) (codeBehind code′ bs) n cs) (sym same) (both .1))),
+          ((walked .0, both .0), subst (λ (n : ℕ). Walked h (stateAfter w′ bs) (codeAfter code′ bs) n cs) same (both .1)),
+      λ both. (both .0 .0, rest .1 (both .0 .1, subst (λ (n : ℕ). Walked h (stateAfter w′ bs) (codeAfter code′ bs) n cs) (sym same) (both .1))),
     )
 
-pub state-append : (w : Walk) (bs cs : List Typed) → stateBehind w (bs ++ cs) ≡ stateBehind (stateBehind w bs) cs
+pub state-append : (w : Walk) (bs cs : List Typed) → stateAfter w (bs ++ cs) ≡ stateAfter (stateAfter w bs) cs
 state-append w [] cs = refl
 state-append w (b ∷ bs) cs = state-append (step w (b .kind) (asked (b .kind) (b .bytes))) bs cs
 
@@ -82,37 +82,37 @@ pub formed-whole : (rs : List Typed) → AllFormed rs → Whole (recordsIn rs)
 formed-whole [] formed = tt
 formed-whole (r ∷ rs) formed = (formed .0 .whole, formed-whole rs (formed .1))
 
-pub state-place : (w : Walk) (rs : List Typed) → stateBehind w rs .place ≡ placeBehind (w .place) (kindsOf rs)
+pub state-place : (w : Walk) (rs : List Typed) → stateAfter w rs .place ≡ placeThrough (w .place) (kindsOf rs)
 state-place w [] = refl
 state-place w (r ∷ rs) = state-place (step w (r .kind) (asked (r .kind) (r .bytes))) rs
 
--- the walk goes on behind them
-pub go-behind :
+-- the walk goes on after them
+pub walkFrom-after :
     (end : Walk → ℕ → Verdict Totals) (h : Header) (w : Walk) (code : List ℕ) (i : ℕ) (rs : List Typed) (rest : List (List ℕ)) → Walked h w code i rs
-    → go end h w code i (recordsIn rs ++ rest) ≡ go end h (stateBehind w rs) (codeBehind code rs) (i + length rs) rest
-unfolding go
-go-behind end h w code i [] rest r = let same : i ≡ i + 0 = omega arith in ap (λ (n : ℕ). go end h w code n rest) same
-go-behind end h w code i (x ∷ rs) rest r =
+    → walkFrom end h w code i (recordsIn rs ++ rest) ≡ walkFrom end h (stateAfter w rs) (codeAfter code rs) (i + length rs) rest
+unfolding walkFrom
+walkFrom-after end h w code i [] rest r = let same : i ≡ i + 0 = omega arith in ap (λ (n : ℕ). walkFrom end h w code n rest) same
+walkFrom-after end h w code i (x ∷ rs) rest r =
     let k = x .kind in
     let w′ = step w k (asked k (x .bytes)) in
     let code′ = latest k code (x .bytes) in
     let same : suc i + length rs ≡ i + suc (length rs) = omega arith in
     let found = right-judged h w code (suc i) (x .bytes) (r .0 .formed .whole) k (r .0) in
-    rw found (go-behind end h w′ code′ (suc i) rs rest (r .1) ∙ ap (λ (n : ℕ). go end h (stateBehind w′ rs) (codeBehind code′ rs) n rest) same)
+    rw found (walkFrom-after end h w′ code′ (suc i) rs rest (r .1) ∙ ap (λ (n : ℕ). walkFrom end h (stateAfter w′ rs) (codeAfter code′ rs) n rest) same)
 
 -- and stops at a fault
-pub go-stops :
+pub walkFrom-stops :
     (end : Walk → ℕ → Verdict Totals) (h : Header) (w : Walk) (code : List ℕ) (i : ℕ) (rec : List ℕ) (rest : List (List ℕ)) (m p : ℕ) → length rec ≡ 120
-    → FaultAt h w code (suc i) rec m p → go end h w code i (rec ∷ rest) ≡ refused (refusal m (suc i) p)
-unfolding go
-go-stops end h w code i rec rest m p whole fault = rw (fault-judged h w code (suc i) rec whole m p fault)
+    → FaultAt h w code (suc i) rec m p → walkFrom end h w code i (rec ∷ rest) ≡ refused (refusal m (suc i) p)
+unfolding walkFrom
+walkFrom-stops end h w code i rec rest m p whole fault = rw (fault-judged h w code (suc i) rec whole m p fault)
 
 -- all of the records are right, or those up to a fault
 pub data Outcome (h : Header) (w : Walk) (code : List ℕ) (i : ℕ) : List (List ℕ) → Type 0 where
   all-right : (rs : List Typed) → Walked h w code i rs → Outcome h w code i (recordsIn rs)
   stops :
       (rs : List Typed) (rec : List ℕ) (rest : List (List ℕ)) (m p : ℕ) → Walked h w code i rs
-      → FaultAt h (stateBehind w rs) (codeBehind code rs) (suc (i + length rs)) rec m p → Outcome h w code i (recordsIn rs ++ (rec ∷ rest))
+      → FaultAt h (stateAfter w rs) (codeAfter code rs) (suc (i + length rs)) rec m p → Outcome h w code i (recordsIn rs ++ (rec ∷ rest))
 
 one-on :
     (h : Header) (w : Walk) (code : List ℕ) (i : ℕ) (r : Typed) {recs : List (List ℕ)} → RightAt h w code (suc i) (r .kind) (r .bytes)
@@ -120,24 +120,24 @@ one-on :
 one-on h w code i r right-at (all-right rs walked) = all-right (r ∷ rs) (right-at, walked)
 one-on h w code i r right-at (stops rs rec rest m p walked fault) =
     let same : suc (suc i + length rs) ≡ suc (i + suc (length rs)) = omega arith in
-    stops (r ∷ rs) rec rest m p (right-at, walked) (subst (λ (n : ℕ). FaultAt h (stateBehind w (r ∷ rs)) (codeBehind code (r ∷ rs)) n rec m p) same fault)
+    stops (r ∷ rs) rec rest m p (right-at, walked) (subst (λ (n : ℕ). FaultAt h (stateAfter w (r ∷ rs)) (codeAfter code (r ∷ rs)) n rec m p) same fault)
 
 pub outcome : (h : Header) (w : Walk) (code : List ℕ) (i : ℕ) (recs : List (List ℕ)) → Whole recs → Outcome h w code i recs
 outcome h w code i [] whole = all-right [] tt
 outcome h w code i (rec ∷ recs) whole =
-    go (λ w′ code′. outcome h w′ code′ (suc i) recs (whole .1)) (judgement h w code (suc i) rec (whole .0))
+    walkFrom (λ w′ code′. outcome h w′ code′ (suc i) recs (whole .1)) (judgement h w code (suc i) rec (whole .0))
   where
-    go : ((w′ : Walk) (code′ : List ℕ) → Outcome h w′ code′ (suc i) recs) → Judgement h w code (suc i) rec → Outcome h w code i (rec ∷ recs)
-    go rest (inl o) = one-on h w code i (record { kind = o .0; bytes = rec }) (o .1) (rest (step w (o .0) (asked (o .0) rec)) (latest (o .0) code rec))
-    go rest (inr o) =
+    walkFrom : ((w′ : Walk) (code′ : List ℕ) → Outcome h w′ code′ (suc i) recs) → Judgement h w code (suc i) rec → Outcome h w code i (rec ∷ recs)
+    walkFrom rest (inl o) = one-on h w code i (record { kind = o .0; bytes = rec }) (o .1) (rest (step w (o .0) (asked (o .0) rec)) (latest (o .0) code rec))
+    walkFrom rest (inr o) =
         let same : suc i ≡ suc (i + 0) = omega arith in
         stops [] rec recs (o .0) (o .1) tt (subst (λ (n : ℕ). FaultAt h w code n rec (o .0) (o .1)) same (o .2))
 
--- what the walk carries behind records is what they say themselves
+-- what the walk carries after records is what they say themselves
 pub state-counts :
     (w : Walk) (code : List ℕ) (rs : List Typed) → AllFormed rs
-    → (stateBehind w rs .dispositions ≡ w .dispositions + dispositionsOf (recordsIn rs)) × (stateBehind w rs .cents ≡ w .cents + centsOf (recordsIn rs)) × (codeBehind code rs ≡ latestCode code (recordsIn rs))
-unfolding dispositionsOf centsOf latestCode
+    → (stateAfter w rs .dispositions ≡ w .dispositions + openingCount (recordsIn rs)) × (stateAfter w rs .cents ≡ w .cents + amountSum (recordsIn rs)) × (codeAfter code rs ≡ latestCode code (recordsIn rs))
+unfolding openingCount amountSum latestCode
 state-counts w code [] formed = (omega arith, omega arith, refl)
 state-counts w code (r ∷ rs) formed =
     let k = r .kind in

@@ -9,24 +9,24 @@ use Rattle.sequences.specs.All.{All}
 use Rattle.records.specs.Checks.{isPresent, checks}
 use Rattle.records.specs.Context.{Context, context, headerOf}
 use Rattle.records.specs.Field.{field}
-use Rattle.records.specs.Finding.{Hold, FirstBroken}
+use Rattle.records.specs.RecordVerdict.{Hold, FirstBroken}
 use Rattle.records.specs.Kinds.{typeOf, isOpening, opens}
-use Rattle.records.specs.declared.kind.Kind.{Kind}
+use Rattle.records.specs.declared.kind.RecordKind.{RecordKind}
 use Rattle.flow.specs.Records.{RightLength, recordsOf}
-use Rattle.flow.specs.Sums.{dispositionsOf, centsOf}
+use Rattle.flow.specs.ExactTotals.{openingCount, amountSum}
 use Rattle.flow.specs.Verdict.{refusal, ofCall}
 use Rattle.flow.specs.declared.answer.Refusal.{Refusal}
 use Rattle.grammar.specs.Rules.{Printable}
 use Rattle.grammar.specs.Shape.{InOrder}
 
 -- the types of the records are those of the kinds
-abbrev pub HaveKinds : List Kind → List (List ℕ) → Type 0
+abbrev pub HaveKinds : List RecordKind → List (List ℕ) → Type 0
 HaveKinds ks recs = map typeOf ks ≡ map (field 2 3) recs
 
--- a record of the kind may stand behind the records: some flow in the stated order goes on so
-pub record MayFollow (before : List (List ℕ)) (k : Kind) : Type 0 where
-  pub kinds : List Kind
-  pub rest : List Kind
+-- a record of the kind may stand after the records: some flow in the stated order goes on so
+pub record MayFollow (before : List (List ℕ)) (k : RecordKind) : Type 0 where
+  pub kinds : List RecordKind
+  pub rest : List RecordKind
   pub have : HaveKinds kinds before
   pub order : InOrder (kinds ++ (k ∷ rest))
 
@@ -35,42 +35,42 @@ unfoldable pub latestCode : List ℕ → List (List ℕ) → List ℕ
 latestCode code [] = code
 latestCode code (rec ∷ recs) = latestCode (cond (isOpening rec && isPresent (field 92 96 rec)) (field 92 96 rec) code) recs
 
--- what the checks of a record of the kind are asked with, behind the records `before` of the flow f
-abbrev pub contextBehind : List ℕ → List (List ℕ) → Kind → Context
-contextBehind f before k =
+-- what the checks of a record of the kind are asked with, after the records `before` of the flow f
+abbrev pub contextAfter : List ℕ → List (List ℕ) → RecordKind → Context
+contextAfter f before k =
     context (headerOf (take 120 f)) (latestCode [] before)
-    (record { dispositions = dispositionsOf before + cond (opens k) 1 0; cents = centsOf before; records = suc (length before) })
+    (record { dispositions = openingCount before + cond (opens k) 1 0; cents = amountSum before; records = suc (length before) })
 
--- the record is right behind the records `before` of the flow f
-pub record RightBehind (f : List ℕ) (before : List (List ℕ)) (rec : List ℕ) : Type 0 where
-  pub kind : Kind
+-- the record is right after the records `before` of the flow f
+pub record RightAfter (f : List ℕ) (before : List (List ℕ)) (rec : List ℕ) : Type 0 where
+  pub kind : RecordKind
   pub printable : All Printable rec
   pub type : field 2 3 rec ≡ typeOf kind
   pub permitted : MayFollow before kind
-  pub keeps : Hold (checks kind (contextBehind f before kind) rec)
+  pub keeps : Hold (checks kind (contextAfter f before kind) rec)
 
--- each of the records, from the front of the flow f, is right behind those before it
+-- each of the records, from the front of the flow f, is right after those before it
 abbrev pub EachRight : List ℕ → List (List ℕ) → Type 0
-EachRight f recs = (before : List (List ℕ)) (rec : List ℕ) (behind : List (List ℕ)) → recs ≡ before ++ (rec ∷ behind) → RightBehind f before rec
+EachRight f recs = (before : List (List ℕ)) (rec : List ℕ) (after : List (List ℕ)) → recs ≡ before ++ (rec ∷ after) → RightAfter f before rec
 
 -- a fault of a record, by number and position, where the kinds that may stand there are given, and what their checks are asked with:
 -- each excludes those before it
-pub data Fault (may : Kind → Type 0) (asked : Kind → Context) (rec : List ℕ) : ℕ → ℕ → Type 0 where
+pub data Fault (may : RecordKind → Type 0) (asked : RecordKind → Context) (rec : List ℕ) : ℕ → ℕ → Type 0 where
   -- a byte outside 32 to 126, and none before it
   bad-byte : (bs : List ℕ) (b : ℕ) (cs : List ℕ) → rec ≡ bs ++ (b ∷ cs) → All Printable bs → ¬ Printable b → Fault may asked rec 2 (suc (length bs))
   -- a type that may not stand there
-  wrong-type : All Printable rec → ((k : Kind) → field 2 3 rec ≡ typeOf k → ¬ may k) → Fault may asked rec 3 2
+  wrong-type : All Printable rec → ((k : RecordKind) → field 2 3 rec ≡ typeOf k → ¬ may k) → Fault may asked rec 3 2
   -- a check of the table that fails, and those before it hold
-  broken : (k : Kind) (n p : ℕ) → All Printable rec → field 2 3 rec ≡ typeOf k → may k → FirstBroken (checks k (asked k) rec) n p → Fault may asked rec n p
+  broken : (k : RecordKind) (n p : ℕ) → All Printable rec → field 2 3 rec ≡ typeOf k → may k → FirstBroken (checks k (asked k) rec) n p → Fault may asked rec n p
 
--- a fault behind the records `before` of the flow f
-abbrev pub FaultBehind : List ℕ → List (List ℕ) → List ℕ → ℕ → ℕ → Type 0
-FaultBehind f before rec n p = Fault (MayFollow before) (contextBehind f before) rec n p
+-- a fault after the records `before` of the flow f
+abbrev pub FaultAfter : List ℕ → List (List ℕ) → List ℕ → ℕ → ℕ → Type 0
+FaultAfter f before rec n p = Fault (MayFollow before) (contextAfter f before) rec n p
 
 -- the first fault of a flow, by number, record and position
 pub data FirstFault (f : List ℕ) : Refusal → Type 0 where
   wrong-length : ¬ RightLength (length f) → FirstFault f (ofCall 1)
   in-record :
-      (before : List (List ℕ)) (rec : List ℕ) (behind : List (List ℕ)) (n p : ℕ) → RightLength (length f) → recordsOf f ≡ before ++ (rec ∷ behind)
-      → EachRight f before → FaultBehind f before rec n p → FirstFault f (refusal n (suc (length before)) p)
-  still-due : RightLength (length f) → EachRight f (recordsOf f) → ((ks : List Kind) → HaveKinds ks (recordsOf f) → ¬ InOrder ks) → FirstFault f (refusal 4 (suc (length (recordsOf f))) 0)
+      (before : List (List ℕ)) (rec : List ℕ) (after : List (List ℕ)) (n p : ℕ) → RightLength (length f) → recordsOf f ≡ before ++ (rec ∷ after)
+      → EachRight f before → FaultAfter f before rec n p → FirstFault f (refusal n (suc (length before)) p)
+  still-due : RightLength (length f) → EachRight f (recordsOf f) → ((ks : List RecordKind) → HaveKinds ks (recordsOf f) → ¬ InOrder ks) → FirstFault f (refusal 4 (suc (length (recordsOf f))) 0)

@@ -11,15 +11,15 @@ use Rattle.fields.specs.Digits.{number}
 use Rattle.records.specs.Amount.{amountIn}
 use Rattle.records.specs.Context.{headerOf}
 use Rattle.records.specs.Field.{field}
-use Rattle.records.specs.declared.kind.Kind.{Kind}
-use Rattle.records.specs.declared.kind.Kind.the-variants.{Im, Ef}
+use Rattle.records.specs.declared.kind.RecordKind.{RecordKind}
+use Rattle.records.specs.declared.kind.RecordKind.the-variants.{Im, Ef}
 use Rattle.flow.specs.declared.answer.Totals.{Totals}
 use Rattle.grammar.specs.Rules.{Present, Formed, HeaderRules, MemberRules, TrailerRules}
 use Rattle.grammar.specs.Shape.{Disposition}
 
 -- a record with its kind
 pub record Typed : Type 0 where
-  pub kind : Kind
+  pub kind : RecordKind
   pub bytes : List ℕ
 
 -- a flow taken apart: the header, the dispositions as lists of records, the trailer
@@ -28,7 +28,7 @@ pub record Parts : Type 0 where
   pub dispositions : List (List Typed)
   pub trailer : List ℕ
 
-abbrev pub kindsOf : List Typed → List Kind
+abbrev pub kindsOf : List Typed → List RecordKind
 kindsOf d = map (λ (r : Typed). r .kind) d
 
 abbrev pub recordsIn : List Typed → List (List ℕ)
@@ -38,11 +38,11 @@ recordsIn d = map (λ (r : Typed). r .bytes) d
 abbrev pub opening : List Typed → List ℕ
 opening d = getD (recordsIn d) 0 []
 
-abbrev pub amountOf : List Typed → ℕ
-amountOf d = number (amountIn (opening d))
+abbrev pub dispositionAmount : List Typed → ℕ
+dispositionAmount d = number (amountIn (opening d))
 
-abbrev pub codeOf : List Typed → List ℕ
-codeOf d = field 92 96 (opening d)
+abbrev pub dispositionCode : List Typed → List ℕ
+dispositionCode d = field 92 96 (opening d)
 
 -- the flow put together again
 abbrev pub bytesOf : Parts → List ℕ
@@ -53,13 +53,13 @@ abbrev pub dispositionCount : Parts → ℕ
 dispositionCount p = length (p .dispositions)
 
 abbrev pub totalCents : Parts → ℕ
-totalCents p = sum (map amountOf (p .dispositions))
+totalCents p = sum (map dispositionAmount (p .dispositions))
 
 abbrev pub recordCount : Parts → ℕ
 recordCount p = 2 + sum (map (λ (d : List Typed). length d) (p .dispositions))
 
-abbrev pub totalsOf : Parts → Totals
-totalsOf p = record { dispositions = dispositionCount p; cents = totalCents p; records = recordCount p }
+abbrev pub partsTotals : Parts → Totals
+partsTotals p = record { dispositions = dispositionCount p; cents = totalCents p; records = recordCount p }
 
 -- the n-th disposition of a flow whose header has the ABI
 pub record RightDisposition (abi : List ℕ) (n : ℕ) (d : List Typed) : Type 0 where
@@ -67,26 +67,26 @@ pub record RightDisposition (abi : List ℕ) (n : ℕ) (d : List Typed) : Type 0
   pub records : All (λ (r : Typed). Formed (r .kind) (r .bytes) × MemberRules (r .kind) abi n (r .bytes)) d
 
 -- dispositions numbered from n on
-abbrev pub Numbered : List ℕ → ℕ → List (List Typed) → Type 0
-Numbered abi n ds = Counted (RightDisposition abi) n ds
+abbrev pub RightDispositions : List ℕ → ℕ → List (List Typed) → Type 0
+RightDispositions abi n ds = Counted (RightDisposition abi) n ds
 
 -- company codes: those that are present are all equal
 abbrev pub AllEqual : List (List ℕ) → Type 0
 AllEqual codes = (a b : List ℕ) → List·Memᴰ a codes → List·Memᴰ b codes → Present a → Present b → a ≡ b
 
-pub record Right (p : Parts) : Type 0 where
+pub record RightParts (p : Parts) : Type 0 where
   pub header-formed : Formed Im (p .header)
   pub header-rules : HeaderRules (p .header)
   pub some : 1 ≤ dispositionCount p
-  pub each : Numbered (headerOf (p .header) .abi) 1 (p .dispositions)
-  pub codes : AllEqual (map codeOf (p .dispositions))
+  pub each : RightDispositions (headerOf (p .header) .abi) 1 (p .dispositions)
+  pub codes : AllEqual (map dispositionCode (p .dispositions))
   pub trailer-formed : Formed Ef (p .trailer)
-  pub trailer-rules : TrailerRules (headerOf (p .header)) (totalsOf p) (p .trailer)
+  pub trailer-rules : TrailerRules (headerOf (p .header)) (partsTotals p) (p .trailer)
 
 -- the bytes f are a right flow, and these are its totals. The ceiling of 9,999,999 records is no rule of its own: the
 -- trailer's seven digits say the count
 pub record Grammar (f : List ℕ) (t : Totals) : Type 0 where
   pub parts : Parts
   pub bytes : bytesOf parts ≡ f
-  pub right : Right parts
-  pub totals : totalsOf parts ≡ t
+  pub right : RightParts parts
+  pub totals : partsTotals parts ≡ t

@@ -10,19 +10,19 @@ use Rattle.sequences.specs.Sum.{sum, upTo}
 use Rattle.records.specs.Amount.{amountIn}
 use Rattle.records.specs.Context.{Header, context}
 use Rattle.records.specs.Field.{field}
-use Rattle.records.specs.Finding.{refused as Finding·refused}
+use Rattle.records.specs.RecordVerdict.{refused as RecordVerdict·refused}
 use Rattle.records.specs.Kinds.{typeOf}
-use Rattle.records.specs.declared.kind.Kind.{Kind}
-use Rattle.records.specs.declared.kind.Kind.the-variants.{R14}
+use Rattle.records.specs.declared.kind.RecordKind.{RecordKind}
+use Rattle.records.specs.declared.kind.RecordKind.the-variants.{R14}
 use Rattle.flow.specs.Find.{dispositionsIn, find, partOf}
 use Rattle.flow.specs.Judge.{judge}
 use Rattle.flow.specs.Order.{In, permitted}
 use Rattle.flow.specs.Records.{recordAt}
-use Rattle.flow.specs.Steps.{countsAt, judgeRecord}
+use Rattle.flow.specs.Walking.{countsAt, judgeRecord}
 use Rattle.flow.specs.Verdict.{Verdict, accepted, refused}
 use Rattle.flow.specs.declared.answer.Refusal.{Refusal}
 use Rattle.flow.specs.declared.answer.Totals.{Totals}
-use Rattle.flow.specs.declared.location.Stand.{Stand}
+use Rattle.flow.specs.declared.location.Location.{Location}
 use Rattle.flow.specs.declared.walk.Walk.{Walk}
 use Rattle.grammar.specs.Fault.{Fault, FirstFault}
 use Rattle.grammar.specs.Grammar.{recordsIn, Grammar}
@@ -41,8 +41,8 @@ FirstFaultExact = (f : List ℕ) (x : Refusal) → (judge f ≡ refused x) ↔ F
 abbrev pub PlaceFaultExact : Type 0
 PlaceFaultExact =
     (header : Header) (w : Walk) (company : List ℕ) (i : ℕ) (rec : List ℕ)
-    → (length rec ≡ 120 → (n p : ℕ) → (judgeRecord header w company i rec ≡ Finding·refused n p) ↔ Fault (λ (k : Kind). In k (permitted (w .place .due))) (λ (k : Kind). context header company (countsAt w i k)) rec n p)
-    × (¬ (length rec ≡ 120) → judgeRecord header w company i rec ≡ Finding·refused 1 0)
+    → (length rec ≡ 120 → (n p : ℕ) → (judgeRecord header w company i rec ≡ RecordVerdict·refused n p) ↔ Fault (λ (k : RecordKind). In k (permitted (w .place .due))) (λ (k : RecordKind). context header company (countsAt w i k)) rec n p)
+    × (¬ (length rec ≡ 120) → judgeRecord header w company i rec ≡ RecordVerdict·refused 1 0)
 
 -- so every list of bytes is the one or has the other, and never both
 abbrev pub RightOrFaulty : Type 0
@@ -54,16 +54,16 @@ RightOrFaulty =
 abbrev pub DispositionsExact : Type 0
 DispositionsExact = (f : List ℕ) (t : Totals) (g : Grammar f t) → dispositionsIn f ≡ map recordsIn (g .parts .dispositions)
 
--- the cents of a disposition that stands in the flow, its first record, and the record behind its last
-abbrev pub centsAt : Verdict Stand → ℕ
+-- the cents of a disposition that stands in the flow, its first record, and the record after its last
+abbrev pub centsAt : Verdict Location → ℕ
 centsAt (accepted s) = s .cents
 centsAt (refused x) = 0
 
-abbrev pub firstAt : Verdict Stand → ℕ
+abbrev pub firstAt : Verdict Location → ℕ
 firstAt (accepted s) = s .first
 firstAt (refused x) = 0
 
-abbrev pub endAt : Verdict Stand → ℕ
+abbrev pub endAt : Verdict Location → ℕ
 endAt (accepted s) = s .first + s .records
 endAt (refused x) = 0
 
@@ -73,7 +73,7 @@ PartsExact =
     (f : List ℕ) (t : Totals) → judge f ≡ accepted t
     → (flatten (map (partOf f) (upTo (t .dispositions))) ≡ part 120 (length f - 240) f) × (sum (map (λ (k : ℕ). centsAt (find f k)) (upTo (t .dispositions))) ≡ t .cents)
 
--- they stand one behind the other, from the record behind the header up to the trailer, which is the last
+-- they stand one after the other, from the record after the header up to the trailer, which is the last
 abbrev pub PlacesExact : Type 0
 PlacesExact =
     (f : List ℕ) (t : Totals) → judge f ≡ accepted t
@@ -82,7 +82,7 @@ PlacesExact =
 -- what is found of k starts with a 14 that says k and the amount, and its part is those records
 abbrev pub OpeningExact : Type 0
 OpeningExact =
-    (f : List ℕ) (k : ℕ) (s : Stand) → find f k ≡ accepted s → let rec = recordAt (s .first - 1) f in
+    (f : List ℕ) (k : ℕ) (s : Location) → find f k ≡ accepted s → let rec = recordAt (s .first - 1) f in
     (field 2 3 rec ≡ typeOf R14) × Says k (field 4 10 rec) × Says (s .cents) (amountIn rec) × (partOf f k ≡ part (120 * (s .first - 1)) (120 * s .records) f)
 
 -- a part is empty exactly where the question is refused

@@ -14,8 +14,8 @@ use Rattle.records.specs.Constants.{causale, sign, currency}
 use Rattle.records.specs.Context.{Header}
 use Rattle.records.specs.Field.{field, byteAt}
 use Rattle.records.specs.Kinds.{typeOf}
-use Rattle.records.specs.declared.kind.Kind.{Kind}
-use Rattle.records.specs.declared.kind.Kind.the-variants.{Im, R14, R16, R20, R30, R40, R50, R59, R51, R70, Ef}
+use Rattle.records.specs.declared.kind.RecordKind.{RecordKind}
+use Rattle.records.specs.declared.kind.RecordKind.the-variants.{Im, R14, R16, R20, R30, R40, R50, R59, R51, R70, Ef}
 use lib.ListN.{length}
 use Rattle.flow.specs.declared.answer.Totals.{Totals}
 
@@ -42,7 +42,7 @@ abbrev pub Printable : ℕ → Type 0
 Printable b = (32 ≤ b) × (b ≤ 126)
 
 -- 120 bytes, each of 32 to 126, with the type of the kind at 2-3
-pub record Formed (k : Kind) (rec : List ℕ) : Type 0 where
+pub record Formed (k : RecordKind) (rec : List ℕ) : Type 0 where
   pub whole : length rec ≡ 120
   pub printable : All Printable rec
   pub type : field 2 3 rec ≡ typeOf k
@@ -77,7 +77,7 @@ pub record CoordinatesRules (abi rec : List ℕ) : Type 0 where
   pub account : Present (field 26 37 rec)
 
 -- what a record of a disposition keeps beside its number; the header and the trailer stand in no disposition
-abbrev pub BesideNumber : Kind → List ℕ → List ℕ → Type 0
+abbrev pub BesideNumber : RecordKind → List ℕ → List ℕ → Type 0
 BesideNumber Im abi rec = ⊥
 BesideNumber R14 abi rec = DispositionRules abi rec
 BesideNumber R16 abi rec = CoordinatesRules abi rec
@@ -91,7 +91,7 @@ BesideNumber R70 abi rec = List·Memᴰ (byteAt 94 rec) (text " PB")
 BesideNumber Ef abi rec = ⊥
 
 -- a record of the n-th disposition
-pub record MemberRules (k : Kind) (abi : List ℕ) (n : ℕ) (rec : List ℕ) : Type 0 where
+pub record MemberRules (k : RecordKind) (abi : List ℕ) (n : ℕ) (rec : List ℕ) : Type 0 where
   pub number-said : Says n (field 4 10 rec)
   pub others : BesideNumber k abi rec
 

@@ -16,12 +16,12 @@ use Rattle.fields.proofs.Decimal.{written-length}
 use Rattle.records.specs.Constants.{currency}
 use Rattle.records.specs.Field.{field}
 use Rattle.records.specs.Kinds.{typeOf, opened}
-use Rattle.records.specs.declared.kind.Kind.{Kind}
-use Rattle.records.specs.declared.kind.Kind.the-variants.{Ef}
+use Rattle.records.specs.declared.kind.RecordKind.{RecordKind}
+use Rattle.records.specs.declared.kind.RecordKind.the-variants.{Ef}
 use Rattle.flow.specs.Records.{recordsOf}
 use Rattle.flow.proofs.Cut.{Whole, flatten-length, joined-records}
 use Rattle.flow.specs.declared.answer.Totals.{Totals}
-use Rattle.list.specs.Encode.{blanks, copiedIn, headerBehind, lastHeader, totalsOf, encodeItem, trailerPlaced, encodeTrailer, encodeFrom, recordsFor, trailerFor, encode}
+use Rattle.list.specs.Encode.{blanks, copiedIn, headerAfter, lastHeader, listTotals, encodeItem, trailerPlaced, encodeTrailer, encodeFrom, recordsFor, trailerFor, encode}
 use Rattle.list.specs.Items.{Item, recordKind, Proper}
 use Rattle.list.specs.ReadBack.{itemOf, itemsOf}
 use Rattle.list.specs.Table.{rows, recordOf, firstRow, rowIn}
@@ -49,7 +49,7 @@ no-row-in rec e = ap rowFor e
 
 -- so no two kinds have one record
 pub records-differ : (k l : ItemKind) → recordOf k ≡ recordOf l → k ≡ l
-records-differ k l e = of-same (sym (row-typed k) ∙ ap (λ (m : Kind). rowFor (typeOf m)) e ∙ row-typed l)
+records-differ k l e = of-same (sym (row-typed k) ∙ ap (λ (m : RecordKind). rowFor (typeOf m)) e ∙ row-typed l)
 
 -- EF
 module _ (header : List ℕ) (t : Totals) where
@@ -123,12 +123,12 @@ module _ (header : List ℕ) (t : Totals) where
 pub encoded-whole : (n : ℕ) (header : List ℕ) (is : List Item) → All Proper is → Whole (encodeFrom n header is)
 unfolding encodeFrom
 encoded-whole n header [] proper = tt
-encoded-whole n header (it ∷ is) proper = (encoded-length _ header it (proper .0), encoded-whole (n + opened (recordKind it)) (headerBehind header it) is (proper .1))
+encoded-whole n header (it ∷ is) proper = (encoded-length _ header it (proper .0), encoded-whole (n + opened (recordKind it)) (headerAfter header it) is (proper .1))
 
 pub encoded-count : (n : ℕ) (header : List ℕ) (is : List Item) → length (encodeFrom n header is) ≡ length is
 unfolding encodeFrom
 encoded-count n header [] = refl
-encoded-count n header (it ∷ is) = ap suc (encoded-count (n + opened (recordKind it)) (headerBehind header it) is)
+encoded-count n header (it ∷ is) = ap suc (encoded-count (n + opened (recordKind it)) (headerAfter header it) is)
 
 -- whose items are those that they were encoded from
 one-item : (n : ℕ) (header : List ℕ) (it : Item) → Proper it → itemOf (encodeItem n header it) ≡ it ∷ []
@@ -140,7 +140,7 @@ pub items-encoded : (n : ℕ) (header : List ℕ) (is : List Item) → All Prope
 unfolding encodeFrom flatten
 items-encoded n header [] proper = refl
 items-encoded n header (it ∷ is) proper =
-    rw (one-item _ header it (proper .0)) (ap (λ (l : List Item). it ∷ l) (items-encoded (n + opened (recordKind it)) (headerBehind header it) is (proper .1)))
+    rw (one-item _ header it (proper .0)) (ap (λ (l : List Item). it ∷ l) (items-encoded (n + opened (recordKind it)) (headerAfter header it) is (proper .1)))
 
 -- what a list encodes: its records, and its own list
 module _ (is : List Item) (proper : All Proper is) where
@@ -148,7 +148,7 @@ module _ (is : List Item) (proper : All Proper is) where
   all = recordsFor is ++ (trailerFor is ∷ [])
 
   all-whole : Whole all
-  all-whole = all-append (λ (rec : List ℕ). length rec ≡ 120) (recordsFor is) (trailerFor is ∷ []) (encoded-whole 0 [] is proper) (trailer-length (lastHeader [] is) (totalsOf is), tt)
+  all-whole = all-append (λ (rec : List ℕ). length rec ≡ 120) (recordsFor is) (trailerFor is ∷ []) (encoded-whole 0 [] is proper) (trailer-length (lastHeader [] is) (listTotals is), tt)
 
   pub encode-records : recordsOf (encode is) ≡ all
   encode-records = joined-records all all-whole
@@ -159,7 +159,7 @@ module _ (is : List Item) (proper : All Proper is) where
   pub encode-items : itemsOf (encode is) ≡ is
   unfolding flatten
   encode-items =
-      let none : itemOf (trailerFor is) ≡ [] = rw (no-row-in (trailerFor is) (trailer-type (lastHeader [] is) (totalsOf is))) in
+      let none : itemOf (trailerFor is) ≡ [] = rw (no-row-in (trailerFor is) (trailer-type (lastHeader [] is) (listTotals is))) in
       ap (λ (recs : List (List ℕ)). flatten (map itemOf recs)) encode-records
       ∙ ap flatten (map-append itemOf (recordsFor is) (trailerFor is ∷ []))
       ∙ flatten-append (map itemOf (recordsFor is)) (itemOf (trailerFor is) ∷ [])

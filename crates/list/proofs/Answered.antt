@@ -8,15 +8,15 @@ use native.Mathlib.Omega.{arith}
 use Rattle.sequences.specs.Part.{put}
 use Rattle.flow.specs.Judge.{judge}
 use Rattle.flow.specs.Output.{Output}
-use Rattle.flow.specs.Verdict.{accepted, refused, verdict}
+use Rattle.flow.specs.Verdict.{accepted, refused, answerVerdict}
 use Rattle.flow.specs.declared.answer.Refusal.{Refusal}
 use Rattle.flow.specs.declared.answer.Totals.{Totals}
 use Rattle.flow.proofs.Accepted.{answer-determined}
 use Rattle.flow.proofs.Output.{output-leaves, room-exact}
 use Rattle.list.specs.Encode.{encode}
-use Rattle.list.specs.Items.{Parsed, items, faulty, itemsOr, itemsIn, counted}
+use Rattle.list.specs.Items.{Parsed, items, faulty, itemsOr, itemsIn, itemCount}
 use Rattle.list.specs.Laws.{WriteAnswers, WriteLeaves, ReadBackAnswers, ReadBackAccepted, ReadBackRefused, ReadBackLeaves, FilledDetermined}
-use Rattle.list.specs.Output.{outputOf}
+use Rattle.list.specs.Output.{filledOutput}
 use Rattle.list.specs.ReadBack.{listOf, judgeRoom, readBack}
 use Rattle.list.specs.Write.{judgeList, write}
 use Rattle.list.proofs.Written.{written-exact}
@@ -24,23 +24,23 @@ use Rattle.list.specs.declared.count.Count.the-variants.{Items, Faulty}
 use Rattle.list.specs.declared.filled.Filled.{Filled}
 
 -- how many items there are, or which is none, tells what was read
-pub items-counted : (p : Parsed) (n : ℕ) → counted p ≡ Items n → (p ≡ items (itemsOr p)) × (length (itemsOr p) ≡ n)
+pub items-counted : (p : Parsed) (n : ℕ) → itemCount p ≡ Items n → (p ≡ items (itemsOr p)) × (length (itemsOr p) ≡ n)
 items-counted (items is) n e = (refl, cc)
 items-counted (faulty m) n e = let z : _≡_ {A = ℕ} 0 1 = cc in absurd (omega arith)
 
-pub faulty-counted : (p : Parsed) (n : ℕ) → counted p ≡ Faulty n → p ≡ faulty n
+pub faulty-counted : (p : Parsed) (n : ℕ) → itemCount p ≡ Faulty n → p ≡ faulty n
 faulty-counted (items is) n e = let z : _≡_ {A = ℕ} 0 1 = cc in absurd (omega arith)
 faulty-counted (faulty m) n e = cc
 
 -- a call of writing that is refused, and one that is accepted
 pub write-refuses :
-    (list out : List ℕ) (f : Filled) (x : Refusal) → judgeList list (length out) ≡ refused x → (verdict (f .answer) ≡ refused x) × (f .length ≡ 0) → outputOf f out ≡ write list out
+    (list out : List ℕ) (f : Filled) (x : Refusal) → judgeList list (length out) ≡ refused x → (answerVerdict (f .answer) ≡ refused x) × (f .length ≡ 0) → filledOutput f out ≡ write list out
 unfolding write
 write-refuses list out f x judged-so said = rw judged-so (λ i. record { answer = said .0 i; written = said .1 i; bytes = out })
 
 pub write-accepts :
-    (list out after : List ℕ) (f : Filled) (t : Totals) → judgeList list (length out) ≡ accepted t → (verdict (f .answer) ≡ accepted t) × (f .length ≡ length (encode (itemsIn list)))
-    → after ≡ put 0 (encode (itemsIn list)) out → outputOf f after ≡ write list out
+    (list out after : List ℕ) (f : Filled) (t : Totals) → judgeList list (length out) ≡ accepted t → (answerVerdict (f .answer) ≡ accepted t) × (f .length ≡ length (encode (itemsIn list)))
+    → after ≡ put 0 (encode (itemsIn list)) out → filledOutput f after ≡ write list out
 unfolding write
 write-accepts list out after f t judged-so said bytes = rw judged-so (λ i. record { answer = said .0 i; written = said .1 i; bytes = bytes i })
 

@@ -37,8 +37,8 @@ body-fits ((a to f) ∷ ss) body within e =
 
 pub body-outside : (a n : ℕ) (ss : List Span) (body : List ℕ) → All (λ (t : Span). a + n ≤ firstOf t - 1) ss → All (Outside a n) (bodyPlaced ss body)
 unfolding bodyPlaced
-body-outside a n [] body behind = tt
-body-outside a n ((b to f) ∷ ss) body behind = (inl (behind .0), body-outside a n ss (drop (width (b to f)) body) (behind .1))
+body-outside a n [] body after = tt
+body-outside a n ((b to f) ∷ ss) body after = (inl (after .0), body-outside a n ss (drop (width (b to f)) body) (after .1))
 
 -- a body placed, and gathered again
 pub gather-placed : (ss : List Span) (body xs : List ℕ) → All Within ss → Rising ss → sum (map width ss) ≡ length body → length xs ≡ 120 → gather ss (fill (bodyPlaced ss body) xs) ≡ body
@@ -56,9 +56,9 @@ gather-placed ((a to f) ∷ ss) body xs within rising e whole =
     let fits : a - 1 + length (take w body) ≤ length xs = omega (arith, sizes .0) in
     let size : length over ≡ 120 = put-length (a - 1) (take w body) xs fits ∙ whole in
     let end : a - 1 + w ≡ f = omega arith in
-    let behind : All (λ (t : Span). a - 1 + w ≤ firstOf t - 1) ss = rw end (rising .0) in
+    let after : All (λ (t : Span). a - 1 + w ≤ firstOf t - 1) ss = rw end (rising .0) in
     let here : field a f (fill (bodyPlaced ss rest) over) ≡ take w body =
-    fill-outside (a - 1) w (bodyPlaced ss rest) over (body-fits ss rest (within .1) (sizes .1)) size (body-outside (a - 1) w ss rest behind)
+    fill-outside (a - 1) w (bodyPlaced ss rest) over (body-fits ss rest (within .1) (sizes .1)) size (body-outside (a - 1) w ss rest after)
     ∙ ap (λ (n : ℕ). part (a - 1) n over) (sym (sizes .0))
     ∙ part-put (a - 1) (take w body) xs fits in
     cc (here, gather-placed ss rest over (within .1) (rising .1) (sizes .1) size, take-append-drop w body)

@@ -17,7 +17,7 @@ use Rattle.fields.proofs.Decimal.{written-length}
 use Rattle.records.specs.Checked.{checked, Alike}
 use Rattle.records.specs.Field.{Span, _to_, width, field}
 use Rattle.records.specs.Kinds.{Role, Heads, Opens, GoesOn, Closes, role, byRole}
-use Rattle.records.specs.declared.kind.Kind.{Kind}
+use Rattle.records.specs.declared.kind.RecordKind.{RecordKind}
 use Rattle.records.proofs.EachKind.{each-kind}
 use Rattle.list.specs.Encode.{Placed, place, supplied, bodyPlaced}
 use Rattle.list.specs.Table.{recordOf, carried}
@@ -119,8 +119,8 @@ checked-written k i h t = by (inSpans (checked (recordOf k)) i) t (below 120 (bo
     by false e u = absurd (true≢false (sym e))
 
 -- the positions that are checked lie within the record
-pub checked-within : (k : Kind) → All Within (checked k)
-checked-within k = all-within (checked k) (each-kind (λ (k : Kind). are-within (checked k) ≡ true) (refl, (refl, (refl, (refl, (refl, (refl, (refl, (refl, (refl, (refl, (refl, tt))))))))))) k)
+pub checked-within : (k : RecordKind) → All Within (checked k)
+checked-within k = all-within (checked k) (each-kind (λ (k : RecordKind). are-within (checked k) ≡ true) (refl, (refl, (refl, (refl, (refl, (refl, (refl, (refl, (refl, (refl, (refl, tt))))))))))) k)
 
 -- records that have the same bytes at the positions of spans are alike there
 pub alike-by-bytes : (ss : List Span) (rec other : List ℕ) → length rec ≡ 120 → length other ≡ 120 → All Within ss → ((i : ℕ) → i < 120 → inSpans ss i ≡ true → getD rec i 0 ≡ getD other i 0) → Alike ss rec other

@@ -7,21 +7,21 @@ use Rattle.fields.specs.Calendar.{isLeap, daysIn, isDay}
 use Rattle.fields.specs.Digits.{numberFrom, digits}
 use Rattle.records.specs.Bytes.{badFrom}
 use Rattle.records.specs.Checks.{isListed, checks}
-use Rattle.records.specs.Finding.{firstFault}
-use Rattle.records.specs.Judge.{judge as Record·judge}
-use Rattle.flow.specs.Judge.{go, judge}
+use Rattle.records.specs.RecordVerdict.{firstFault}
+use Rattle.records.specs.Judge.{judgeAs}
+use Rattle.flow.specs.Judge.{walkFrom, judge}
 use Rattle.flow.specs.Records.{cut}
 use Rattle.flow.specs.Order.{among}
-use Rattle.flow.specs.Steps.{typed, judgeRecord}
-use Rattle.list.specs.Encode.{fill, bodyPlaced, encodeItem, encodeTrailer, encodeFrom, lastHeader, dispositionsOf, centsOf}
-use Rattle.list.specs.Examples.{Examples}
+use Rattle.flow.specs.Walking.{judgeTyped, judgeRecord}
+use Rattle.list.specs.Encode.{fill, bodyPlaced, encodeItem, encodeTrailer, encodeFrom, lastHeader, listDispositions, listCents}
+use Rattle.list.specs.Examples.{ListExamples}
 use Rattle.list.specs.Items.{itemsFrom}
 use Rattle.list.specs.ReadBack.{judgeRoom}
 use Rattle.list.specs.Table.{firstRow}
 use Rattle.list.specs.Write.{judgeItems, judgeList}
 
-pub examples : Examples
-unfolding judge go cut judgeRecord typed among Record·judge firstFault checks isListed badFrom isEqual numberFrom digits every isDay daysIn isLeap flatten fill bodyPlaced encodeItem encodeTrailer encodeFrom lastHeader dispositionsOf centsOf itemsFrom judgeRoom firstRow judgeItems judgeList
+pub examples : ListExamples
+unfolding judge walkFrom cut judgeRecord judgeTyped among judgeAs firstFault checks isListed badFrom isEqual numberFrom digits every isDay daysIn isLeap flatten fill bodyPlaced encodeItem encodeTrailer encodeFrom lastHeader listDispositions listCents itemsFrom judgeRoom firstRow judgeItems judgeList
 examples =
     record {
       bodies = refl;

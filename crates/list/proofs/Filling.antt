@@ -26,18 +26,18 @@ unfolding fill
 fills-none = record { done = refl }
 
 -- one place, and then the others; the bytes may be known under another name
-pub fills-place : {p : ℕ} {bs cs : List ℕ} {ps : List Placed} {rec behind out : List ℕ} → behind ≡ put (p - 1) cs rec → cs ≡ bs → Fills ps behind out → Fills (place p bs ∷ ps) rec out
+pub fills-place : {p : ℕ} {bs cs : List ℕ} {ps : List Placed} {rec after out : List ℕ} → after ≡ put (p - 1) cs rec → cs ≡ bs → Fills ps after out → Fills (place p bs ∷ ps) rec out
 unfolding fill
 fills-place {p} {ps = ps} {rec = rec} here same rest = record { done = rest .done ∙ ap (fill ps) (here ∙ ap (λ (l : List ℕ). put (p - 1) l rec) same) }
 
 -- a number in a field that the record has, likewise
 pub fills-number :
-    (a e v : ℕ) {ps : List Placed} {rec behind out : List ℕ} → behind ≡ numberWritten (a to e) v rec → a - 1 ≤ e → e ≤ length rec → Fills ps behind out
+    (a e v : ℕ) {ps : List Placed} {rec after out : List ℕ} → after ≡ numberWritten (a to e) v rec → a - 1 ≤ e → e ≤ length rec → Fills ps after out
     → Fills (place a (digits (width (a to e)) v) ∷ ps) rec out
 fills-number a e v {rec = rec} here ordered within rest = fills-place (here ∙ written-within a e v rec ordered within) refl rest
 
 -- two lists of places, one after the other
-pub fills-both : {ps qs : List Placed} {rec behind out : List ℕ} → Fills ps rec behind → Fills qs behind out → Fills (ps ++ qs) rec out
+pub fills-both : {ps qs : List Placed} {rec after out : List ℕ} → Fills ps rec after → Fills qs after out → Fills (ps ++ qs) rec out
 fills-both {ps} {qs} {rec} front back = record { done = back .done ∙ ap (fill qs) (front .done) ∙ sym (fill-append ps qs rec) }
 
 -- a turn of the code that places a body: the spans that are left, with the body from an index on, make `out` of the record
@@ -46,9 +46,9 @@ pub record BodyLeft (ss : List Span) (from : ℕ) (body rec out : List ℕ) : Ty
   pub widths : from + sum (map width ss) ≡ length body
 
 -- one span placed, and none left
-pub span-placed : {a e n : ℕ} {ss : List Span} {from : ℕ} {body rec behind out : List ℕ} → n ≡ width (a to e) → behind ≡ put (a - 1) (part from n body) rec → BodyLeft ((a to e) ∷ ss) from body rec out → BodyLeft ss (from + n) body behind out
+pub span-placed : {a e n : ℕ} {ss : List Span} {from : ℕ} {body rec after out : List ℕ} → n ≡ width (a to e) → after ≡ put (a - 1) (part from n body) rec → BodyLeft ((a to e) ∷ ss) from body rec out → BodyLeft ss (from + n) body after out
 unfolding fill bodyPlaced
-span-placed {a} {e} {n} {ss} {from} {body} {rec} {behind} {out} same here p =
+span-placed {a} {e} {n} {ss} {from} {body} {rec} {after} {out} same here p =
     let next : out ≡ fill (bodyPlaced ss (drop n (drop from body))) (put (a - 1) (part from n body) rec) = rw same (p .left) in
     record { left = next ∙ rw (drop-drop, here); widths = omega (arith, p .widths) }
 

@@ -19,7 +19,7 @@ use Rattle.list.proofs.Carried.{span-length, gather-length}
 use Rattle.list.proofs.ItemKinds.{each-item}
 use Rattle.list.proofs.TableSpans.{Within, spanAt, carried-within, four-within, four-widths, four-next}
 
--- no body is longer than the positions behind a record's number
+-- no body is longer than the positions after a record's number
 pub body-at-most : (k : ItemKind) → bodyLength k ≤ 110
 body-at-most k = leb-true (bodyLength k) 110 (each-item (λ (k : ItemKind). leb (bodyLength k) 110 ≡ true) (refl, (refl, (refl, (refl, (refl, (refl, (refl, (refl, (refl, (refl, tt)))))))))) k)
 
@@ -56,8 +56,8 @@ storing-turn k spans i from rec out all kept few s =
 
 -- one span's bytes written, and none left
 pub stored-next :
-    {a e n : ℕ} {ss : List Span} {from : ℕ} {rec out behind all : List ℕ} → length rec ≡ 120 → n ≡ width (a to e) → behind ≡ put from (field a e rec) out
-    → Storing ((a to e) ∷ ss) from rec out all → Storing ss (from + n) rec behind all
+    {a e n : ℕ} {ss : List Span} {from : ℕ} {rec out after all : List ℕ} → length rec ≡ 120 → n ≡ width (a to e) → after ≡ put from (field a e rec) out
+    → Storing ((a to e) ∷ ss) from rec out all → Storing ss (from + n) rec after all
 unfolding flatten
 stored-next {a} {e} {n} {ss} {from} {rec} {out} whole same here s =
     let bytes = field a e rec in

@@ -13,22 +13,22 @@ use Rattle.records.specs.Amount.{amountSpan, amountIn}
 use Rattle.records.specs.Field.{firstOf, lastOf}
 use Rattle.records.specs.Context.{headerOf}
 use Rattle.records.specs.Kinds.{heads, opened, closes, isOpening}
-use Rattle.records.specs.declared.kind.Kind.{Kind}
-use Rattle.records.specs.declared.kind.Kind.the-variants.{Ef}
+use Rattle.records.specs.declared.kind.RecordKind.{RecordKind}
+use Rattle.records.specs.declared.kind.RecordKind.the-variants.{Ef}
 use Rattle.records.proofs.ByKind.{type-tested, opens-type}
 use Rattle.records.proofs.EachKind.{closes-ef}
-use Rattle.flow.specs.Judge.{go}
+use Rattle.flow.specs.Judge.{walkFrom}
 use Rattle.flow.specs.Order.{In, mayClose}
-use Rattle.flow.specs.Steps.{start}
-use Rattle.flow.specs.Sums.{dispositionsOf as Sums·dispositionsOf, centsOf as Sums·centsOf}
+use Rattle.flow.specs.Walking.{start}
+use Rattle.flow.specs.ExactTotals.{openingCount, amountSum}
 use Rattle.flow.specs.Verdict.{refused, refusal}
 use Rattle.flow.proofs.Cut.{Whole}
 use Rattle.grammar.specs.Fault.{HaveKinds}
 use Rattle.grammar.specs.Grammar.{Typed, kindsOf, recordsIn}
-use Rattle.grammar.proofs.Behind.{FromStart, FaultNext, formed-so, same-kinds}
+use Rattle.grammar.proofs.ContextAfter.{FromStart, FaultNext, formed-so, same-kinds}
 use Rattle.grammar.proofs.FirstFault.{ends-so, stops-so}
-use Rattle.grammar.proofs.Walked.{stateBehind, state-counts, Outcome, all-right, stops, outcome}
-use Rattle.list.specs.Encode.{carriedAt, headerBehind, lastHeader, amountCarried, dispositionsOf, amountOf, centsOf, encodeItem, encodeFrom, recordsFor}
+use Rattle.grammar.proofs.Walked.{stateAfter, state-counts, Outcome, all-right, stops, outcome}
+use Rattle.list.specs.Encode.{carriedAt, headerAfter, lastHeader, amountCarried, listDispositions, itemAmount, listCents, encodeItem, encodeFrom, recordsFor}
 use Rattle.list.specs.Items.{Item, recordKind, isD, Proper}
 use Rattle.list.specs.Table.{carried}
 use Rattle.list.specs.Write.{closed, judgeItems}
@@ -73,29 +73,29 @@ module _ (is : List Item) (proper : All Proper is) where
           inr (record { typed = rs; rec = rec; rest = rest; number = m; position = p; same = same; walked = walked; whole = all-at (λ (l : List ℕ). length l ≡ 120) (recordsIn rs) rec rest whole; fault = fault })
 
   -- what is answered then
-  pub right-judged : (r : RightItems is) → judgeItems is ≡ closed (stateBehind start (r .typed)) (length is)
+  pub right-judged : (r : RightItems is) → judgeItems is ≡ closed (stateAfter start (r .typed)) (length is)
   unfolding judgeItems
-  right-judged r = ap (λ (recs : List (List ℕ)). go closed (headerOf (take 120 (front is))) start [] 0 recs) (sym (r .same)) ∙ ends-so closed (front is) (r .typed) (r .walked) ∙ ap (closed (stateBehind start (r .typed))) (typed-count is (r .typed) (r .same))
+  right-judged r = ap (λ (recs : List (List ℕ)). walkFrom closed (headerOf (take 120 (front is))) start [] 0 recs) (sym (r .same)) ∙ ends-so closed (front is) (r .typed) (r .walked) ∙ ap (closed (stateAfter start (r .typed))) (typed-count is (r .typed) (r .same))
 
   pub faulty-judged : (r : FaultyItems is) → judgeItems is ≡ refused (refusal (r .number) (suc (length (recordsIn (r .typed)))) (r .position))
   unfolding judgeItems
-  faulty-judged r = ap (λ (recs : List (List ℕ)). go closed (headerOf (take 120 (front is))) start [] 0 recs) (r .same) ∙ stops-so closed (front is) (r .typed) (r .walked) (r .rec) (r .rest) (r .number) (r .position) (r .whole) (r .fault)
+  faulty-judged r = ap (λ (recs : List (List ℕ)). walkFrom closed (headerOf (take 120 (front is))) start [] 0 recs) (r .same) ∙ stops-so closed (front is) (r .typed) (r .walked) (r .rec) (r .rest) (r .number) (r .position) (r .whole) (r .fault)
 
 -- the kinds of the records are those that the items' kinds have in the table
-abbrev pub kindsIn : List Item → List Kind
+abbrev pub kindsIn : List Item → List RecordKind
 kindsIn is = map recordKind is
 
 kinds-had : (n : ℕ) (header : List ℕ) (is : List Item) → All Proper is → HaveKinds (kindsIn is) (encodeFrom n header is)
 unfolding encodeFrom
 kinds-had n header [] proper = refl
 kinds-had n header (it ∷ is) proper =
-    ap₂ _∷_ (sym (encoded-type _ header it (proper .0))) (kinds-had (n + opened (recordKind it)) (headerBehind header it) is (proper .1))
+    ap₂ _∷_ (sym (encoded-type _ header it (proper .0))) (kinds-had (n + opened (recordKind it)) (headerAfter header it) is (proper .1))
 
 pub right-kinds : (is : List Item) → All Proper is → (r : RightItems is) → kindsIn is ≡ kindsOf (r .typed)
 right-kinds is proper r = same-kinds (front is) (r .typed) (r .walked) (kindsIn is) (subst (HaveKinds (kindsIn is)) (sym (r .same)) (kinds-had 0 [] is proper))
 
 -- their sums are those of the items
-pub encoded-amount : (n : ℕ) (header : List ℕ) (it : Item) → Proper it → cond (isD it) (number (amountIn (encodeItem n header it))) 0 ≡ amountOf it
+pub encoded-amount : (n : ℕ) (header : List ℕ) (it : Item) → Proper it → cond (isD it) (number (amountIn (encodeItem n header it))) 0 ≡ itemAmount it
 encoded-amount n header it proper = by (isD it) refl
   where
     by : (b : Bool) → isD it ≡ b → cond b (number (amountIn (encodeItem n header it))) 0 ≡ cond b (number (amountCarried (it .body))) 0
@@ -112,23 +112,23 @@ encoded-opens n header it proper =
 
 sums-encoded :
     (n : ℕ) (header : List ℕ) (is : List Item) → All Proper is
-    → (Sums·dispositionsOf (encodeFrom n header is) ≡ dispositionsOf is) × (Sums·centsOf (encodeFrom n header is) ≡ centsOf is)
-unfolding encodeFrom Sums·dispositionsOf Sums·centsOf dispositionsOf centsOf
+    → (openingCount (encodeFrom n header is) ≡ listDispositions is) × (amountSum (encodeFrom n header is) ≡ listCents is)
+unfolding encodeFrom openingCount amountSum listDispositions listCents
 sums-encoded n header [] proper = (refl, refl)
 sums-encoded n header (it ∷ is) proper =
-    let rest = sums-encoded (n + opened (recordKind it)) (headerBehind header it) is (proper .1) in
+    let rest = sums-encoded (n + opened (recordKind it)) (headerAfter header it) is (proper .1) in
     (rw (encoded-opens _ header it (proper .0), rest .0), rw (encoded-opens _ header it (proper .0), encoded-amount _ header it (proper .0), rest .1))
 
-pub right-sums : (is : List Item) → All Proper is → (r : RightItems is) → (stateBehind start (r .typed) .dispositions ≡ dispositionsOf is) × (stateBehind start (r .typed) .cents ≡ centsOf is)
+pub right-sums : (is : List Item) → All Proper is → (r : RightItems is) → (stateAfter start (r .typed) .dispositions ≡ listDispositions is) × (stateAfter start (r .typed) .cents ≡ listCents is)
 right-sums is proper r =
     let counts = state-counts start [] (r .typed) (formed-so (front is) (r .typed) (r .walked)) in
     let sums = sums-encoded 0 [] is proper in
-    let count : Sums·dispositionsOf (recordsIn (r .typed)) ≡ dispositionsOf is = ap Sums·dispositionsOf (r .same) ∙ sums .0 in
-    let cents : Sums·centsOf (recordsIn (r .typed)) ≡ centsOf is = ap Sums·centsOf (r .same) ∙ sums .1 in
+    let count : openingCount (recordsIn (r .typed)) ≡ listDispositions is = ap openingCount (r .same) ∙ sums .0 in
+    let cents : amountSum (recordsIn (r .typed)) ≡ listCents is = ap amountSum (r .same) ∙ sums .1 in
     (omega arith, omega arith)
 
 -- EF may follow, as the test says it and as the place does
-pub close-said : (ks : List Kind) → mayClose ks ≡ true → In Ef ks
+pub close-said : (ks : List RecordKind) → mayClose ks ≡ true → In Ef ks
 close-said [] t = absurd (true≢false (sym t))
 close-said (k ∷ ks) t = by (closes k) refl t (close-said ks)
   where
@@ -136,7 +136,7 @@ close-said (k ∷ ks) t = by (closes k) refl t (close-said ks)
     by true e t rest = inl (sym (closes-ef k e))
     by false e t rest = inr (rest t)
 
-pub close-tested : (ks : List Kind) → In Ef ks → mayClose ks ≡ true
+pub close-tested : (ks : List RecordKind) → In Ef ks → mayClose ks ≡ true
 close-tested [] h = absurd h
 close-tested (k ∷ ks) (inl e) = rw (sym e)
 close-tested (k ∷ ks) (inr h) = by (closes k) (close-tested ks h)
@@ -146,7 +146,7 @@ close-tested (k ∷ ks) (inr h) = by (closes k) (close-tested ks h)
     by false t = t
 
 -- the header meant stays the first
-pub header-stays : (header : List ℕ) (is : List Item) → All (λ (k : Kind). heads k ≡ false) (kindsIn is) → lastHeader header is ≡ header
+pub header-stays : (header : List ℕ) (is : List Item) → All (λ (k : RecordKind). heads k ≡ false) (kindsIn is) → lastHeader header is ≡ header
 unfolding lastHeader
 header-stays header [] none = refl
 header-stays header (it ∷ is) none = rw (none .0) (header-stays header is (none .1))

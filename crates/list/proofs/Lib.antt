@@ -17,7 +17,7 @@ pub mod Placing
 pub mod RecordAgain
 pub mod RecordsAgain
 pub mod Rewritten
-pub mod Rows
+pub mod TableRows
 pub mod TableSpans
 pub mod Trailer
 pub mod WriteNumbers

@@ -11,7 +11,7 @@ use lib.ListN.{length, take, drop, length-drop, length-append, take-append-drop}
 use lib.Seq.{length-take-le, take-at, drop-at}
 use borrow.Author.Tests.{leb-true, leb-false, le-leb, lt-leb}
 use Rattle.sequences.specs.All.{All}
-use Rattle.list.specs.Items.{Item, item, Proper, listBytes, Parsed, items, faulty, before, itemsFrom, parse}
+use Rattle.list.specs.Items.{Item, item, Proper, listBytes, Parsed, items, faulty, withItem, itemsFrom, parse}
 use Rattle.list.specs.Laws.{ItemsExact, NoItem, FaultyAt, FaultyExact}
 use Rattle.list.specs.Table.{letter, bodyLength, rowOf}
 use Rattle.list.specs.declared.table.ItemKind.{ItemKind}
@@ -20,18 +20,18 @@ use Rattle.list.specs.declared.table.Row.the-variants.{Of, Missing}
 use Rattle.list.proofs.ItemKinds.{of-same, not-missing, row-letter, letter-row}
 use Rattle.list.proofs.Parsing.{body-passed, items-not-faulty}
 
--- items, and what the bytes behind them say
+-- items, and what the bytes after them say
 abbrev pub allBefore : List Item → Parsed → Parsed
 allBefore [] p = p
-allBefore (it ∷ is) p = before it (allBefore is p)
+allBefore (it ∷ is) p = withItem it (allBefore is p)
 
 all-items : (is : List Item) → allBefore is (items []) ≡ items is
 all-items [] = refl
-all-items (it ∷ is) = ap (before it) (all-items is)
+all-items (it ∷ is) = ap (withItem it) (all-items is)
 
 all-faulty : (is : List Item) (n : ℕ) → allBefore is (faulty n) ≡ faulty n
 all-faulty [] n = refl
-all-faulty (it ∷ is) n = ap (before it) (all-faulty is n)
+all-faulty (it ∷ is) n = ap (withItem it) (all-faulty is n)
 
 pub items-read : (n : ℕ) (is : List Item) (rest : List ℕ) → All Proper is → itemsFrom n 0 (listBytes is ++ rest) ≡ allBefore is (itemsFrom (n + length is) 0 rest)
 unfolding itemsFrom flatten
@@ -41,9 +41,9 @@ items-read n (it ∷ is) rest proper =
     let size : length (it .body) ≡ bodyLength (it .kind) = proper .0 .sized in
     let enough : leb (bodyLength (it .kind)) (length (it .body ++ (listBytes is ++ rest))) ≡ true = le-leb (bodyLength (it .kind)) (length (it .body ++ (listBytes is ++ rest))) (rw length-append (omega arith)) in
     let body : take (bodyLength (it .kind)) (it .body ++ (listBytes is ++ rest)) ≡ it .body = take-at (it .body) (listBytes is ++ rest) (bodyLength (it .kind)) size in
-    let behind : itemsFrom (suc n) (bodyLength (it .kind)) (it .body ++ (listBytes is ++ rest)) ≡ itemsFrom (suc n) 0 (listBytes is ++ rest) = body-passed (suc n) (bodyLength (it .kind)) (it .body ++ (listBytes is ++ rest)) ∙ ap (itemsFrom (suc n) 0) (drop-at (it .body) (listBytes is ++ rest) (bodyLength (it .kind)) size) in
+    let after : itemsFrom (suc n) (bodyLength (it .kind)) (it .body ++ (listBytes is ++ rest)) ≡ itemsFrom (suc n) 0 (listBytes is ++ rest) = body-passed (suc n) (bodyLength (it .kind)) (it .body ++ (listBytes is ++ rest)) ∙ ap (itemsFrom (suc n) 0) (drop-at (it .body) (listBytes is ++ rest) (bodyLength (it .kind)) size) in
     let number : suc n + length is ≡ n + suc (length is) = omega arith in
-    rw (joined, letter-row (it .kind), enough, body, behind, items-read (suc n) is rest (proper .1), number)
+    rw (joined, letter-row (it .kind), enough, body, after, items-read (suc n) is rest (proper .1), number)
 
 -- bytes that begin with no item say so
 no-item-read : (n : ℕ) (rest : List ℕ) → NoItem rest → itemsFrom n 0 rest ≡ faulty (suc n)
@@ -63,7 +63,7 @@ pub record AreItems (bs : List ℕ) : Type 0 where
 abbrev View : List ℕ → Type 0
 View bs = AreItems bs ⊎ ((n : ℕ) × FaultyAt bs n)
 
--- an item, and the bytes behind it
+-- an item, and the bytes after it
 one-before : (b : ℕ) (bs : List ℕ) (k : ItemKind) → rowOf b ≡ Of k → bodyLength k ≤ length bs → View (drop (bodyLength k) bs) → View (b ∷ bs)
 unfolding flatten
 one-before b bs k row fits v =

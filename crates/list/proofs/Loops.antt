@@ -1,4 +1,4 @@
--- The two loops over a list: one judges the record of each item, the other stores it. Behind each item, what is left decides as the whole
+-- The two loops over a list: one judges the record of each item, the other stores it. After each item, what is left decides as the whole
 -- does. Assumes nothing.
 use Prim.Native.Nat.{ℕ, suc, _+_, _-_, _*_, _≤_, _<_, min}
 use mathlib.Core.Bool.{Bool, true, false, cond, _&&_}
@@ -16,20 +16,20 @@ use Rattle.sequences.proofs.Part.{put-append, put-length, part-length}
 use Rattle.records.specs.Checks.{isPresent}
 use Rattle.records.specs.Context.{Header}
 use Rattle.records.specs.Field.{_to_, field}
-use Rattle.records.specs.Finding.{right}
-use Rattle.records.specs.Finding.{refused as Finding·refused}
+use Rattle.records.specs.RecordVerdict.{right}
+use Rattle.records.specs.RecordVerdict.{refused as RecordVerdict·refused}
 use Rattle.records.specs.Kinds.{opened}
 use Rattle.records.specs.Limits.{countLimit, centsLimit, mostCents, mostRecords}
-use Rattle.records.specs.declared.kind.Kind.{Kind}
+use Rattle.records.specs.declared.kind.RecordKind.{RecordKind}
 use Rattle.records.proofs.ByKind.{types-differ, type-said}
-use Rattle.flow.specs.Judge.{go}
-use Rattle.flow.specs.Steps.{start, step, latestOf, latest, judgeRecord, stopped}
+use Rattle.flow.specs.Judge.{walkFrom}
+use Rattle.flow.specs.Walking.{start, step, latestOf, latest, judgeRecord, saturated}
 use Rattle.flow.specs.Verdict.{refused, refusal}
 use Rattle.flow.specs.declared.walk.Walk.{Walk}
 use Rattle.flow.proofs.Cut.{Whole, flatten-length}
 use Rattle.flow.proofs.Exact.{right-typed}
 use Rattle.flow.proofs.Reading.{Reading, one-at-most, begin, go-on, refuse, finish}
-use Rattle.list.specs.Encode.{carriedAt, headerBehind, lastHeader, totalsOf, encodeItem, encodeFrom, recordsFor, trailerFor, encode}
+use Rattle.list.specs.Encode.{carriedAt, headerAfter, lastHeader, listTotals, encodeItem, encodeFrom, recordsFor, trailerFor, encode}
 use Rattle.list.specs.Items.{Item, item, recordKind, isD, Proper, items, itemsFrom, itemsIn, Listed}
 use Rattle.list.specs.Table.{recordOf, carried, bodyLength, rowOf}
 use Rattle.list.specs.Write.{closed, judgeItems}
@@ -77,7 +77,7 @@ turn-record {k = k} t dispositions number header rec counted built = built ∙ (
 
 -- a record that is found right is of the item's kind, and its company code is the body's
 module _ (number : ℕ) (header : List ℕ) (it : Item) (proper : Proper it) where
-  pub right-kind : (h : Header) (w : Walk) (company : List ℕ) (n : ℕ) (k : Kind) (c : ℕ) → judgeRecord h w company n (encodeItem number header it) ≡ right k c → k ≡ recordKind it
+  pub right-kind : (h : Header) (w : Walk) (company : List ℕ) (n : ℕ) (k : RecordKind) (c : ℕ) → judgeRecord h w company n (encodeItem number header it) ≡ right k c → k ≡ recordKind it
   right-kind h w company n k c e =
       types-differ k (recordKind it) (sym (type-said k (encodeItem number header it) (right-typed h w company n (encodeItem number header it) k c e .0)) ∙ encoded-type number header it proper)
 
@@ -97,11 +97,11 @@ module _ (number : ℕ) (header : List ℕ) (it : Item) (proper : Proper it) whe
 
 -- a list of no bytes has no items
 pub none-judged : (list : List ℕ) → length list ≡ 0 → judgeItems (itemsIn list) ≡ closed start 0
-unfolding judgeItems encodeFrom itemsFrom go
+unfolding judgeItems encodeFrom itemsFrom walkFrom
 none-judged [] e = refl
 none-judged (b ∷ bs) e = absurd (omega arith)
 
--- behind n right records, at index i of the list
+-- after n right records, at index i of the list
 pub record JudgingAt (h : Header) (list : List ℕ) (i n dispositions : ℕ) (header : List ℕ) (w : Walk) (company : List ℕ) : Type 0 where
   pub left : List Item
   pub said : itemsFrom n 0 (drop i list) ≡ items left
@@ -113,15 +113,15 @@ pub judging-begins : (h : Header) (list : List ℕ) → Listed list → JudgingA
 judging-begins h list listed =
     record { left = itemsIn list; said = listed .said; count = omega arith; few = omega arith; reading = begin closed h (recordsFor (itemsIn list)) }
 
--- the next record and those behind it
+-- the next record and those after it
 module _ (list : List ℕ) (n i number : ℕ) (header : List ℕ) (k : ItemKind) (is : List Item) (next : Next list n i k is) where
   abbrev pub recordAt : List ℕ
   recordAt = encodeItem (number + opened (recordOf k)) header (itemAt list i k)
 
-  abbrev pub recordsBehind : List (List ℕ)
-  recordsBehind = encodeFrom (number + opened (recordOf k)) (headerBehind header (itemAt list i k)) (next .others)
+  abbrev pub recordsAfter : List (List ℕ)
+  recordsAfter = encodeFrom (number + opened (recordOf k)) (headerAfter header (itemAt list i k)) (next .others)
 
-  pub records-next : encodeFrom number header is ≡ recordAt ∷ recordsBehind
+  pub records-next : encodeFrom number header is ≡ recordAt ∷ recordsAfter
   unfolding encodeFrom
   records-next = ap (encodeFrom number header) (next .whole)
 
@@ -137,38 +137,38 @@ module _ {h : Header} {list : List ℕ} {i n number : ℕ} {header : List ℕ} {
   next-judged = next-item list n i (j .left) (j .said) within k row
 
   pub judging-on :
-      (l : Kind) (c : ℕ) → judgeRecord h w company (suc n) (recordAt list n i number header k (j .left) next-judged) ≡ right l c
-      → JudgingAt h list (i + 1 + bodyLength k) (suc n) (number + opened (recordOf k)) (headerBehind header (itemAt list i k)) (stopped (step w l c)) (latestOf (recordOf k) company (carriedAt D (92 to 96) (itemAt list i k .body)))
+      (l : RecordKind) (c : ℕ) → judgeRecord h w company (suc n) (recordAt list n i number header k (j .left) next-judged) ≡ right l c
+      → JudgingAt h list (i + 1 + bodyLength k) (suc n) (number + opened (recordOf k)) (headerAfter header (itemAt list i k)) (saturated (step w l c)) (latestOf (recordOf k) company (carriedAt D (92 to 96) (itemAt list i k .body)))
   judging-on l c e =
       let next = next-judged in
       let it = itemAt list i k in
       let proper = next-proper list n i k (j .left) next in
       let number′ = number + opened (recordOf k) in
       let kind : l ≡ recordOf k = right-kind number′ header it proper h w company (suc n) l c e in
-      let code : latest l company (encodeItem number′ header it) ≡ latestOf (recordOf k) company (carriedAt D (92 to 96) (it .body)) = ap (λ (m : Kind). latest m company (encodeItem number′ header it)) kind ∙ latest-carried number′ header it proper company in
-      let read = go-on (j .reading) (recordAt list n i number header k (j .left) next) (recordsBehind list n i number header k (j .left) next) (records-next list n i number header k (j .left) next) l c e in
+      let code : latest l company (encodeItem number′ header it) ≡ latestOf (recordOf k) company (carriedAt D (92 to 96) (it .body)) = ap (λ (m : RecordKind). latest m company (encodeItem number′ header it)) kind ∙ latest-carried number′ header it proper company in
+      let read = go-on (j .reading) (recordAt list n i number header k (j .left) next) (recordsAfter list n i number header k (j .left) next) (records-next list n i number header k (j .left) next) l c e in
       let more : length (j .left) ≡ suc (length (next .others)) = ap (λ (l : List Item). length l) (next .whole) in
       record {
         left = next .others;
         said = next .left;
         count = omega (arith, j .count);
         few = omega (arith, j .few, one-at-most (recordOf k));
-        reading = subst (λ (m : List ℕ). Reading closed h (recordsFor (itemsIn list)) (stopped (step w l c)) m (suc n) (recordsBehind list n i number header k (j .left) next)) code read;
+        reading = subst (λ (m : List ℕ). Reading closed h (recordsFor (itemsIn list)) (saturated (step w l c)) m (suc n) (recordsAfter list n i number header k (j .left) next)) code read;
       }
 
   pub judging-refused :
-      (m p : ℕ) → judgeRecord h w company (suc n) (recordAt list n i number header k (j .left) next-judged) ≡ Finding·refused m p
-      → refused (refusal m (suc n) p) ≡ go closed h start [] 0 (recordsFor (itemsIn list))
-  judging-refused m p e = refuse (j .reading) (recordAt list n i number header k (j .left) next-judged) (recordsBehind list n i number header k (j .left) next-judged) (records-next list n i number header k (j .left) next-judged) m p e
+      (m p : ℕ) → judgeRecord h w company (suc n) (recordAt list n i number header k (j .left) next-judged) ≡ RecordVerdict·refused m p
+      → refused (refusal m (suc n) p) ≡ walkFrom closed h start [] 0 (recordsFor (itemsIn list))
+  judging-refused m p e = refuse (j .reading) (recordAt list n i number header k (j .left) next-judged) (recordsAfter list n i number header k (j .left) next-judged) (records-next list n i number header k (j .left) next-judged) m p e
 
--- the answer behind the last item does not tell the stopped state from the exact one
-pub closed-alike : (w : Walk) (n : ℕ) → suc (w .dispositions) ≤ mostRecords → closed (stopped w) n ≡ closed w n
+-- the answer after the last item does not tell the stopped state from the exact one
+pub closed-alike : (w : Walk) (n : ℕ) → suc (w .dispositions) ≤ mostRecords → closed (saturated w) n ≡ closed w n
 closed-alike w n few = by (leb (w .cents) mostCents) refl
   where
     dispositions : min (w .dispositions) countLimit ≡ w .dispositions
     dispositions = omega arith
 
-    by : (b : Bool) → leb (w .cents) mostCents ≡ b → closed (stopped w) n ≡ closed w n
+    by : (b : Bool) → leb (w .cents) mostCents ≡ b → closed (saturated w) n ≡ closed w n
     by true t =
         let small = leb-true (w .cents) mostCents t in
         let cents : min (w .cents) centsLimit ≡ w .cents = omega arith in
@@ -178,13 +178,13 @@ closed-alike w n few = by (leb (w .cents) mostCents) refl
         let over : leb (min (w .cents) centsLimit) mostCents ≡ false = lt-leb (min (w .cents) centsLimit) mostCents (omega arith) in
         rw (over, t)
 
-pub judging-ends : {h : Header} {list : List ℕ} {i n number : ℕ} {header : List ℕ} {w : Walk} {company : List ℕ} (j : JudgingAt h list i n number header w company) → suc (length (itemsIn list)) ≤ mostRecords → length list ≤ i → closed w n ≡ go closed h start [] 0 (recordsFor (itemsIn list))
+pub judging-ends : {h : Header} {list : List ℕ} {i n number : ℕ} {header : List ℕ} {w : Walk} {company : List ℕ} (j : JudgingAt h list i n number header w company) → suc (length (itemsIn list)) ≤ mostRecords → length list ≤ i → closed w n ≡ walkFrom closed h start [] 0 (recordsFor (itemsIn list))
 unfolding encodeFrom
 judging-ends {list = list} {i = i} {n = n} {number = number} {header = header} j few past =
     let none : j .left ≡ [] = no-more list n i (j .left) (j .said) past in
     finish (j .reading) (ap (encodeFrom number header) none) (closed-alike (j .reading .exact) n (omega (arith, j .reading .few, j .count)))
 
--- behind n records stored, at index i of the list: what is left to store makes `all` of the output
+-- after n records stored, at index i of the list: what is left to store makes `all` of the output
 pub record StoringAt (list all : List ℕ) (i n dispositions : ℕ) (header out : List ℕ) : Type 0 where
   pub left : List Item
   pub said : itemsFrom n 0 (drop i list) ≡ items left
@@ -205,23 +205,23 @@ module _ {list all : List ℕ} {i n number : ℕ} {header out : List ℕ} (s : S
 
   pub storing-on :
       (within : i < length list) (k : ItemKind) → rowOf (getD list i 0) ≡ Of k
-      → StoringAt list all (i + 1 + bodyLength k) (suc n) (number + opened (recordOf k)) (headerBehind header (itemAt list i k)) (put (120 * n) (encodeItem (number + opened (recordOf k)) header (itemAt list i k)) out)
+      → StoringAt list all (i + 1 + bodyLength k) (suc n) (number + opened (recordOf k)) (headerAfter header (itemAt list i k)) (put (120 * n) (encodeItem (number + opened (recordOf k)) header (itemAt list i k)) out)
   unfolding flatten lastHeader
   storing-on within k row =
       let next = next-stored within k row in
       let rec = recordAt list n i number header k (s .left) next in
-      let behind = recordsBehind list n i number header k (s .left) next ++ (trailerFor (itemsIn list) ∷ []) in
+      let after = recordsAfter list n i number header k (s .left) next ++ (trailerFor (itemsIn list) ∷ []) in
       let is : All Proper (itemAt list i k ∷ next .others) = subst (All Proper) (next .whole) (s .proper) in
       let more : length (s .left) ≡ suc (length (next .others)) = ap (λ (l : List Item). length l) (next .whole) in
       let count = s .count in
       let room = s .room in
       let size : length rec ≡ 120 = encoded-length (number + opened (recordOf k)) header (itemAt list i k) (is .0) in
-      let whole : Whole behind = all-append (λ (r : List ℕ). length r ≡ 120) (recordsBehind list n i number header k (s .left) next) (trailerFor (itemsIn list) ∷ []) (encoded-whole (number + opened (recordOf k)) (headerBehind header (itemAt list i k)) (next .others) (is .1)) (trailer-length (lastHeader [] (itemsIn list)) (totalsOf (itemsIn list)), tt) in
-      let records : length behind ≡ suc (length (next .others)) = length-append (recordsBehind list n i number header k (s .left) next) (trailerFor (itemsIn list) ∷ []) ∙ omega (arith, encoded-count (number + opened (recordOf k)) (headerBehind header (itemAt list i k)) (next .others)) in
-      let bytes : length (flatten behind) ≡ 120 * length behind = flatten-length behind whole in
-      let fits : 120 * n + length rec + length (flatten behind) ≤ length out = omega arith in
+      let whole : Whole after = all-append (λ (r : List ℕ). length r ≡ 120) (recordsAfter list n i number header k (s .left) next) (trailerFor (itemsIn list) ∷ []) (encoded-whole (number + opened (recordOf k)) (headerAfter header (itemAt list i k)) (next .others) (is .1)) (trailer-length (lastHeader [] (itemsIn list)) (listTotals (itemsIn list)), tt) in
+      let records : length after ≡ suc (length (next .others)) = length-append (recordsAfter list n i number header k (s .left) next) (trailerFor (itemsIn list) ∷ []) ∙ omega (arith, encoded-count (number + opened (recordOf k)) (headerAfter header (itemAt list i k)) (next .others)) in
+      let bytes : length (flatten after) ≡ 120 * length after = flatten-length after whole in
+      let fits : 120 * n + length rec + length (flatten after) ≤ length out = omega arith in
       let on : 120 * n + length rec ≡ 120 * suc n = omega arith in
-      let joined : encodeFrom number header (s .left) ++ (trailerFor (itemsIn list) ∷ []) ≡ rec ∷ behind = ap (λ (l : List (List ℕ)). l ++ (trailerFor (itemsIn list) ∷ [])) (records-next list n i number header k (s .left) next) in
+      let joined : encodeFrom number header (s .left) ++ (trailerFor (itemsIn list) ∷ []) ≡ rec ∷ after = ap (λ (l : List (List ℕ)). l ++ (trailerFor (itemsIn list) ∷ [])) (records-next list n i number header k (s .left) next) in
       record {
         left = next .others;
         said = next .left;
@@ -230,7 +230,7 @@ module _ {list all : List ℕ} {i n number : ℕ} {header out : List ℕ} (s : S
         few = omega (arith, s .few, one-at-most (recordOf k));
         header-last = ap (lastHeader header) (sym (next .whole)) ∙ s .header-last;
         room = subst (λ (m : ℕ). 120 * suc (length (itemsIn list)) ≤ m) (sym (put-length (120 * n) rec out (omega arith))) room;
-        rest = ap (λ (m : ℕ). put m (flatten behind) (put (120 * n) rec out)) (sym on) ∙ sym (put-append (120 * n) rec (flatten behind) out fits) ∙ ap (λ (l : List (List ℕ)). put (120 * n) (flatten l) out) (sym joined) ∙ s .rest;
+        rest = ap (λ (m : ℕ). put m (flatten after) (put (120 * n) rec out)) (sym on) ∙ sym (put-append (120 * n) rec (flatten after) out fits) ∙ ap (λ (l : List (List ℕ)). put (120 * n) (flatten l) out) (sym joined) ∙ s .rest;
       }
 
   pub storing-ends : length list ≤ i → (n ≡ length (itemsIn list)) × (header ≡ lastHeader [] (itemsIn list)) × (put (120 * n) (trailerFor (itemsIn list)) out ≡ all)

@@ -14,7 +14,7 @@ use Rattle.fields.specs.Digits.{digits}
 use Rattle.fields.proofs.Decimal.{written-length}
 use Rattle.records.specs.Field.{_to_, field}
 use Rattle.records.specs.Kinds.{typeOf, Role, Heads, Opens, GoesOn, Closes, role, byRole, heads}
-use Rattle.records.specs.declared.kind.Kind.{Kind}
+use Rattle.records.specs.declared.kind.RecordKind.{RecordKind}
 use Rattle.records.proofs.EachKind.{each-kind}
 use Rattle.list.specs.Encode.{Placed, place, fill, blanks, carriedAt, abiIn, supplied, bodyPlaced, encodeItem}
 use Rattle.list.specs.Items.{Item, recordKind, Proper}
@@ -24,13 +24,13 @@ use Rattle.list.specs.declared.table.ItemKind.{ItemKind}
 use Rattle.list.proofs.Carried.{body-fits, body-outside, gather-placed, inOne, gather-at}
 use Rattle.list.proofs.ItemKinds.{item-open}
 use Rattle.list.proofs.Placing.{Fits, Outside, fill-length, fill-outside, fill-append}
-use Rattle.list.proofs.TableSpans.{carried-within, carried-rising, carried-behind, carried-behind-number}
+use Rattle.list.proofs.TableSpans.{carried-within, carried-rising, carried-after, carried-after-number}
 
 -- a type has two bytes
-pub type-length : (k : Kind) → length (typeOf k) ≡ 2
-type-length = each-kind (λ (k : Kind). length (typeOf k) ≡ 2) (refl, (refl, (refl, (refl, (refl, (refl, (refl, (refl, (refl, (refl, (refl, tt)))))))))))
+pub type-length : (k : RecordKind) → length (typeOf k) ≡ 2
+type-length = each-kind (λ (k : RecordKind). length (typeOf k) ≡ 2) (refl, (refl, (refl, (refl, (refl, (refl, (refl, (refl, (refl, (refl, (refl, tt)))))))))))
 
--- what is supplied lies within the record, and behind the type
+-- what is supplied lies within the record, and after the type
 module _ (n : ℕ) (abi : List ℕ) (short : length abi ≤ 5) where
   number-length : length (digits 7 n) ≡ 7
   number-length = written-length 7 n
@@ -74,10 +74,10 @@ module _ (n : ℕ) (header : List ℕ) (it : Item) (proper : Proper it) where
   kind = it .kind
 
   -- that of its record
-  abbrev own-kind : Kind
+  abbrev own-kind : RecordKind
   own-kind = recordKind it
 
-  -- what is placed behind the type
+  -- what is placed after the type
   abbrev own : List Placed
   own = supplied (role own-kind) n (abiIn header)
 
@@ -109,7 +109,7 @@ module _ (n : ℕ) (header : List ℕ) (it : Item) (proper : Proper it) where
   pub encoded-type : field 2 3 (encodeItem n header it) ≡ typeOf own-kind
   unfolding encodeItem fill
   encoded-type =
-      let outside : All (Outside 1 2) (own ++ body) = all-append (Outside 1 2) own body (supplied-outside n (abiIn header) (role own-kind)) (body-outside 1 2 (carried kind) (it .body) (carried-behind kind)) in
+      let outside : All (Outside 1 2) (own ++ body) = all-append (Outside 1 2) own body (supplied-outside n (abiIn header) (role own-kind)) (body-outside 1 2 (carried kind) (it .body) (carried-after kind)) in
       fill-outside 1 2 (own ++ body) withType all-fit type-size outside
       ∙ ap (λ (m : ℕ). part 1 m withType) (sym (type-length own-kind))
       ∙ part-put 1 (typeOf own-kind) blanks type-within
@@ -121,7 +121,7 @@ module _ (n : ℕ) (header : List ℕ) (it : Item) (proper : Proper it) where
       let numbered = supplied-number n (abiIn header) kind member in
       let qs = numbered .others in
       let fits : All Fits (qs ++ body) = all-append Fits qs body (subst (All Fits) (numbered .first) own-fits .1) (body-fits (carried kind) (it .body) (carried-within kind) body-size) in
-      let outside : All (Outside 3 7) (qs ++ body) = all-append (Outside 3 7) qs body (numbered .outside) (body-outside 3 7 (carried kind) (it .body) (carried-behind-number kind member)) in
+      let outside : All (Outside 3 7) (qs ++ body) = all-append (Outside 3 7) qs body (numbered .outside) (body-outside 3 7 (carried kind) (it .body) (carried-after-number kind member)) in
       let within : 3 + length (digits 7 n) ≤ length withType = omega (arith, written-length 7 n, type-size) in
       ap (λ (ps : List Placed). field 4 10 (fill (ps ++ body) withType)) (numbered .first)
       ∙ fill-outside 3 7 (qs ++ body) (put 3 (digits 7 n) withType) fits (put-length 3 (digits 7 n) withType within ∙ type-size) outside

@@ -40,7 +40,7 @@ pub item-at-most : (row : Row) → itemLength row ≤ 111
 item-at-most (Of k) = omega (arith, body-at-most k)
 item-at-most Missing = omega arith
 
--- its kind byte stored, and then the carried bytes behind it
+-- its kind byte stored, and then the carried bytes after it
 pub item-stored :
     (rec : List ℕ) → length rec ≡ 120 → (k : ItemKind) → rowIn rec ≡ Of k → (from : ℕ) (out : List ℕ) → from + 1 + bodyLength k ≤ length out
     → put (from + 1) (gather (carried k) rec) (set out from (letter k)) ≡ put from (listBytes (itemOf rec)) out
@@ -74,7 +74,7 @@ pub list-end : (f : List ℕ) (i : ℕ) → length f / 120 ≤ i → listFrom f 
 unfolding flatten
 list-end f i h = rw (cut-end (length f / 120) i (drop (120 * i) f) h)
 
--- the items of the first i records are stored, up to an index; the others still find room behind it, and then all are there
+-- the items of the first i records are stored, up to an index; the others still find room after it, and then all are there
 pub record Listing (f out₀ out : List ℕ) (from i : ℕ) : Type 0 where
   pub same : length out ≡ length out₀
   pub room : from + length (listFrom f i) ≤ length out
@@ -84,7 +84,7 @@ pub listing : (f out : List ℕ) → length (listOf f) ≤ length out → Listin
 listing f out fits = record { same = refl; room = rw list-all (omega arith); left = rw list-all }
 
 module _ {f out₀ out : List ℕ} {from i : ℕ} (l : Listing f out₀ out from i) where
-  -- one more, written behind the others
+  -- one more, written after the others
   module _ (more : i < length f / 120) where
     pub item-fits : from + itemLength (rowIn (recordAt i f)) ≤ length out
     item-fits = let room = l .room in omega (arith, length-next f i more)

@@ -10,7 +10,7 @@ use lib.Seq.{drop-drop}
 use borrow.Author.Tests.{leb-true}
 use Rattle.sequences.specs.Part.{part}
 use Rattle.sequences.proofs.Drop.{drop-next}
-use Rattle.list.specs.Items.{Item, item, Parsed, items, faulty, before, itemsFrom, counted}
+use Rattle.list.specs.Items.{Item, item, Parsed, items, faulty, withItem, itemsFrom, itemCount}
 use Rattle.list.specs.Table.{bodyLength, rowOf, KindByte}
 use Rattle.list.specs.declared.count.Count.{Count}
 use Rattle.list.specs.declared.count.Count.the-variants.{Items, Faulty}
@@ -31,7 +31,7 @@ pub items-next :
     (list : List ℕ) (n i : ℕ) → i < length list → (k : ItemKind) → rowOf (getD list i 0) ≡ Of k
     → itemsFrom n 0 (drop i list)
     ≡ cond (leb (bodyLength k) (length list - (i + 1)))
-    (before (item k (part (i + 1) (bodyLength k) list)) (itemsFrom (suc n) 0 (drop (i + 1 + bodyLength k) list)))
+    (withItem (item k (part (i + 1) (bodyLength k) list)) (itemsFrom (suc n) 0 (drop (i + 1 + bodyLength k) list)))
     (faulty (suc n))
 unfolding itemsFrom
 items-next list n i h k row = rw (drop-next list i h, row, body-passed (suc n) (bodyLength k) (drop (i + 1) list), drop-drop, length-drop)
@@ -44,12 +44,12 @@ pub items-end : (list : List ℕ) (n i : ℕ) → length list ≤ i → itemsFro
 unfolding itemsFrom
 items-end list n i h = rw (drop-of-length-le list h)
 
--- the count of all, where so much is said behind n items
+-- the count of all, where so much is said after n items
 abbrev pub countedFrom : ℕ → Parsed → Count
 countedFrom n (items is) = Items (n + length is)
 countedFrom n (faulty m) = Faulty m
 
-pub counted-all : (p : Parsed) → counted p ≡ countedFrom 0 p
+pub counted-all : (p : Parsed) → itemCount p ≡ countedFrom 0 p
 counted-all (items is) = let none : 0 + length is ≡ length is = omega arith in ap Items (sym none)
 counted-all (faulty m) = refl
 
@@ -62,7 +62,7 @@ counted-next list n i h k row = ap (countedFrom n) (items-next list n i h k row)
     it : Item
     it = item k (part (i + 1) (bodyLength k) list)
 
-    by : (fits : Bool) (rest : Parsed) → countedFrom n (cond fits (before it rest) (faulty (suc n))) ≡ cond fits (countedFrom (suc n) rest) (Faulty (suc n))
+    by : (fits : Bool) (rest : Parsed) → countedFrom n (cond fits (withItem it rest) (faulty (suc n))) ≡ cond fits (countedFrom (suc n) rest) (Faulty (suc n))
     by true (items is) = let one : n + suc (length is) ≡ suc n + length is = omega arith in ap Items one
     by true (faulty m) = refl
     by false rest = refl
@@ -99,15 +99,15 @@ next-item list n i is e h k row = by (leb (bodyLength k) (length list - (i + 1))
     it : Item
     it = item k (part (i + 1) (bodyLength k) list)
 
-    behind : Parsed
-    behind = itemsFrom (suc n) 0 (drop (i + 1 + bodyLength k) list)
+    after : Parsed
+    after = itemsFrom (suc n) 0 (drop (i + 1 + bodyLength k) list)
 
-    first : (p : Parsed) → behind ≡ p → before it p ≡ items is → bodyLength k ≤ length list - (i + 1) → Next list n i k is
+    first : (p : Parsed) → after ≡ p → withItem it p ≡ items is → bodyLength k ≤ length list - (i + 1) → Next list n i k is
     first (items others) b w fits = record { ends = omega arith; others = others; whole = cc; left = b }
     first (faulty m) b w fits = absurd (items-not-faulty (sym w))
 
-    by : (fits : Bool) → leb (bodyLength k) (length list - (i + 1)) ≡ fits → cond fits (before it behind) (faulty (suc n)) ≡ items is → Next list n i k is
-    by true f w = first behind refl w (leb-true _ _ f)
+    by : (fits : Bool) → leb (bodyLength k) (length list - (i + 1)) ≡ fits → cond fits (withItem it after) (faulty (suc n)) ≡ items is → Next list n i k is
+    by true f w = first after refl w (leb-true _ _ f)
     by false f w = absurd (items-not-faulty (sym w))
 
 pub no-more : (list : List ℕ) (n i : ℕ) (is : List Item) → itemsFrom n 0 (drop i list) ≡ items is → length list ≤ i → is ≡ []

@@ -10,8 +10,8 @@ use lib.ListN.{length, take, drop, getD, take-append-drop}
 use borrow.Author.Tests.{leb-true, leb-false}
 use Rattle.sequences.specs.All.{All}
 use Rattle.sequences.specs.Part.{part, put}
-use Rattle.sequences.proofs.All.{all-before, all-behind}
-use Rattle.sequences.proofs.Part.{put-length, part-put, getD-put, getD-put-before, getD-put-behind, part-getD, part-put-before, part-put-behind, put-again, put-apart, all-put}
+use Rattle.sequences.proofs.All.{all-before, all-after}
+use Rattle.sequences.proofs.Part.{put-length, part-put, getD-put, getD-put-before, getD-put-after, part-getD, part-put-before, part-put-after, put-again, put-apart, all-put}
 use Rattle.list.specs.Encode.{Placed, place, fill}
 
 -- placed within a record of 120 bytes
@@ -55,7 +55,7 @@ fill-outside a n (place p bs ∷ ps) xs fits whole outside =
   where
     unchanged : p - 1 + length bs ≤ length xs → Outside a n (place p bs) → part a n (put (p - 1) bs xs) ≡ part a n xs
     unchanged within (inl h) = part-put-before (p - 1) bs xs within a n h
-    unchanged within (inr h) = part-put-behind (p - 1) bs xs within a n h
+    unchanged within (inr h) = part-put-after (p - 1) bs xs within a n h
 
 -- an index that is covered, by bytes that rec has there, is as in rec; and so is one that was
 pub fill-agrees :
@@ -82,7 +82,7 @@ fill-agrees i rec (place p bs ∷ ps) xs fits whole agrees known =
         inr (getD-put (p - 1) bs xs within i from to ∙ agrees .0 (from, to))
     by within true false e f known =
         let to = leb-false (suc i) (p - 1 + length bs) f in
-        outside (getD-put-behind (p - 1) bs xs within i (omega arith)) (λ here. omega (arith, here .1)) known
+        outside (getD-put-after (p - 1) bs xs within i (omega arith)) (λ here. omega (arith, here .1)) known
     by within false c e f known =
         let from = leb-false (p - 1) i e in
         outside (getD-put-before (p - 1) bs xs within i (omega arith)) (λ here. omega (arith, here .0)) known
@@ -100,7 +100,7 @@ module _ (P : ℕ → Type 0) where
   all-take n xs all = all-before P (take n xs) (drop n xs) (rw take-append-drop all)
 
   all-drop : (n : ℕ) (xs : List ℕ) → All P xs → All P (drop n xs)
-  all-drop n xs all = all-behind P (take n xs) (drop n xs) (rw take-append-drop all)
+  all-drop n xs all = all-after P (take n xs) (drop n xs) (rw take-append-drop all)
 
   pub all-part : (a n : ℕ) (xs : List ℕ) → All P xs → All P (part a n xs)
   all-part a n xs all = all-take n (drop a xs) (all-drop a xs all)
@@ -152,14 +152,14 @@ start (place p bs) = p - 1
 abbrev pub end : Placed → ℕ
 end (place p bs) = p - 1 + length bs
 
--- bytes placed one behind the other all stand
+-- bytes placed one after the other all stand
 abbrev pub InRow : List Placed → Type 0
 InRow [] = Unit
 InRow (q ∷ qs) = All (λ (r : Placed). end q ≤ start r) qs × InRow qs
 
 row-outside : (a n : ℕ) (qs : List Placed) → All (λ (r : Placed). a + n ≤ start r) qs → All (Outside a n) qs
-row-outside a n [] behind = tt
-row-outside a n (place p bs ∷ qs) behind = (inl (behind .0), row-outside a n qs (behind .1))
+row-outside a n [] after = tt
+row-outside a n (place p bs ∷ qs) after = (inl (after .0), row-outside a n qs (after .1))
 
 pub row-stands : (ps : List Placed) (xs : List ℕ) → All Fits ps → length xs ≡ 120 → InRow ps → All (Matches (fill ps xs)) ps
 unfolding fill

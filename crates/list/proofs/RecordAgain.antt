@@ -19,14 +19,14 @@ use Rattle.records.specs.Checks.{checks}
 use Rattle.records.specs.Constants.{currency}
 use Rattle.records.specs.Context.{Header}
 use Rattle.records.specs.Field.{field}
-use Rattle.records.specs.Finding.{Hold}
+use Rattle.records.specs.RecordVerdict.{Hold}
 use Rattle.records.specs.Judge.{asked}
 use Rattle.records.specs.Kinds.{typeOf, Opens, role, heads, opens, closes}
-use Rattle.records.specs.declared.kind.Kind.{Kind}
-use Rattle.records.specs.declared.kind.Kind.the-variants.{Im, R14, R16, R20, R30, R40, R50, R59, R51, R70, Ef}
+use Rattle.records.specs.declared.kind.RecordKind.{RecordKind}
+use Rattle.records.specs.declared.kind.RecordKind.the-variants.{Im, R14, R16, R20, R30, R40, R50, R59, R51, R70, Ef}
 use Rattle.records.proofs.Checked.{checks-by-position}
 use Rattle.records.proofs.EachKind.{each-kind, heads-im, opens-14}
-use Rattle.flow.specs.Steps.{counted, latestOf, latest}
+use Rattle.flow.specs.Walking.{dispositionsWith, latestOf, latest}
 use Rattle.flow.specs.declared.walk.Walk.{Walk}
 use Rattle.grammar.specs.Rules.{Says, Printable, Formed, MemberRules}
 use Rattle.grammar.proofs.AtPlace.{asks, RightAt}
@@ -62,7 +62,7 @@ module _ (n : ℕ) (bank abi rec : List ℕ) (same : bank ≡ abi) (whole : leng
       let bank-said = m .others .bank .1 in
       (number-stands (m .number-said), (m .others .causale-code, (m .others .sign-code, (stands rec 48 5 abi (abi-length bank-said) (bank-said ∙ same), (m .others .currency-code, tt)))))
 
-  member-stands : (k : Kind) → (heads k ≡ true → ⊥) → MemberRules k bank n rec → All (Matches rec) (supplied (role k) n abi)
+  member-stands : (k : RecordKind) → (heads k ≡ true → ⊥) → MemberRules k bank n rec → All (Matches rec) (supplied (role k) n abi)
   member-stands Im f m = absurd (f refl)
   member-stands R14 f m = disposition-stands m
   member-stands R16 f m = (number-stands (m .number-said), tt)
@@ -75,17 +75,17 @@ module _ (n : ℕ) (bank abi rec : List ℕ) (same : bank ≡ abi) (whole : leng
   member-stands R70 f m = (number-stands (m .number-said), tt)
   member-stands Ef f m = tt
 
-  member-abi : (k : Kind) → opens k ≡ true → MemberRules k bank n rec → length abi ≡ 5
-  member-abi k o m = abi-length (subst (λ (l : Kind). MemberRules l bank n rec) (opens-14 k o) m .others .bank .1)
+  member-abi : (k : RecordKind) → opens k ≡ true → MemberRules k bank n rec → length abi ≡ 5
+  member-abi k o m = abi-length (subst (λ (l : RecordKind). MemberRules l bank n rec) (opens-14 k o) m .others .bank .1)
 
 -- what is supplied to a record, by the rules that it keeps
-pub record Supplied (k : Kind) (n : ℕ) (abi rec : List ℕ) : Type 0 where
+pub record Supplied (k : RecordKind) (n : ℕ) (abi rec : List ℕ) : Type 0 where
   pub places : All (Matches rec) (supplied (role k) n abi)
   pub bank : opens k ≡ true → length abi ≡ 5
 
-header-supplied : (k : Kind) (n : ℕ) (abi rec : List ℕ) → k ≡ Im → field 114 114 rec ≡ currency → Supplied k n abi rec
+header-supplied : (k : RecordKind) (n : ℕ) (abi rec : List ℕ) → k ≡ Im → field 114 114 rec ≡ currency → Supplied k n abi rec
 header-supplied k n abi rec e code =
-    record { places = subst (λ (l : Kind). All (Matches rec) (supplied (role l) n abi)) (sym e) (code, tt); bank = λ o. absurd (true≢false (sym o ∙ ap opens e)) }
+    record { places = subst (λ (l : RecordKind). All (Matches rec) (supplied (role l) n abi)) (sym e) (code, tt); bank = λ o. absurd (true≢false (sym o ∙ ap opens e)) }
 
 -- a record that an item of kind k encodes, right at its place; `header` is the body of the header meant, whose ABI is the header's
 module _
@@ -95,7 +95,7 @@ module _
     abbrev abi : List ℕ
     abi = abiIn header
 
-    abbrev kind : Kind
+    abbrev kind : RecordKind
     kind = recordOf k
 
     abbrev own : Item
@@ -103,7 +103,7 @@ module _
 
     -- the record that its item encodes
     abbrev pub again : List ℕ
-    again = encodeItem (counted w kind) header own
+    again = encodeItem (dispositionsWith w kind) header own
 
     whole : length rec ≡ 120
     whole = right-at .formed .whole
@@ -111,40 +111,40 @@ module _
     pub own-proper : Proper own
     own-proper = record { sized = sym (gather-length (carried k) rec (carried-within k) whole) }
 
-    supplied-so : Supplied kind (counted w kind) abi rec
+    supplied-so : Supplied kind (dispositionsWith w kind) abi rec
     supplied-so = by (heads kind) refl
       where
-        by : (b : Bool) → heads kind ≡ b → Supplied kind (counted w kind) abi rec
+        by : (b : Bool) → heads kind ≡ b → Supplied kind (dispositionsWith w kind) abi rec
         by true e =
             let head : kind ≡ Im = heads-im kind e in
-            let keeps : Hold (checks Im (asks h w company i Im) rec) = subst (λ (l : Kind). Hold (checks l (asks h w company i l) rec)) head (right-at .keeps) in
-            header-supplied kind (counted w kind) abi rec head (header-rules (asks h w company i Im) rec .0 keeps .currency-code)
+            let keeps : Hold (checks Im (asks h w company i Im) rec) = subst (λ (l : RecordKind). Hold (checks l (asks h w company i l) rec)) head (right-at .keeps) in
+            header-supplied kind (dispositionsWith w kind) abi rec head (header-rules (asks h w company i Im) rec .0 keeps .currency-code)
         by false e =
             let not-im : kind ≡ Im → ⊥ = λ f. true≢false (sym (ap heads f) ∙ e) in
             let not-ef : kind ≡ Ef → ⊥ = λ f. true≢false (sym (ap closes f) ∙ item-open k) in
             let m = member-rules kind (asks h w company i kind) rec not-im not-ef .0 (right-at .keeps) .0 in
             record {
-              places = member-stands (counted w kind) (h .abi) abi rec (meant e) whole kind (λ t. true≢false (sym t ∙ e)) m;
-              bank = λ f. member-abi (counted w kind) (h .abi) abi rec (meant e) whole kind f m;
+              places = member-stands (dispositionsWith w kind) (h .abi) abi rec (meant e) whole kind (λ t. true≢false (sym t ∙ e)) m;
+              bank = λ f. member-abi (dispositionsWith w kind) (h .abi) abi rec (meant e) whole kind f m;
             }
 
     abbrev placed : List Placed
-    placed = place 2 (typeOf kind) ∷ (supplied (role kind) (counted w kind) abi ++ bodyPlaced (carried k) (gather (carried k) rec))
+    placed = place 2 (typeOf kind) ∷ (supplied (role kind) (dispositionsWith w kind) abi ++ bodyPlaced (carried k) (gather (carried k) rec))
 
     all-stand : All (Matches rec) placed
     all-stand =
         let type : part 1 (length (typeOf kind)) rec ≡ typeOf kind = ap (λ (n : ℕ). part 1 n rec) (type-length kind) ∙ right-at .formed .type in
-        (type, all-append (Matches rec) (supplied (role kind) (counted w kind) abi) (bodyPlaced (carried k) (gather (carried k) rec)) (supplied-so .places) (gather-matches (carried k) rec (carried-within k) whole))
+        (type, all-append (Matches rec) (supplied (role kind) (dispositionsWith w kind) abi) (bodyPlaced (carried k) (gather (carried k) rec)) (supplied-so .places) (gather-matches (carried k) rec (carried-within k) whole))
 
     all-spanned : Spanned placed (writtenSpans k)
-    all-spanned = ((refl, type-length kind), spanned-append (supplied (role kind) (counted w kind) abi) (bodyPlaced (carried k) (gather (carried k) rec)) _ (carried k) (supplied-spanned (counted w kind) abi (role kind) (supplied-so .bank)) (body-spanned (carried k) (gather (carried k) rec) (gather-length (carried k) rec (carried-within k) whole)))
+    all-spanned = ((refl, type-length kind), spanned-append (supplied (role kind) (dispositionsWith w kind) abi) (bodyPlaced (carried k) (gather (carried k) rec)) _ (carried k) (supplied-spanned (dispositionsWith w kind) abi (role kind) (supplied-so .bank)) (body-spanned (carried k) (gather (carried k) rec) (gather-length (carried k) rec (carried-within k) whole)))
 
     all-agree : (j : ℕ) (ps : List Placed) → All (Matches rec) ps → All (Agrees j rec) ps
-    all-agree j [] stand = tt
-    all-agree j (q ∷ ps) stand = (matches-agrees j rec q (stand .0), all-agree j ps (stand .1))
+    all-agree j [] location = tt
+    all-agree j (q ∷ ps) location = (matches-agrees j rec q (location .0), all-agree j ps (location .1))
 
     pub again-whole : length again ≡ 120
-    again-whole = encoded-length (counted w kind) header own own-proper
+    again-whole = encoded-length (dispositionsWith w kind) header own own-proper
 
     pub again-alike : Alike (checked kind) rec again
     unfolding encodeItem
@@ -154,9 +154,9 @@ module _
 
     -- its bytes are the record's, and blanks
     all-printable : (ps : List Placed) → All (Matches rec) ps → All (AllPlaced Printable) ps
-    all-printable [] stand = tt
-    all-printable (place p bs ∷ ps) stand =
-        (subst (All Printable) (stand .0) (all-part Printable (p - 1) (length bs) rec (right-at .formed .printable)), all-printable ps (stand .1))
+    all-printable [] location = tt
+    all-printable (place p bs ∷ ps) location =
+        (subst (All Printable) (location .0) (all-part Printable (p - 1) (length bs) rec (right-at .formed .printable)), all-printable ps (location .1))
 
     pub again-formed : Formed kind again
     unfolding encodeItem badFrom
@@ -164,7 +164,7 @@ module _
         record {
           whole = again-whole;
           printable = fill-all Printable placed blanks (all-printable placed all-stand) (printable-exact blanks .0 refl);
-          type = encoded-type (counted w kind) header own own-proper;
+          type = encoded-type (dispositionsWith w kind) header own own-proper;
         }
 
     pub again-right : RightAt h w company i kind again
@@ -176,8 +176,8 @@ module _
         }
 
 -- alike records ask for the same cents, and leave the same company code
-pub alike-asked : (k : Kind) (rec other : List ℕ) → Alike (checked k) rec other → asked k rec ≡ asked k other
-alike-asked k rec other = each-kind (λ (k : Kind). Alike (checked k) rec other → asked k rec ≡ asked k other) (λ a. refl, (λ a. ap number (a .1 .1 .1 .1 .0), (λ a. refl, (λ a. refl, (λ a. refl, (λ a. refl, (λ a. refl, (λ a. refl, (λ a. refl, (λ a. refl, (λ a. refl, tt))))))))))) k
+pub alike-asked : (k : RecordKind) (rec other : List ℕ) → Alike (checked k) rec other → asked k rec ≡ asked k other
+alike-asked k rec other = each-kind (λ (k : RecordKind). Alike (checked k) rec other → asked k rec ≡ asked k other) (λ a. refl, (λ a. ap number (a .1 .1 .1 .1 .0), (λ a. refl, (λ a. refl, (λ a. refl, (λ a. refl, (λ a. refl, (λ a. refl, (λ a. refl, (λ a. refl, (λ a. refl, tt))))))))))) k
 
-pub alike-latest : (k : Kind) (company rec other : List ℕ) → Alike (checked k) rec other → latest k company rec ≡ latest k company other
-alike-latest k company rec other = each-kind (λ (k : Kind). Alike (checked k) rec other → latest k company rec ≡ latest k company other) (λ a. refl, (λ a. ap (λ (code : List ℕ). latestOf R14 company code) (a .1 .1 .1 .1 .1 .1 .1 .1 .0), (λ a. refl, (λ a. refl, (λ a. refl, (λ a. refl, (λ a. refl, (λ a. refl, (λ a. refl, (λ a. refl, (λ a. refl, tt))))))))))) k
+pub alike-latest : (k : RecordKind) (company rec other : List ℕ) → Alike (checked k) rec other → latest k company rec ≡ latest k company other
+alike-latest k company rec other = each-kind (λ (k : RecordKind). Alike (checked k) rec other → latest k company rec ≡ latest k company other) (λ a. refl, (λ a. ap (λ (code : List ℕ). latestOf R14 company code) (a .1 .1 .1 .1 .1 .1 .1 .1 .0), (λ a. refl, (λ a. refl, (λ a. refl, (λ a. refl, (λ a. refl, (λ a. refl, (λ a. refl, (λ a. refl, (λ a. refl, tt))))))))))) k

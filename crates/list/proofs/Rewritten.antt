@@ -22,13 +22,13 @@ use Rattle.records.specs.Context.{Header, headerOf}
 use Rattle.records.specs.Field.{field}
 use Rattle.records.specs.Kinds.{typeOf, heads, closes}
 use Rattle.records.specs.Limits.{mostCents}
-use Rattle.records.specs.declared.kind.Kind.{Kind}
-use Rattle.records.specs.declared.kind.Kind.the-variants.{Im, Ef}
+use Rattle.records.specs.declared.kind.RecordKind.{RecordKind}
+use Rattle.records.specs.declared.kind.RecordKind.the-variants.{Im, Ef}
 use Rattle.flow.specs.Judge.{judge}
-use Rattle.flow.specs.Order.{permitted, mayClose, place}
+use Rattle.flow.specs.Order.{permitted, mayClose, placeDue}
 use Rattle.flow.specs.Output.{Output, output}
 use Rattle.flow.specs.Records.{recordAt, recordsOf}
-use Rattle.flow.specs.Steps.{start, counted, step, countsAt}
+use Rattle.flow.specs.Walking.{start, dispositionsWith, step, countsAt}
 use Rattle.flow.specs.Verdict.{Verdict, accepted}
 use Rattle.flow.specs.declared.answer.Totals.{Totals}
 use Rattle.flow.specs.declared.order.Due.the-variants.{OnlyIm}
@@ -38,12 +38,12 @@ use Rattle.flow.proofs.Cut.{cut-at}
 use Rattle.grammar.specs.Grammar.{Typed, kindsOf, recordsIn, Grammar}
 use Rattle.grammar.specs.Rules.{Says, Formed, TrailerRules}
 use Rattle.grammar.proofs.AtPlace.{asks, RightAt}
-use Rattle.grammar.proofs.Behind.{FromStart}
+use Rattle.grammar.proofs.ContextAfter.{FromStart}
 use Rattle.grammar.proofs.Grammar.{grammar-exact, header-first, grammar-records, grammar-start}
 use Rattle.grammar.proofs.Order.{Allowed, header-only-first, all-open}
 use Rattle.grammar.proofs.Rules.{header-rules, trailer-rules, says-digits, said-below, countsTold}
-use Rattle.grammar.proofs.Walked.{stateBehind, codeBehind, Walked, walked-append, walked-allowed, walked-formed, AllFormed}
-use Rattle.list.specs.Encode.{abiIn, encodeItem, encodeFrom, encodeTrailer, lastHeader, totalsOf, recordsFor, trailerFor, encode}
+use Rattle.grammar.proofs.Walked.{stateAfter, codeAfter, Walked, walked-append, walked-allowed, walked-formed, AllFormed}
+use Rattle.list.specs.Encode.{abiIn, encodeItem, encodeFrom, encodeTrailer, lastHeader, listTotals, recordsFor, trailerFor, encode}
 use Rattle.list.specs.Items.{Item, Proper, listBytes, items, parse, itemsOr, itemsIn}
 use Rattle.list.specs.Laws.{OwnItem, OwnList, OwnItems, RewrittenExact, RewrittenSame, UncheckedOnly}
 use Rattle.list.specs.ReadBack.{gather, itemOf, itemsOf, listOf}
@@ -134,10 +134,10 @@ module _ (f : List ℕ) (t : Totals) (g : Grammar f t) where
   walked : Walked h start [] 0 before
   walked = walked-append h start [] 0 before last .0 all-walked .0
 
-  abbrev behind : Walk
-  behind = stateBehind start before
+  abbrev after : Walk
+  after = stateAfter start before
 
-  closing : RightAt h behind (codeBehind [] before) (suc (0 + length before)) Ef ef
+  closing : RightAt h after (codeAfter [] before) (suc (0 + length before)) Ef ef
   closing = walked-append h start [] 0 before last .0 all-walked .1 .0
 
   formed : AllFormed (before ++ last)
@@ -146,10 +146,10 @@ module _ (f : List ℕ) (t : Totals) (g : Grammar f t) where
   -- none but the last is an EF, and none but the first an IM
   not-last : AllOpen before
   not-last =
-      let allowed = subst (Allowed (place OnlyIm)) (map-append (λ (r : Typed). r .kind) before last) (walked-allowed h start [] 0 (before ++ last) all-walked) in
-      all-kinds (λ (k : Kind). closes k ≡ false) before (all-open (place OnlyIm) (kindsOf before) Ef allowed)
+      let allowed = subst (Allowed (placeDue OnlyIm)) (map-append (λ (r : Typed). r .kind) before last) (walked-allowed h start [] 0 (before ++ last) all-walked) in
+      all-kinds (λ (k : RecordKind). closes k ≡ false) before (all-open (placeDue OnlyIm) (kindsOf before) Ef allowed)
 
-  later : All (λ (k : Kind). heads k ≡ false) (kindsOf members)
+  later : All (λ (k : RecordKind). heads k ≡ false) (kindsOf members)
   later = header-only-first Im (kindsOf members) (walked-allowed h start [] 0 before walked) .1
 
   -- so the flow's own list
@@ -192,13 +192,13 @@ module _ (f : List ℕ) (t : Totals) (g : Grammar f t) where
   no-abi e = absurd (true≢false e)
 
   abbrev im-again : List ℕ
-  im-again = encodeItem (counted start Im) [] (ownItem (record { kind = Im; bytes = im }))
+  im-again = encodeItem (dispositionsWith start Im) [] (ownItem (record { kind = Im; bytes = im }))
 
   im-alike : Alike (checked Im) im im-again
   im-alike = again-alike h start [] 1 H im [] im-right no-abi
 
   members-again : Again h (step start Im 0) [] 1 header members
-  members-again = again-walked h header abi-meant (step start Im 0) [] 1 members (walked .1) (not-last .1) (all-kinds (λ (k : Kind). heads k ≡ false) members later)
+  members-again = again-walked h header abi-meant (step start Im 0) [] 1 members (walked .1) (not-last .1) (all-kinds (λ (k : RecordKind). heads k ≡ false) members later)
 
   abbrev again : List Typed
   again = record { kind = Im; bytes = im-again } ∷ againFrom 0 header members
@@ -234,8 +234,8 @@ module _ (f : List ℕ) (t : Totals) (g : Grammar f t) where
   rules : TrailerRules (headerOf im) t ef
   rules = subst (λ (u : Totals). TrailerRules (headerOf im) u ef) (g .totals) (g .right .trailer-rules)
 
-  walk-rules : TrailerRules h (countsTold (countsAt behind (suc (0 + length before)) Ef)) ef
-  walk-rules = trailer-rules (asks h behind (codeBehind [] before) (suc (0 + length before)) Ef) ef .0 (closing .keeps)
+  walk-rules : TrailerRules h (countsTold (countsAt after (suc (0 + length before)) Ef)) ef
+  walk-rules = trailer-rules (asks h after (codeAfter [] before) (suc (0 + length before)) Ef) ef .0 (closing .keeps)
 
   counted-so : Counted t
   counted-so =
@@ -246,10 +246,10 @@ module _ (f : List ℕ) (t : Totals) (g : Grammar f t) where
         records = said-below 7 (t .records) (field 83 89 ef) (size 82 7 (omega arith)) (rules .records-said);
       }
 
-  dispositions-so : behind .dispositions ≡ t .dispositions
+  dispositions-so : after .dispositions ≡ t .dispositions
   dispositions-so = omega (arith, rules .dispositions-said .1, walk-rules .dispositions-said .1)
 
-  cents-so : behind .cents ≡ t .cents
+  cents-so : after .cents ≡ t .cents
   cents-so = omega (arith, rules .cents-said .1, walk-rules .cents-said .1)
 
   pub items-so : suc (length own) ≡ t .records
@@ -258,10 +258,10 @@ module _ (f : List ℕ) (t : Totals) (g : Grammar f t) where
   -- the list is accepted with the same numbers
   own-judged : judgeItems own ≡ accepted t
   own-judged =
-      let state : stateBehind start again ≡ behind = members-again .state in
-      let may : mayClose (permitted (behind .place .due)) ≡ true = close-tested (permitted (behind .place .due)) (closing .may) in
+      let state : stateAfter start again ≡ after = members-again .state in
+      let may : mayClose (permitted (after .place .due)) ≡ true = close-tested (permitted (after .place .due)) (closing .may) in
       let cents = counted-so .cents in
-      let small : leb (behind .cents) mostCents ≡ true = le-leb (behind .cents) mostCents (omega (arith, cents-so)) in
+      let small : leb (after .cents) mostCents ≡ true = le-leb (after .cents) mostCents (omega (arith, cents-so)) in
       right-judged own own-proper-all right-items
       ∙ ap (λ (w : Walk). closed w (length own)) state
       ∙ rw (may, small) (λ i. accepted (record { dispositions = dispositions-so i; cents = cents-so i; records = items-so i }))
@@ -276,10 +276,10 @@ module _ (f : List ℕ) (t : Totals) (g : Grammar f t) where
       fitting-judged (listOf f) room own (record { said = own-read ∙ ap items own-list-items; few = omega arith; roomy = omega arith }) ∙ own-judged
 
   -- and encodes records like the flow's
-  pub own-sums : totalsOf own ≡ t
+  pub own-sums : listTotals own ≡ t
   own-sums =
       let sums = right-sums own own-proper-all right-items in
-      let state : stateBehind start again ≡ behind = members-again .state in
+      let state : stateAfter start again ≡ after = members-again .state in
       let count = sym (sums .0) ∙ ap (λ (w : Walk). w .dispositions) state ∙ dispositions-so in
       let cents = sym (sums .1) ∙ ap (λ (w : Walk). w .cents) state ∙ cents-so in
       λ i. record { dispositions = count i; cents = cents i; records = items-so i }
@@ -288,7 +288,7 @@ module _ (f : List ℕ) (t : Totals) (g : Grammar f t) where
   unfolding lastHeader
   trailer-so =
       let kinds : kindsIn (map ownItem members) ≡ kindsOf members = own-kinds members (not-last .1) in
-      let stays : lastHeader header (map ownItem members) ≡ header = header-stays header (map ownItem members) (subst (All (λ (k : Kind). heads k ≡ false)) (sym kinds) later) in
+      let stays : lastHeader header (map ownItem members) ≡ header = header-stays header (map ownItem members) (subst (All (λ (k : RecordKind). heads k ≡ false)) (sym kinds) later) in
       λ i. encodeTrailer (stays i) (own-sums i)
 
   trailer-alike : Alike (checked Ef) ef (trailerFor own)
@@ -299,7 +299,7 @@ module _ (f : List ℕ) (t : Totals) (g : Grammar f t) where
   all-like : Like (before ++ last) (recordsFor own ++ (trailerFor own ∷ []))
   all-like = like-append before last (recordsFor own) (trailerFor own ∷ []) (subst (Like before) again-records (im-alike, members-again .like)) (trailer-alike, tt)
 
-  pub encoding-like : (i : ℕ) (k : Kind) → i < t .records → length f ≡ 120 * t .records → field 2 3 (recordAt i f) ≡ typeOf k → Alike (checked k) (recordAt i f) (recordAt i (encode own))
+  pub encoding-like : (i : ℕ) (k : RecordKind) → i < t .records → length f ≡ 120 * t .records → field 2 3 (recordAt i f) ≡ typeOf k → Alike (checked k) (recordAt i f) (recordAt i (encode own))
   encoding-like i k small size type =
       let count : length f / 120 ≡ t .records = omega arith in
       let size-again = encode-length own own-proper-all in
@@ -350,5 +350,5 @@ unchecked-only f t e =
     let size = records-length f t e in
     let same = own-list-items f t g in
     let number = items-so f t g in
-    subst (λ (is : List Item). (length (encode is) ≡ length f) × (listOf (encode is) ≡ listBytes is) × ((i : ℕ) (k : Kind) → i < t .records → field 2 3 (recordAt i f) ≡ typeOf k → Alike (checked k) (recordAt i f) (recordAt i (encode is)))) (sym same)
+    subst (λ (is : List Item). (length (encode is) ≡ length f) × (listOf (encode is) ≡ listBytes is) × ((i : ℕ) (k : RecordKind) → i < t .records → field 2 3 (recordAt i f) ≡ typeOf k → Alike (checked k) (recordAt i f) (recordAt i (encode is)))) (sym same)
     (omega (arith, encode-length (own f t g) (own-proper-all f t g)), ap listBytes (encode-items (own f t g) (own-proper-all f t g)), λ i k small type. encoding-like f t g i k small size type)

@@ -88,7 +88,7 @@ span-within k i h =
     let counted : i < length (fourOf (carried k)) = rw four-count h in
     subst (λ (s : Span). Within s) (span-at k i h) (all-getD Within (fourOf (carried k)) i (1 to 0) counted (four-within k))
 
--- the spans that are left behind i: this one and then the others, and none behind the fourth
+-- the spans that are left after i: this one and then the others, and none after the fourth
 pub four-next : (k : ItemKind) (i : ℕ) → i < 4 → drop i (fourOf (carried k)) ≡ spanAt (boundsOf k) i ∷ drop (i + 1) (fourOf (carried k))
 four-next k i h =
     let counted : i < length (fourOf (carried k)) = rw four-count h in
@@ -101,7 +101,7 @@ four-end k i h = let counted : length (fourOf (carried k)) ≤ i = rw four-count
 pub four-padded : (k : ItemKind) → fourOf (carried k) ≡ carried k ++ replicate (4 - length (carried k)) (1 to 0)
 four-padded = each-item (λ (k : ItemKind). fourOf (carried k) ≡ carried k ++ replicate (4 - length (carried k)) (1 to 0)) (refl, (refl, (refl, (refl, (refl, (refl, (refl, (refl, (refl, (refl, tt))))))))))
 
--- spans one behind the other
+-- spans one after the other
 abbrev pub Rising : List Span → Type 0
 Rising [] = Unit
 Rising (s ∷ ss) = All (λ (t : Span). lastOf s ≤ firstOf t - 1) ss × Rising ss
@@ -130,9 +130,9 @@ pub carried-rising : (k : ItemKind) → Rising (carried k)
 carried-rising k = rising-so (carried k) (each-item (λ (k : ItemKind). is-rising (carried k) ≡ true) (refl, (refl, (refl, (refl, (refl, (refl, (refl, (refl, (refl, (refl, tt)))))))))) k)
 
 -- no kind carries position 3 or one before it
-pub carried-behind : (k : ItemKind) → All (λ (t : Span). 3 ≤ firstOf t - 1) (carried k)
-carried-behind k = from-so 3 (carried k) (each-item (λ (k : ItemKind). all-from 3 (carried k) ≡ true) (refl, (refl, (refl, (refl, (refl, (refl, (refl, (refl, (refl, (refl, tt)))))))))) k)
+pub carried-after : (k : ItemKind) → All (λ (t : Span). 3 ≤ firstOf t - 1) (carried k)
+carried-after k = from-so 3 (carried k) (each-item (λ (k : ItemKind). all-from 3 (carried k) ≡ true) (refl, (refl, (refl, (refl, (refl, (refl, (refl, (refl, (refl, (refl, tt)))))))))) k)
 
 -- nor does one but H carry a position of the number
-pub carried-behind-number : (k : ItemKind) → heads (recordOf k) ≡ false → All (λ (t : Span). 10 ≤ firstOf t - 1) (carried k)
-carried-behind-number k member = from-so 10 (carried k) (each-item (λ (k : ItemKind). heads (recordOf k) ≡ false → all-from 10 (carried k) ≡ true) (λ e. absurd (true≢false e), (λ e. refl, (λ e. refl, (λ e. refl, (λ e. refl, (λ e. refl, (λ e. refl, (λ e. refl, (λ e. refl, (λ e. refl, tt)))))))))) k member)
+pub carried-after-number : (k : ItemKind) → heads (recordOf k) ≡ false → All (λ (t : Span). 10 ≤ firstOf t - 1) (carried k)
+carried-after-number k member = from-so 10 (carried k) (each-item (λ (k : ItemKind). heads (recordOf k) ≡ false → all-from 10 (carried k) ≡ true) (λ e. absurd (true≢false e), (λ e. refl, (λ e. refl, (λ e. refl, (λ e. refl, (λ e. refl, (λ e. refl, (λ e. refl, (λ e. refl, (λ e. refl, tt)))))))))) k member)

@@ -15,10 +15,10 @@ use Rattle.records.specs.Constants.{currency}
 use Rattle.records.specs.Context.{headerOf}
 use Rattle.records.specs.Field.{_to_, width, field}
 use Rattle.records.specs.Kinds.{typeOf, opened}
-use Rattle.records.specs.declared.kind.Kind.the-variants.{Ef}
+use Rattle.records.specs.declared.kind.RecordKind.the-variants.{Ef}
 use Rattle.records.proofs.Checked.{field-within}
-use Rattle.flow.specs.Judge.{totals}
-use Rattle.flow.specs.Steps.{countsAt}
+use Rattle.flow.specs.Judge.{walkTotals}
+use Rattle.flow.specs.Walking.{countsAt}
 use Rattle.flow.specs.declared.answer.Totals.{Totals}
 use Rattle.flow.specs.declared.walk.Walk.{Walk}
 use Rattle.grammar.specs.Rules.{Says, Printable, Formed, TrailerRules}
@@ -88,7 +88,7 @@ module _ (im header : List ℕ) (meant : Meant im header) (t : Totals) where
 
   -- so it is right where EF may come and the walk has counted as it says
   pub trailer-right :
-      Counted t → (w : Walk) (company : List ℕ) (i : ℕ) → May w Ef → totals w i ≡ t → RightAt (headerOf im) w company i Ef trailer
+      Counted t → (w : Walk) (company : List ℕ) (i : ℕ) → May w Ef → walkTotals w i ≡ t → RightAt (headerOf im) w company i Ef trailer
   trailer-right counted w company i may same =
       let none : w .dispositions ≡ w .dispositions + opened Ef = omega arith in
       let told : t ≡ countsTold (countsAt w i Ef) = sym same ∙ (λ j. record { dispositions = none j; cents = w .cents; records = i }) in

@@ -14,20 +14,20 @@ use Rattle.fields.proofs.Decimal.{written-read-fits}
 use Rattle.records.specs.Checks.{checks}
 use Rattle.records.specs.Context.{Context}
 use Rattle.records.specs.Field.{field}
-use Rattle.records.specs.Finding.{Check, check, FirstBroken}
+use Rattle.records.specs.RecordVerdict.{Check, check, FirstBroken}
 use Rattle.records.specs.Kinds.{typeOf, heads, opened, closes, isOpening}
-use Rattle.records.specs.declared.kind.Kind.{Kind}
+use Rattle.records.specs.declared.kind.RecordKind.{RecordKind}
 use Rattle.records.proofs.ByKind.{types-differ}
 use Rattle.records.proofs.EachKind.{each-kind}
 use Rattle.flow.specs.Records.{recordsOf}
-use Rattle.flow.specs.Sums.{dispositionsOf}
+use Rattle.flow.specs.ExactTotals.{openingCount}
 use Rattle.flow.specs.Verdict.{refusal}
 use Rattle.flow.specs.declared.answer.Refusal.{Refusal}
 use Rattle.flow.proofs.Cut.{joined-records}
 use Rattle.flow.proofs.Reading.{one-at-most}
-use Rattle.grammar.specs.Fault.{contextBehind, bad-byte, wrong-type, broken, FaultBehind, FirstFault, wrong-length, in-record, still-due}
+use Rattle.grammar.specs.Fault.{contextAfter, bad-byte, wrong-type, broken, FaultAfter, FirstFault, wrong-length, in-record, still-due}
 use Rattle.grammar.proofs.FirstFault.{first-fault-exact}
-use Rattle.list.specs.Encode.{headerBehind, encodeItem, encodeFrom, recordsFor}
+use Rattle.list.specs.Encode.{headerAfter, encodeItem, encodeFrom, recordsFor}
 use Rattle.list.specs.Items.{Item, recordKind, Proper}
 use Rattle.list.specs.Laws.{WriteFault, no-item, too-many, no-room, no-trailer, too-much, NumbersSupplied}
 use Rattle.list.specs.Laws.{in-record as Write·in-record}
@@ -40,21 +40,21 @@ use Rattle.list.proofs.WriteRefused.{write-refused}
 
 -- what the writer supplies to a record, where so many dispositions are counted up to and with it: a kind other than EF's and, in a
 -- disposition, their number
-pub record Supplied (rec : List ℕ) (k : Kind) (count : ℕ) : Type 0 where
+pub record Supplied (rec : List ℕ) (k : RecordKind) (count : ℕ) : Type 0 where
   pub not-ef : closes k ≡ false
   pub numbered : heads k ≡ false → number (field 4 10 rec) ≡ count
 
 encoded-supplied :
-    (n : ℕ) (header : List ℕ) (is : List Item) → All Proper is → n + length is < 10 ^ 7 → (before : List (List ℕ)) (rec : List ℕ) (behind : List (List ℕ)) → encodeFrom n header is ≡ before ++ (rec ∷ behind)
-    → (k : Kind) → field 2 3 rec ≡ typeOf k → Supplied rec k (n + (dispositionsOf before + opened k))
-unfolding encodeFrom dispositionsOf
-encoded-supplied n header [] proper few [] rec behind same k type = absurd (nil≢cons same)
-encoded-supplied n header [] proper few (b ∷ before) rec behind same k type = absurd (nil≢cons same)
-encoded-supplied n header (it ∷ is) proper few [] rec behind same k type =
+    (n : ℕ) (header : List ℕ) (is : List Item) → All Proper is → n + length is < 10 ^ 7 → (before : List (List ℕ)) (rec : List ℕ) (after : List (List ℕ)) → encodeFrom n header is ≡ before ++ (rec ∷ after)
+    → (k : RecordKind) → field 2 3 rec ≡ typeOf k → Supplied rec k (n + (openingCount before + opened k))
+unfolding encodeFrom openingCount
+encoded-supplied n header [] proper few [] rec after same k type = absurd (nil≢cons same)
+encoded-supplied n header [] proper few (b ∷ before) rec after same k type = absurd (nil≢cons same)
+encoded-supplied n header (it ∷ is) proper few [] rec after same k type =
     let own : encodeItem (n + opened (recordKind it)) header it ≡ rec = head-eq-of-cons-eq same in
     let kind : recordKind it ≡ k = types-differ (recordKind it) k (sym (encoded-type _ header it (proper .0)) ∙ ap (field 2 3) own ∙ type) in
     let small : n + opened (recordKind it) < 10 ^ 7 = omega (arith, one-at-most (recordKind it)) in
-    let count : n + opened (recordKind it) ≡ n + (0 + opened k) = ap (λ (l : Kind). n + opened l) kind ∙ omega arith in
+    let count : n + opened (recordKind it) ≡ n + (0 + opened k) = ap (λ (l : RecordKind). n + opened l) kind ∙ omega arith in
     record {
       not-ef = sym (ap closes kind) ∙ item-open (it .kind);
       numbered = λ member. ap (λ (l : List ℕ). number (field 4 10 l)) (sym own)
@@ -62,31 +62,31 @@ encoded-supplied n header (it ∷ is) proper few [] rec behind same k type =
           ∙ written-read-fits 7 (n + opened (recordKind it)) small
           ∙ count;
     }
-encoded-supplied n header (it ∷ is) proper few (b ∷ before) rec behind same k type =
+encoded-supplied n header (it ∷ is) proper few (b ∷ before) rec after same k type =
     let m = n + opened (recordKind it) in
     let own : encodeItem m header it ≡ b = head-eq-of-cons-eq same in
     let opens-so : cond (isOpening b) 1 0 ≡ opened (recordKind it) = ap (λ (l : List ℕ). cond (isOpening l) 1 0) (sym own) ∙ ap (λ (t : Bool). cond t 1 0) (encoded-opens m header it (proper .0)) in
-    let rest = encoded-supplied m (headerBehind header it) is (proper .1) (omega (arith, one-at-most (recordKind it))) before rec behind (tail-eq-of-cons-eq same) k type in
+    let rest = encoded-supplied m (headerAfter header it) is (proper .1) (omega (arith, one-at-most (recordKind it))) before rec after (tail-eq-of-cons-eq same) k type in
     record { not-ef = rest .not-ef; numbered = λ member. rest .numbered member ∙ omega arith }
 
 -- what holds of the numbers of writing itself, of 2 and 3, and of whatever the first check of such a record that fails gives, holds of every
 -- number that a list is refused by
 module _
-    (P : ℕ → Type 0) (bad : P 2) (type : P 3) (rows : (k : Kind) (ctx : Context) (rec : List ℕ) → Supplied rec k (ctx .counts .dispositions) → (n p : ℕ) → FirstBroken (checks k ctx rec) n p → P n)
+    (P : ℕ → Type 0) (bad : P 2) (type : P 3) (rows : (k : RecordKind) (ctx : Context) (rec : List ℕ) → Supplied rec k (ctx .counts .dispositions) → (n p : ℕ) → FirstBroken (checks k ctx rec) n p → P n)
   where
     in-records : (is : List Item) → All Proper is → length is < 10 ^ 7 → {x : Refusal} → FirstFault (front is) x → 1 ≤ x .«record» → x .«record» ≤ length is → P (x .number)
     in-records is proper few (wrong-length wrong) some within = absurd (omega arith)
-    in-records is proper few (in-record before rec behind n p sized same each fault) some within = by fault
+    in-records is proper few (in-record before rec after n p sized same each fault) some within = by fault
       where
-        own : recordsFor is ≡ before ++ (rec ∷ behind)
+        own : recordsFor is ≡ before ++ (rec ∷ after)
         own = sym (joined-records (recordsFor is) (encoded-whole 0 [] is proper)) ∙ same
 
-        by : {n p : ℕ} → FaultBehind (front is) before rec n p → P n
+        by : {n p : ℕ} → FaultAfter (front is) before rec n p → P n
         by (bad-byte bs b cs e all outside) = bad
         by (wrong-type printable none) = type
         by (broken k n p printable of-type permitted first) =
-            let ctx = contextBehind (front is) before k in
-            let so = encoded-supplied 0 [] is proper (omega arith) before rec behind own k of-type in
+            let ctx = contextAfter (front is) before k in
+            let so = encoded-supplied 0 [] is proper (omega arith) before rec after own k of-type in
             rows k ctx rec (record { not-ef = so .not-ef; numbered = λ member. so .numbered member ∙ omega arith }) n p first
     in-records is proper few (still-due sized each none) some within =
         let count : length (recordsOf (front is)) ≡ length is = ap (λ (l : List (List ℕ)). length l) (joined-records (recordsFor is) (encoded-whole 0 [] is proper)) ∙ encoded-count 0 [] is in
@@ -112,16 +112,16 @@ not-by n p [] others t = true≢false (sym (rw (eq-eqb n n refl) at t))
 not-by n p (check holds m q ∷ held) others t = not-by n p held others (and-eq-true-iff (not (eqb m n) || holds) (holdBy n (held ++ (check false n p ∷ others))) .0 t .1)
 
 -- of the checks of a record one refuses by 9, and asks for its number; IM and EF have none
-nine-holds : (ctx : Context) (rec : List ℕ) (k : Kind) → (heads k ≡ false → number (field 4 10 rec) ≡ ctx .counts .dispositions) → holdBy 9 (checks k ctx rec) ≡ true
+nine-holds : (ctx : Context) (rec : List ℕ) (k : RecordKind) → (heads k ≡ false → number (field 4 10 rec) ≡ ctx .counts .dispositions) → holdBy 9 (checks k ctx rec) ≡ true
 unfolding checks
 nine-holds ctx rec =
-    each-kind (λ (k : Kind). (heads k ≡ false → number (field 4 10 rec) ≡ ctx .counts .dispositions) → holdBy 9 (checks k ctx rec) ≡ true)
+    each-kind (λ (k : RecordKind). (heads k ≡ false → number (field 4 10 rec) ≡ ctx .counts .dispositions) → holdBy 9 (checks k ctx rec) ≡ true)
     (λ h. refl, (λ h. due (h refl), (λ h. due (h refl), (λ h. due (h refl), (λ h. due (h refl), (λ h. due (h refl), (λ h. due (h refl), (λ h. due (h refl), (λ h. due (h refl), (λ h. due (h refl), (λ h. refl, tt)))))))))))
   where
     due : number (field 4 10 rec) ≡ ctx .counts .dispositions → (eqb (number (field 4 10 rec)) (ctx .counts .dispositions) && true) ≡ true
     due e = rw (eq-eqb _ _ e)
 
-row-not-nine : (k : Kind) (ctx : Context) (rec : List ℕ) → Supplied rec k (ctx .counts .dispositions) → (n p : ℕ) → FirstBroken (checks k ctx rec) n p → ¬ (n ≡ 9)
+row-not-nine : (k : RecordKind) (ctx : Context) (rec : List ℕ) → Supplied rec k (ctx .counts .dispositions) → (n p : ℕ) → FirstBroken (checks k ctx rec) n p → ¬ (n ≡ 9)
 row-not-nine k ctx rec so n p (held, others, row, h) nine =
     not-by 9 p held others (subst (λ (cs : List Check). holdBy 9 cs ≡ true) (row ∙ ap (λ (m : ℕ). held ++ (check false m p ∷ others)) nine) (nine-holds ctx rec k (so .numbered)))
 

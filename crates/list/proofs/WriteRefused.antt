@@ -10,11 +10,11 @@ use lib.ListN.{length, length-append}
 use borrow.Author.Tests.{leb-true, leb-false, le-leb, lt-leb}
 use Rattle.sequences.specs.All.{All}
 use Rattle.records.specs.Limits.{mostCents, mostRecords}
-use Rattle.records.specs.declared.kind.Kind.the-variants.{Ef}
-use Rattle.flow.specs.Judge.{totals, ended, judge}
+use Rattle.records.specs.declared.kind.RecordKind.the-variants.{Ef}
+use Rattle.flow.specs.Judge.{walkTotals, ended, judge}
 use Rattle.flow.specs.Order.{permitted, isDue, mayClose}
 use Rattle.flow.specs.Records.{RightLength}
-use Rattle.flow.specs.Steps.{start}
+use Rattle.flow.specs.Walking.{start}
 use Rattle.flow.specs.Verdict.{Verdict, accepted, refused, refusal, ofCall}
 use Rattle.flow.specs.declared.answer.Refusal.{Refusal}
 use Rattle.flow.specs.declared.answer.Totals.{Totals}
@@ -22,9 +22,9 @@ use Rattle.flow.proofs.Accepted.{accepted-not-refused, refused-same}
 use Rattle.flow.proofs.Cut.{flatten-length, joined-records}
 use Rattle.grammar.specs.Fault.{MayFollow, EachRight}
 use Rattle.grammar.specs.Grammar.{recordsIn}
-use Rattle.grammar.proofs.Behind.{may-follow, follows-may, walked-of, each-of}
+use Rattle.grammar.proofs.ContextAfter.{may-follow, follows-may, walked-of, each-of}
 use Rattle.grammar.proofs.FirstFault.{judgeFrom, judged, ends-so, stops-so}
-use Rattle.grammar.proofs.Walked.{stateBehind}
+use Rattle.grammar.proofs.Walked.{stateAfter}
 use Rattle.list.specs.Encode.{recordsFor}
 use Rattle.list.specs.Items.{Item, Proper, Parsed, items, faulty, parse}
 use Rattle.list.specs.Laws.{Fitting, WriteFault, no-item, too-many, no-room, in-record, no-trailer, too-much, WriteRefused, WriteAccepts, WriteAccepted}
@@ -63,38 +63,38 @@ module _ (is : List Item) (proper : All Proper is) (few : suc (length is) ≤ mo
   right-read : (r : RightItems is) {x : Refusal} → judge (front is) ≡ refused x → 1 ≤ x .«record» → x .«record» ≤ length is → ⊥
   right-read r {x} e some within =
       let all = typed-count is (r .typed) (r .same) in
-      by (isDue (permitted (stateBehind start (r .typed) .place .due))) all (sym (front-judged (omega arith) ∙ ap (judgeFrom (front is)) (sym (r .same)) ∙ ends-so ended (front is) (r .typed) (r .walked)) ∙ e)
+      by (isDue (permitted (stateAfter start (r .typed) .place .due))) all (sym (front-judged (omega arith) ∙ ap (judgeFrom (front is)) (sym (r .same)) ∙ ends-so ended (front is) (r .typed) (r .walked)) ∙ e)
     where
-      by : (b : Bool) → length (r .typed) ≡ length is → cond b (refused (refusal 4 (suc (length (r .typed))) 0)) (accepted (totals (stateBehind start (r .typed)) (length (r .typed)))) ≡ refused x → ⊥
+      by : (b : Bool) → length (r .typed) ≡ length is → cond b (refused (refusal 4 (suc (length (r .typed))) 0)) (accepted (walkTotals (stateAfter start (r .typed)) (length (r .typed)))) ≡ refused x → ⊥
       by true all e = omega (arith, ap (λ (y : Refusal). y .«record») (refused-same e))
       by false all e = accepted-not-refused (sym e)
 
 -- whether EF may follow right records, as the walk tests it and as it is said
 abbrev may : {is : List Item} → RightItems is → Bool
-may q = mayClose (permitted (stateBehind start (q .typed) .place .due))
+may q = mayClose (permitted (stateAfter start (q .typed) .place .due))
 
 trailer-follows : (is : List Item) (q : RightItems is) → (may q ≡ true) ↔ MayFollow (recordsFor is) Ef
 trailer-follows is q =
-    let due = permitted (stateBehind start (q .typed) .place .due) in (
+    let due = permitted (stateAfter start (q .typed) .place .due) in (
       λ t. subst (λ (recs : List (List ℕ)). MayFollow recs Ef) (q .same) (may-follow (front is) (q .typed) (q .walked) Ef (close-said due t)),
       λ follows. close-tested due (follows-may (front is) (q .typed) (q .walked) Ef (subst (λ (recs : List (List ℕ)). MayFollow recs Ef) (sym (q .same)) follows)),
     )
 
 -- from the answer to document 01's sentence
 module _ (list : List ℕ) (room : ℕ) (x : Refusal) where
-  at-end : (is : List Item) → Fitting list room is → (proper : All Proper is) (q : RightItems is) → closed (stateBehind start (q .typed)) (length is) ≡ refused x → WriteFault list room x
-  at-end is fits proper q = by (may q) (leb (stateBehind start (q .typed) .cents) mostCents) refl refl
+  at-end : (is : List Item) → Fitting list room is → (proper : All Proper is) (q : RightItems is) → closed (stateAfter start (q .typed)) (length is) ≡ refused x → WriteFault list room x
+  at-end is fits proper q = by (may q) (leb (stateAfter start (q .typed) .cents) mostCents) refl refl
     where
       each : EachRight (front is) (recordsFor is)
       each = subst (EachRight (front is)) (q .same) (each-of (front is) (q .typed) (q .walked))
 
       by :
-          (a b : Bool) → may q ≡ a → leb (stateBehind start (q .typed) .cents) mostCents ≡ b
-          → cond a (cond b (accepted (totals (stateBehind start (q .typed)) (suc (length is)))) (refused (ofCall 17))) (refused (refusal 3 (suc (length is)) 2)) ≡ refused x
+          (a b : Bool) → may q ≡ a → leb (stateAfter start (q .typed) .cents) mostCents ≡ b
+          → cond a (cond b (accepted (walkTotals (stateAfter start (q .typed)) (suc (length is)))) (refused (ofCall 17))) (refused (refusal 3 (suc (length is)) 2)) ≡ refused x
           → WriteFault list room x
       by true true e f y = absurd (accepted-not-refused (sym y))
       by true false e f y =
-          renamed y (too-much is fits each (trailer-follows is q .0 e) (omega (arith, leb-false (stateBehind start (q .typed) .cents) mostCents f, right-sums is proper q .1)))
+          renamed y (too-much is fits each (trailer-follows is q .0 e) (omega (arith, leb-false (stateAfter start (q .typed) .cents) mostCents f, right-sums is proper q .1)))
       by false b e f y = renamed y (no-trailer is fits each (λ follows. true≢false (sym (trailer-follows is q .1 follows) ∙ e)))
 
   at-records : (is : List Item) → Fitting list room is → judgeItems is ≡ refused x → WriteFault list room x
@@ -162,7 +162,7 @@ fault-refuses list room x (too-much is fits each follows much) =
     let proper = items-exact list is .0 (fits .said) .1 in
     let q = right-of is proper each in
     let due : may q ≡ true = trailer-follows is q .1 follows in
-    let over : leb (stateBehind start (q .typed) .cents) mostCents ≡ false = lt-leb (stateBehind start (q .typed) .cents) mostCents (omega (arith, right-sums is proper q .1)) in
+    let over : leb (stateAfter start (q .typed) .cents) mostCents ≡ false = lt-leb (stateAfter start (q .typed) .cents) mostCents (omega (arith, right-sums is proper q .1)) in
     fitting-judged list room is fits ∙ right-judged is proper q ∙ rw (due, over)
 
 pub write-refused : WriteRefused
@@ -193,5 +193,5 @@ write-accepted list room t = (accepted-so, so-accepted)
         let q = right-of is proper (a .right) in
         let sums = right-sums is proper q in
         let due : may q ≡ true = trailer-follows is q .1 (a .follows) in
-        let small : leb (stateBehind start (q .typed) .cents) mostCents ≡ true = le-leb (stateBehind start (q .typed) .cents) mostCents (omega (arith, sums .1, a .small)) in
+        let small : leb (stateAfter start (q .typed) .cents) mostCents ≡ true = le-leb (stateAfter start (q .typed) .cents) mostCents (omega (arith, sums .1, a .small)) in
         fitting-judged list room is (a .fits) ∙ right-judged is proper q ∙ rw (due, small) (ap accepted ((λ i. record { dispositions = sums .0 i; cents = sums .1 i; records = suc (length is) }) ∙ a .totals))

@@ -15,15 +15,15 @@ use Rattle.records.specs.Checks.{checks}
 use Rattle.records.specs.Constants.{currency}
 use Rattle.records.specs.Context.{headerOf}
 use Rattle.records.specs.Field.{_to_, field}
-use Rattle.records.specs.Finding.{Hold}
+use Rattle.records.specs.RecordVerdict.{Hold}
 use Rattle.records.specs.Kinds.{heads, opened}
 use Rattle.records.specs.Limits.{mostCents, mostRecords}
-use Rattle.records.specs.declared.kind.Kind.{Kind}
-use Rattle.records.specs.declared.kind.Kind.the-variants.{Im, Ef}
-use Rattle.flow.specs.Judge.{totals, ended, judge}
-use Rattle.flow.specs.Order.{permitted, mayClose, place}
+use Rattle.records.specs.declared.kind.RecordKind.{RecordKind}
+use Rattle.records.specs.declared.kind.RecordKind.the-variants.{Im, Ef}
+use Rattle.flow.specs.Judge.{walkTotals, ended, judge}
+use Rattle.flow.specs.Order.{permitted, mayClose, placeDue}
 use Rattle.flow.specs.Records.{RightLength}
-use Rattle.flow.specs.Steps.{start}
+use Rattle.flow.specs.Walking.{start}
 use Rattle.flow.specs.Verdict.{accepted, refused, refusal, ofCall}
 use Rattle.flow.specs.declared.answer.Totals.{Totals}
 use Rattle.flow.specs.declared.order.Due.the-variants.{OnlyIm}
@@ -33,12 +33,12 @@ use Rattle.flow.proofs.Reading.{one-at-most}
 use Rattle.grammar.specs.Grammar.{Typed, recordsIn}
 use Rattle.grammar.specs.Rules.{Printable}
 use Rattle.grammar.proofs.AtPlace.{RightAt, asks}
-use Rattle.grammar.proofs.Behind.{FromStart}
+use Rattle.grammar.proofs.ContextAfter.{FromStart}
 use Rattle.grammar.proofs.FirstFault.{judgeFrom, judged, ends-so}
 use Rattle.grammar.proofs.Order.{Allowed, header-only-first}
 use Rattle.grammar.proofs.Rules.{header-rules}
-use Rattle.grammar.proofs.Walked.{Walked, stateBehind, codeBehind, walked-append, walked-allowed, state-append}
-use Rattle.list.specs.Encode.{carriedAt, lastHeader, dispositionsOf, centsOf, totalsOf, encodeItem, encodeFrom, recordsFor, trailerFor, encode}
+use Rattle.grammar.proofs.Walked.{Walked, stateAfter, codeAfter, walked-append, walked-allowed, state-append}
+use Rattle.list.specs.Encode.{carriedAt, lastHeader, listDispositions, listCents, listTotals, encodeItem, encodeFrom, recordsFor, trailerFor, encode}
 use Rattle.list.specs.Items.{Item, recordKind, Proper, listBytes, Parsed, items, faulty, parse, itemsOr, itemsIn}
 use Rattle.list.specs.Laws.{Fitting, WrittenExact}
 use Rattle.list.specs.ReadBack.{listOf, Canonical}
@@ -53,21 +53,21 @@ use Rattle.list.proofs.Judging.{front, RightItems, FaultyItems, view-it
 use Rattle.list.proofs.ListItems.{items-exact}
 use Rattle.list.proofs.Trailer.{Meant, Counted, trailer-right}
 
--- what was accepted behind the items
-pub closed-so : (w : Walk) (i : ℕ) {t : Totals} → closed w i ≡ accepted t → (mayClose (permitted (w .place .due)) ≡ true) × (w .cents ≤ mostCents) × (totals w (suc i) ≡ t)
+-- what was accepted after the items
+pub closed-so : (w : Walk) (i : ℕ) {t : Totals} → closed w i ≡ accepted t → (mayClose (permitted (w .place .due)) ≡ true) × (w .cents ≤ mostCents) × (walkTotals w (suc i) ≡ t)
 closed-so w i {t} = by (mayClose (permitted (w .place .due))) (leb (w .cents) mostCents) refl refl
   where
     by :
         (a b : Bool) → mayClose (permitted (w .place .due)) ≡ a → leb (w .cents) mostCents ≡ b
-        → cond a (cond b (accepted (totals w (suc i))) (refused (ofCall 17))) (refused (refusal 3 (suc i) 2)) ≡ accepted t
-        → (mayClose (permitted (w .place .due)) ≡ true) × (w .cents ≤ mostCents) × (totals w (suc i) ≡ t)
+        → cond a (cond b (accepted (walkTotals w (suc i))) (refused (ofCall 17))) (refused (refusal 3 (suc i) 2)) ≡ accepted t
+        → (mayClose (permitted (w .place .due)) ≡ true) × (w .cents ≤ mostCents) × (walkTotals w (suc i) ≡ t)
     by true true e f x = (e, leb-true (w .cents) mostCents f, accepted-same x)
     by true false e f x = absurd (accepted-not-refused x)
     by false b e f x = absurd (accepted-not-refused x)
 
 -- no more dispositions than items
-pub few-dispositions : (is : List Item) → dispositionsOf is ≤ length is
-unfolding dispositionsOf
+pub few-dispositions : (is : List Item) → listDispositions is ≤ length is
+unfolding listDispositions
 few-dispositions [] = omega arith
 few-dispositions (it ∷ is) = omega (arith, one-at-most (recordKind it), few-dispositions is)
 
@@ -79,8 +79,8 @@ module _ (it : Item) (others : List Item) (proper : All Proper (it ∷ others)) 
   abbrev im : List ℕ
   im = encodeItem (0 + opened (recordKind it)) [] it
 
-  abbrev behind : Walk
-  behind = stateBehind start (r .typed)
+  abbrev after : Walk
+  after = stateAfter start (r .typed)
 
   im-whole : length im ≡ 120
   im-whole = encoded-length (0 + opened (recordKind it)) [] it (proper .0)
@@ -94,12 +94,12 @@ module _ (it : Item) (others : List Item) (proper : All Proper (it ∷ others)) 
   first-of-all = take-at im _ 120 im-whole
 
   -- the first item is the only H
-  kinds : (recordKind it ≡ Im) × All (λ (k : Kind). heads k ≡ false) (kindsIn others)
-  kinds = header-only-first (recordKind it) (kindsIn others) (subst (Allowed (place OnlyIm)) (sym (right-kinds all proper r)) (walked-allowed (headerOf (take 120 (front all))) start [] 0 (r .typed) (r .walked)))
+  kinds : (recordKind it ≡ Im) × All (λ (k : RecordKind). heads k ≡ false) (kindsIn others)
+  kinds = header-only-first (recordKind it) (kindsIn others) (subst (Allowed (placeDue OnlyIm)) (sym (right-kinds all proper r)) (walked-allowed (headerOf (take 120 (front all))) start [] 0 (r .typed) (r .walked)))
 
   pub header-meant : lastHeader [] all ≡ it .body
   unfolding lastHeader
-  header-meant = ap (λ (k : Kind). lastHeader (cond (heads k) (it .body) []) others) (kinds .0) ∙ header-stays (it .body) others (kinds .1)
+  header-meant = ap (λ (k : RecordKind). lastHeader (cond (heads k) (it .body) []) others) (kinds .0) ∙ header-stays (it .body) others (kinds .1)
 
   -- its record is a right header
   first-right : (rs : List Typed) → recordsIn rs ≡ recordsFor all → FromStart (front all) rs → All Printable im × (field 114 114 im ≡ currency)
@@ -108,7 +108,7 @@ module _ (it : Item) (others : List Item) (proper : All Proper (it ∷ others)) 
   first-right (t ∷ ts) same walked =
       let bytes : t .bytes ≡ im = head-eq-of-cons-eq same in
       let kind : t .kind ≡ Im = ⊎-elim (λ (e : t .kind ≡ Im). e) (λ (none : ⊥). absurd none) (walked .0 .may) in
-      let keeps : Hold (checks Im (asks (headerOf (take 120 (front all))) start [] 1 Im) (t .bytes)) = subst (λ (k : Kind). Hold (checks k (asks (headerOf (take 120 (front all))) start [] 1 k) (t .bytes))) kind (walked .0 .keeps) in
+      let keeps : Hold (checks Im (asks (headerOf (take 120 (front all))) start [] 1 Im) (t .bytes)) = subst (λ (k : RecordKind). Hold (checks k (asks (headerOf (take 120 (front all))) start [] 1 k) (t .bytes))) kind (walked .0 .keeps) in
       (subst (All Printable) bytes (walked .0 .formed .printable), ap (field 114 114) (sym bytes) ∙ header-rules (asks (headerOf (take 120 (front all))) start [] 1 Im) (t .bytes) .0 keeps .currency-code)
 
   meant : Meant im (lastHeader [] all)
@@ -119,8 +119,8 @@ module _ (it : Item) (others : List Item) (proper : All Proper (it ∷ others)) 
       encoded-at (0 + opened (recordKind it)) [] it (proper .0) a e (subst (λ (k : ItemKind). inOne (carried k) a e ≡ true) (sym kind) inside) ∙ ap (λ (k : ItemKind). carriedAt k (a to e) (it .body)) kind in
       subst (Meant im) (sym header-meant) (record { sized = proper .0 .sized ∙ ap bodyLength kind; carries = carries; printable = first .0; code = first .1 })
 
-  -- with EF behind them they are a flow
-  pub encode-accepted : mayClose (permitted (behind .place .due)) ≡ true → suc (length all) ≤ mostRecords → centsOf all ≤ mostCents → judge (encode all) ≡ accepted (totalsOf all)
+  -- with EF after them they are a flow
+  pub encode-accepted : mayClose (permitted (after .place .due)) ≡ true → suc (length all) ≤ mostRecords → listCents all ≤ mostCents → judge (encode all) ≡ accepted (listTotals all)
   encode-accepted may few small =
       let tr = trailerFor all in
       let last : List Typed = record { kind = Ef; bytes = tr } ∷ [] in
@@ -129,14 +129,14 @@ module _ (it : Item) (others : List Item) (proper : All Proper (it ∷ others)) 
       let sums = right-sums all proper r in
       let count : length (r .typed) ≡ length all = typed-count all (r .typed) (r .same) in
       let ended-at : suc (0 + length (r .typed)) ≡ suc (length all) = omega arith in
-      let counted : Counted (totalsOf all) = record { dispositions = omega (arith, few-dispositions all); cents = omega arith; records = omega arith } in
-      let closing : RightAt (headerOf im) behind (codeBehind [] (r .typed)) (suc (0 + length (r .typed))) Ef tr = trailer-right im (lastHeader [] all) meant (totalsOf all) counted behind (codeBehind [] (r .typed)) (suc (0 + length (r .typed))) (close-said (permitted (behind .place .due)) may) (λ i. record { dispositions = sums .0 i; cents = sums .1 i; records = ended-at i }) in
+      let counted : Counted (listTotals all) = record { dispositions = omega (arith, few-dispositions all); cents = omega arith; records = omega arith } in
+      let closing : RightAt (headerOf im) after (codeAfter [] (r .typed)) (suc (0 + length (r .typed))) Ef tr = trailer-right im (lastHeader [] all) meant (listTotals all) counted after (codeAfter [] (r .typed)) (suc (0 + length (r .typed))) (close-said (permitted (after .place .due)) may) (λ i. record { dispositions = sums .0 i; cents = sums .1 i; records = ended-at i }) in
       let front-walked : Walked (headerOf im) start [] 0 (r .typed) = subst (λ (l : List ℕ). Walked (headerOf l) start [] 0 (r .typed)) first-of-front (r .walked) in
       let walked : FromStart (encode all) rs = subst (λ (l : List ℕ). Walked (headerOf l) start [] 0 rs) (sym first-of-all) (walked-append (headerOf im) start [] 0 (r .typed) last .1 (front-walked, (closing, tt))) in
       let size = encode-length all proper in
       let sized : RightLength (length (encode all)) = (omega arith, omega arith, omega arith) in
-      let dispositions : behind .dispositions + opened Ef ≡ dispositionsOf all = omega (arith, sums .0) in
-      let cents : behind .cents + 0 ≡ centsOf all = omega (arith, sums .1) in
+      let dispositions : after .dispositions + opened Ef ≡ listDispositions all = omega (arith, sums .0) in
+      let cents : after .cents + 0 ≡ listCents all = omega (arith, sums .1) in
       let records : length rs ≡ suc (length all) = length-append (r .typed) last ∙ omega arith in
       judged (encode all) sized
       ∙ ap (judgeFrom (encode all)) (encode-records all proper ∙ sym same)
@@ -145,17 +145,17 @@ module _ (it : Item) (others : List Item) (proper : All Proper (it ∷ others)) 
       ∙ (λ i. accepted (record { dispositions = dispositions i; cents = cents i; records = records i }))
 
 -- a list of no items has none
-none-closes : (r : RightItems []) → mayClose (permitted (stateBehind start (r .typed) .place .due)) ≡ true → ⊥
+none-closes : (r : RightItems []) → mayClose (permitted (stateAfter start (r .typed) .place .due)) ≡ true → ⊥
 unfolding encodeFrom
 none-closes r = by (r .typed) (r .same)
   where
-    by : (rs : List Typed) → recordsIn rs ≡ [] → mayClose (permitted (stateBehind start rs .place .due)) ≡ true → ⊥
+    by : (rs : List Typed) → recordsIn rs ≡ [] → mayClose (permitted (stateAfter start rs .place .due)) ≡ true → ⊥
     by [] same t = true≢false (sym t)
     by (t ∷ ts) same u = nil≢cons (sym same)
 
 accepted-encoding :
-    (is : List Item) (proper : All Proper is) (r : RightItems is) → mayClose (permitted (stateBehind start (r .typed) .place .due)) ≡ true → suc (length is) ≤ mostRecords → centsOf is ≤ mostCents
-    → judge (encode is) ≡ accepted (totalsOf is)
+    (is : List Item) (proper : All Proper is) (r : RightItems is) → mayClose (permitted (stateAfter start (r .typed) .place .due)) ≡ true → suc (length is) ≤ mostRecords → listCents is ≤ mostCents
+    → judge (encode is) ≡ accepted (listTotals is)
 accepted-encoding [] proper r may few small = absurd (none-closes r may)
 accepted-encoding (it ∷ is) proper r may few small = encode-accepted it is proper r may few small
 
@@ -181,16 +181,16 @@ accepted-list list room t e = by (parse list) refl e
 -- what was accepted of items: each record is right, and the answer is their exact sums
 pub record AcceptedItems (is : List Item) (t : Totals) : Type 0 where
   pub right : RightItems is
-  pub may : mayClose (permitted (stateBehind start (right .typed) .place .due)) ≡ true
-  pub small : centsOf is ≤ mostCents
-  pub told : totalsOf is ≡ t
+  pub may : mayClose (permitted (stateAfter start (right .typed) .place .due)) ≡ true
+  pub small : listCents is ≤ mostCents
+  pub told : listTotals is ≡ t
 
 pub accepted-items : (is : List Item) → All Proper is → (t : Totals) → judgeItems is ≡ accepted t → AcceptedItems is t
 accepted-items is proper t e = by (view-items is proper)
   where
     by : RightItems is ⊎ FaultyItems is → AcceptedItems is t
     by (inl r) =
-        let so = closed-so (stateBehind start (r .typed)) (length is) (sym (right-judged is proper r) ∙ e) in
+        let so = closed-so (stateAfter start (r .typed)) (length is) (sym (right-judged is proper r) ∙ e) in
         let sums = right-sums is proper r in
         record { right = r; may = so .0; small = omega (arith, sums .1, so .1); told = (λ i. record { dispositions = sym (sums .0) i; cents = sym (sums .1) i; records = suc (length is) }) ∙ so .2 }
     by (inr f) = absurd (accepted-not-refused (sym (faulty-judged is proper f) ∙ e))

@@ -10,7 +10,7 @@ use Rattle.records.specs.Amount.{amountSpan}
 use Rattle.records.specs.Constants.{causale, sign, currency}
 use Rattle.records.specs.Field.{Span, _to_, width, firstOf}
 use Rattle.records.specs.Kinds.{typeOf, Role, Heads, Opens, GoesOn, Closes, role, heads, opened}
-use Rattle.records.specs.declared.kind.Kind.the-variants.{Ef}
+use Rattle.records.specs.declared.kind.RecordKind.the-variants.{Ef}
 use Rattle.flow.specs.declared.answer.Totals.{Totals}
 use Rattle.list.specs.Items.{Item, recordKind, isD}
 use Rattle.list.specs.Table.{carried}
@@ -80,21 +80,21 @@ trailerPlaced copied t =
 unfoldable pub encodeTrailer : List ℕ → Totals → List ℕ
 encodeTrailer header t = fill (trailerPlaced (copiedIn header) t) blanks
 
--- the body of the header meant behind an item
-abbrev pub headerBehind : List ℕ → Item → List ℕ
-headerBehind header it = cond (heads (recordKind it)) (it .body) header
+-- the body of the header meant after an item
+abbrev pub headerAfter : List ℕ → Item → List ℕ
+headerAfter header it = cond (heads (recordKind it)) (it .body) header
 
--- the records of items, behind n dispositions and with the header meant
+-- the records of items, after n dispositions and with the header meant
 unfoldable pub encodeFrom : ℕ → List ℕ → List Item → List (List ℕ)
 encodeFrom n header [] = []
 encodeFrom n header (it ∷ is) =
     let number = n + opened (recordKind it) in
-    encodeItem number header it ∷ encodeFrom number (headerBehind header it) is
+    encodeItem number header it ∷ encodeFrom number (headerAfter header it) is
 
--- the header meant behind all of them
+-- the header meant after all of them
 unfoldable pub lastHeader : List ℕ → List Item → List ℕ
 lastHeader header [] = header
-lastHeader header (it ∷ is) = lastHeader (headerBehind header it) is
+lastHeader header (it ∷ is) = lastHeader (headerAfter header it) is
 
 -- the amount of a D, what its 34-46 say: where these begin in its body, and their bytes
 abbrev pub amountIndex : ℕ
@@ -104,27 +104,27 @@ abbrev pub amountCarried : List ℕ → List ℕ
 amountCarried body = carriedAt D amountSpan body
 
 -- the count of D items; and the sum of their amounts
-unfoldable pub dispositionsOf : List Item → ℕ
-dispositionsOf [] = 0
-dispositionsOf (it ∷ is) = opened (recordKind it) + dispositionsOf is
+unfoldable pub listDispositions : List Item → ℕ
+listDispositions [] = 0
+listDispositions (it ∷ is) = opened (recordKind it) + listDispositions is
 
-abbrev pub amountOf : Item → ℕ
-amountOf it = cond (isD it) (number (amountCarried (it .body))) 0
+abbrev pub itemAmount : Item → ℕ
+itemAmount it = cond (isD it) (number (amountCarried (it .body))) 0
 
-unfoldable pub centsOf : List Item → ℕ
-centsOf [] = 0
-centsOf (it ∷ is) = amountOf it + centsOf is
+unfoldable pub listCents : List Item → ℕ
+listCents [] = 0
+listCents (it ∷ is) = itemAmount it + listCents is
 
 -- the totals of the flow that a list encodes: its D items, the sum of their amounts, and its items with EF
-abbrev pub totalsOf : List Item → Totals
-totalsOf is = record { dispositions = dispositionsOf is; cents = centsOf is; records = suc (length is) }
+abbrev pub listTotals : List Item → Totals
+listTotals is = record { dispositions = listDispositions is; cents = listCents is; records = suc (length is) }
 
 -- the records other than EF, and EF
 abbrev pub recordsFor : List Item → List (List ℕ)
 recordsFor is = encodeFrom 0 [] is
 
 abbrev pub trailerFor : List Item → List ℕ
-trailerFor is = encodeTrailer (lastHeader [] is) (totalsOf is)
+trailerFor is = encodeTrailer (lastHeader [] is) (listTotals is)
 
 abbrev pub encode : List Item → List ℕ
 encode is = flatten (recordsFor is ++ (trailerFor is ∷ []))

@@ -45,7 +45,7 @@ twoRentList = flowOf (headerItem ++ (firstItems ++ secondItems))
 abbrev pub oneRentList : List ℕ
 oneRentList = flowOf (headerItem ++ firstItems)
 
-pub record Examples : Type 0 where
+pub record ListExamples : Type 0 where
   -- the table's last column
   pub bodies : map bodyLength rows ≡ 49 ∷ 58 ∷ 27 ∷ 96 ∷ 76 ∷ 110 ∷ 110 ∷ 110 ∷ 110 ∷ 26 ∷ []
   -- document 01, example 1: this EF is what the list encodes; and so is the whole flow

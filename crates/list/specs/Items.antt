@@ -7,7 +7,7 @@ use lib.Dec.{leb}
 use lib.ListN.{length, take}
 use Rattle.records.specs.Kinds.{opens}
 use Rattle.records.specs.Limits.{mostRecords}
-use Rattle.records.specs.declared.kind.Kind.{Kind}
+use Rattle.records.specs.declared.kind.RecordKind.{RecordKind}
 use Rattle.list.specs.declared.count.Count.{Count}
 use Rattle.list.specs.declared.count.Count.the-variants.{Items, Faulty}
 use Rattle.list.specs.Table.{letter, recordOf, bodyLength, rowOf, withRow}
@@ -21,7 +21,7 @@ abbrev pub item : ItemKind → List ℕ → Item
 item k body = record { kind = k; body = body }
 
 -- the kind of the record that an item encodes, and whether it opens a disposition: whether it is a D
-abbrev pub recordKind : Item → Kind
+abbrev pub recordKind : Item → RecordKind
 recordKind it = recordOf (it .kind)
 
 abbrev pub isD : Item → Bool
@@ -43,17 +43,17 @@ pub data Parsed : Type 0 where
   items : List Item → Parsed
   faulty : ℕ → Parsed
 
--- an item, and what the bytes behind it say
-abbrev pub before : Item → Parsed → Parsed
-before it (items is) = items (it ∷ is)
-before it (faulty n) = faulty n
+-- an item, and what the bytes after it say
+abbrev pub withItem : Item → Parsed → Parsed
+withItem it (items is) = items (it ∷ is)
+withItem it (faulty n) = faulty n
 
--- what bytes say that come behind n items and begin with s bytes of the last one's body: an unknown kind or a body cut short is a fault
+-- what bytes say that come after n items and begin with s bytes of the last one's body: an unknown kind or a body cut short is a fault
 unfoldable pub itemsFrom : ℕ → ℕ → List ℕ → Parsed
 itemsFrom n s [] = items []
 itemsFrom n zero (b ∷ bs) =
     withRow (rowOf b)
-    (λ (k : ItemKind). cond (leb (bodyLength k) (length bs)) (before (item k (take (bodyLength k) bs)) (itemsFrom (suc n) (bodyLength k) bs)) (faulty (suc n)))
+    (λ (k : ItemKind). cond (leb (bodyLength k) (length bs)) (withItem (item k (take (bodyLength k) bs)) (itemsFrom (suc n) (bodyLength k) bs)) (faulty (suc n)))
     (faulty (suc n))
 itemsFrom n (suc s) (b ∷ bs) = itemsFrom n s bs
 
@@ -69,9 +69,9 @@ abbrev pub itemsIn : List ℕ → List Item
 itemsIn list = itemsOr (parse list)
 
 -- for the contracts of private functions: how many items there are; and bytes that are a list of no more items than a flow has room for
-abbrev pub counted : Parsed → Count
-counted (items is) = Items (length is)
-counted (faulty n) = Faulty n
+abbrev pub itemCount : Parsed → Count
+itemCount (items is) = Items (length is)
+itemCount (faulty n) = Faulty n
 
 pub record Listed (list : List ℕ) : Type 0 where
   pub said : parse list ≡ items (itemsIn list)

@@ -11,18 +11,18 @@ use Rattle.records.specs.Checked.{checked, Alike}
 use Rattle.records.specs.Field.{field}
 use Rattle.records.specs.Kinds.{typeOf}
 use Rattle.records.specs.Limits.{mostCents, mostRecords}
-use Rattle.records.specs.declared.kind.Kind.{Kind}
-use Rattle.records.specs.declared.kind.Kind.the-variants.{Ef}
+use Rattle.records.specs.declared.kind.RecordKind.{RecordKind}
+use Rattle.records.specs.declared.kind.RecordKind.the-variants.{Ef}
 use Rattle.flow.specs.Judge.{judge}
-use Rattle.flow.specs.Output.{Leaves, LeavesAlone}
+use Rattle.flow.specs.Output.{FilledWith, LeftAlone}
 use Rattle.flow.specs.Records.{recordAt, recordsOf}
 use Rattle.flow.specs.Verdict.{accepted, refused, refusal, ofCall}
 use Rattle.flow.specs.declared.answer.Refusal.{Refusal}
 use Rattle.flow.specs.declared.answer.Totals.{Totals}
 use Rattle.grammar.specs.Fault.{MayFollow, EachRight}
-use Rattle.list.specs.Encode.{centsOf, totalsOf, recordsFor, encode}
+use Rattle.list.specs.Encode.{listCents, listTotals, recordsFor, encode}
 use Rattle.list.specs.Items.{Item, Proper, listBytes, items, faulty, parse, itemsIn}
-use Rattle.list.specs.Output.{outputOf}
+use Rattle.list.specs.Output.{filledOutput}
 use Rattle.list.specs.ReadBack.{gather, itemsOf, listOf, judgeRoom, readBack, Canonical}
 use Rattle.list.specs.Table.{letter, carried, bodyLength, rowIn}
 use Rattle.list.specs.Write.{judgeList, write}
@@ -41,7 +41,7 @@ pub record NoItem (bytes : List ℕ) : Type 0 where
   pub some : bytes ≡ byte ∷ rest
   pub short : (k : ItemKind) → letter k ≡ byte → length rest < bodyLength k
 
--- a list has a fault at item n exactly where items stand before it, and behind them no item
+-- a list has a fault at item n exactly where items stand before it, and after them no item
 pub record FaultyAt (list : List ℕ) (n : ℕ) : Type 0 where
   pub before : List Item
   pub rest : List ℕ
@@ -75,7 +75,7 @@ pub data WriteFault (list : List ℕ) (room : ℕ) : Refusal → Type 0 where
   -- EF may follow, and its digits do not hold the total
   too-much :
       (is : List Item) → Fitting list room is → EachRight (flatten (recordsFor is)) (recordsFor is) → MayFollow (recordsFor is) Ef
-      → mostCents < centsOf is → WriteFault list room (ofCall 17)
+      → mostCents < listCents is → WriteFault list room (ofCall 17)
 
 abbrev pub WriteRefused : Type 0
 WriteRefused = (list : List ℕ) (room : ℕ) (x : Refusal) → (judgeList list room ≡ refused x) ↔ WriteFault list room x
@@ -87,8 +87,8 @@ pub record WriteAccepts (list : List ℕ) (room : ℕ) (t : Totals) : Type 0 whe
   pub fits : Fitting list room these
   pub right : EachRight (flatten (recordsFor these)) (recordsFor these)
   pub follows : MayFollow (recordsFor these) Ef
-  pub small : centsOf these ≤ mostCents
-  pub totals : totalsOf these ≡ t
+  pub small : listCents these ≤ mostCents
+  pub totals : listTotals these ≡ t
 
 abbrev pub WriteAccepted : Type 0
 WriteAccepted = (list : List ℕ) (room : ℕ) (t : Totals) → (judgeList list room ≡ accepted t) ↔ WriteAccepts list room t
@@ -108,8 +108,8 @@ ReadBackAnswers = (f out : List ℕ) → readBack f out .answer ≡ judgeRoom f 
 abbrev pub WriteLeaves : Type 0
 WriteLeaves =
     (list out : List ℕ)
-    → ((t : Totals) → judgeList list (length out) ≡ accepted t → Leaves (write list out) (encode (itemsIn list)) out)
-    × ((x : Refusal) → judgeList list (length out) ≡ refused x → LeavesAlone (write list out) out)
+    → ((t : Totals) → judgeList list (length out) ≡ accepted t → FilledWith (write list out) (encode (itemsIn list)) out)
+    × ((x : Refusal) → judgeList list (length out) ≡ refused x → LeftAlone (write list out) out)
 
 -- what a list that is accepted encodes is a canonical flow that the reader accepts with the same totals, that has its length, and whose
 -- list is the list written
@@ -143,8 +143,8 @@ ReadBackRefused =
 abbrev pub ReadBackLeaves : Type 0
 ReadBackLeaves =
     (f out : List ℕ)
-    → ((t : Totals) → judgeRoom f (length out) ≡ accepted t → Leaves (readBack f out) (listOf f) out)
-    × ((x : Refusal) → judgeRoom f (length out) ≡ refused x → LeavesAlone (readBack f out) out)
+    → ((t : Totals) → judgeRoom f (length out) ≡ accepted t → FilledWith (readBack f out) (listOf f) out)
+    × ((x : Refusal) → judgeRoom f (length out) ≡ refused x → LeftAlone (readBack f out) out)
 
 -- an accepted flow's list, written again, is accepted with the same totals; a flow's total is one that EF's digits hold
 abbrev pub RewrittenExact : Type 0
@@ -161,8 +161,8 @@ RewrittenSame =
 abbrev pub UncheckedOnly : Type 0
 UncheckedOnly =
     (f : List ℕ) (t : Totals) → judge f ≡ accepted t → let again = encode (itemsOf f) in
-    (length again ≡ length f) × (listOf again ≡ listOf f) × ((i : ℕ) (k : Kind) → i < t .records → field 2 3 (recordAt i f) ≡ typeOf k → Alike (checked k) (recordAt i f) (recordAt i again))
+    (length again ≡ length f) × (listOf again ≡ listOf f) × ((i : ℕ) (k : RecordKind) → i < t .records → field 2 3 (recordAt i f) ≡ typeOf k → Alike (checked k) (recordAt i f) (recordAt i again))
 
 -- what an answer stands for on paper determines it
 abbrev pub FilledDetermined : Type 0
-FilledDetermined = (r s : Filled) (out : List ℕ) → outputOf r out ≡ outputOf s out → r ≡ s
+FilledDetermined = (r s : Filled) (out : List ℕ) → filledOutput r out ≡ filledOutput s out → r ≡ s

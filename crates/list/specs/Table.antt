@@ -10,8 +10,8 @@ use Rattle.sequences.specs.Sum.{sum}
 use Rattle.sequences.specs.Text.{byte}
 use Rattle.records.specs.Field.{Span, _to_, width}
 use Rattle.records.specs.Kinds.{hasType}
-use Rattle.records.specs.declared.kind.Kind.{Kind}
-use Rattle.records.specs.declared.kind.Kind.the-variants.{Im, R14, R16, R20, R30, R40, R50, R59, R51, R70}
+use Rattle.records.specs.declared.kind.RecordKind.{RecordKind}
+use Rattle.records.specs.declared.kind.RecordKind.the-variants.{Im, R14, R16, R20, R30, R40, R50, R59, R51, R70}
 use Rattle.list.specs.declared.table.ItemKind.{ItemKind}
 use Rattle.list.specs.declared.table.ItemKind.the-variants.{H, D, S, C, B, A, R, X, K, Z}
 use Rattle.list.specs.declared.table.Row.{Row}
@@ -35,7 +35,7 @@ letter K = byte "K"
 letter Z = byte "Z"
 
 -- its second: the record
-abbrev pub recordOf : ItemKind → Kind
+abbrev pub recordOf : ItemKind → RecordKind
 recordOf H = Im
 recordOf D = R14
 recordOf S = R16

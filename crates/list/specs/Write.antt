@@ -7,26 +7,26 @@ use lib.Dec.{leb}
 use lib.ListN.{length, take}
 use Rattle.records.specs.Context.{headerOf}
 use Rattle.records.specs.Limits.{mostCents, mostRecords}
-use Rattle.flow.specs.Judge.{totals, go}
+use Rattle.flow.specs.Judge.{walkTotals, walkFrom}
 use Rattle.flow.specs.Order.{permitted, mayClose}
 use Rattle.flow.specs.Output.{Output, output}
-use Rattle.flow.specs.Steps.{start}
+use Rattle.flow.specs.Walking.{start}
 use Rattle.flow.specs.Verdict.{Verdict, accepted, refused, refusal, ofCall}
 use Rattle.flow.specs.declared.answer.Totals.{Totals}
 use Rattle.flow.specs.declared.walk.Walk.{Walk}
 use Rattle.list.specs.Encode.{recordsFor, encode}
 use Rattle.list.specs.Items.{Item, Parsed, items, faulty, parse, itemsIn}
 
--- the answer behind the last of n records: 3 where EF may not follow, 17 where its fifteen digits do not hold the total
+-- the answer after the last of n records: 3 where EF may not follow, 17 where its fifteen digits do not hold the total
 abbrev pub closed : Walk → ℕ → Verdict Totals
 closed w n =
     cond (mayClose (permitted (w .place .due)))
-    (cond (leb (w .cents) mostCents) (accepted (totals w (suc n))) (refused (ofCall 17)))
+    (cond (leb (w .cents) mostCents) (accepted (walkTotals w (suc n))) (refused (ofCall 17)))
     (refused (refusal 3 (suc n) 2))
 
 -- the encoded records, judged as the reader judges them: the first 120 bytes are the header
 unfoldable pub judgeItems : List Item → Verdict Totals
-judgeItems is = go closed (headerOf (take 120 (flatten (recordsFor is)))) start [] 0 (recordsFor is)
+judgeItems is = walkFrom closed (headerOf (take 120 (flatten (recordsFor is)))) start [] 0 (recordsFor is)
 
 -- 20; then 1; then 21; then the records
 abbrev pub judgeParsed : Parsed → ℕ → Verdict Totals

@@ -17,7 +17,7 @@ use crate::table::width;
 use flow::Totals;
 use records::CAUSALE;
 use records::CURRENCY;
-use records::Kind;
+use records::RecordKind;
 use records::SIGN;
 use records::field;
 use records::write_number;
@@ -50,29 +50,29 @@ fn fill_item(rec: &mut [u8], kind: ItemKind, number: u64, abi: &[u8], body: &[u8
 }
 
 // The number, the fixed values and the ABI, to a record of the kind.
-fn supply(rec: &mut [u8], kind: Kind, number: u64, abi: &[u8])
+fn supply(rec: &mut [u8], kind: RecordKind, number: u64, abi: &[u8])
     requires { ⌜ length (now rec) ≡ 120 ⌝ }
     requires { ⌜ length (now abi) ≤ 5 ⌝ }
     ensures { λ _. ⌜ now (rec .exit) ≡ fill (supplied (role kind) number (now (abi .entry))) (now (rec .entry)) ⌝ }
 {
     match kind {
-        Kind::Im => place(rec, 114, &CURRENCY),
-        Kind::R14 => {
+        RecordKind::Im => place(rec, 114, &CURRENCY),
+        RecordKind::R14 => {
             write_number(rec, 4, 10, number);
             place(rec, 29, &CAUSALE);
             place(rec, 47, &SIGN);
             place(rec, 48, abi);
             place(rec, 120, &CURRENCY);
         }
-        Kind::Ef => {}
-        Kind::R16
-        | Kind::R20
-        | Kind::R30
-        | Kind::R40
-        | Kind::R50
-        | Kind::R59
-        | Kind::R51
-        | Kind::R70 => write_number(rec, 4, 10, number),
+        RecordKind::Ef => {}
+        RecordKind::R16
+        | RecordKind::R20
+        | RecordKind::R30
+        | RecordKind::R40
+        | RecordKind::R50
+        | RecordKind::R59
+        | RecordKind::R51
+        | RecordKind::R70 => write_number(rec, 4, 10, number),
     }
 }
 
@@ -109,7 +109,7 @@ fn fill_trailer(rec: &mut [u8], copied: &[u8], totals: Totals)
     requires { ⌜ length (now copied) ≤ 42 ⌝ }
     ensures { λ _. ⌜ now (rec .exit) ≡ fill (trailerPlaced (now (copied .entry)) totals) (now (rec .entry)) ⌝ }
 {
-    let code = records::type_of(Kind::Ef);
+    let code = records::type_of(RecordKind::Ef);
     place(rec, 2, &code);
     place(rec, 4, copied);
     write_number(rec, 46, 52, totals.dispositions);

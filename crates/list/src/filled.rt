@@ -1,6 +1,6 @@
 // What a call that fills an output answers.
 ghost use mathlib.Core.Path.{_≡_};
-ghost use Rattle.flow.specs.Verdict.{accepted, refused, verdict};
+ghost use Rattle.flow.specs.Verdict.{accepted, refused, answerVerdict};
 use flow::Answer;
 use flow::Refusal;
 use flow::Totals;
@@ -14,7 +14,7 @@ pub struct Filled {
 
 impl Filled {
     pub(crate) fn accepted(totals: Totals, length: u64) -> Filled
-        ensures { λ r. ⌜ (verdict (r .answer) ≡ accepted totals) × (r .length ≡ length) ⌝ }
+        ensures { λ r. ⌜ (answerVerdict (r .answer) ≡ accepted totals) × (r .length ≡ length) ⌝ }
     {
         Filled {
             answer: Answer::Accepted(totals),
@@ -23,7 +23,7 @@ impl Filled {
     }
 
     pub(crate) fn refused(refusal: Refusal) -> Filled
-        ensures { λ r. ⌜ (verdict (r .answer) ≡ refused refusal) × (r .length ≡ 0) ⌝ }
+        ensures { λ r. ⌜ (answerVerdict (r .answer) ≡ refused refusal) × (r .length ≡ 0) ⌝ }
     {
         Filled {
             answer: Answer::Refused(refusal),

@@ -5,7 +5,7 @@ ghost use lib.ListN.{length};
 ghost use Rattle.sequences.specs.Part.{put};
 ghost use Rattle.flow.specs.Records.{mostBytes};
 ghost use Rattle.list.specs.Items.{listBytes};
-ghost use Rattle.list.specs.Output.{outputOf};
+ghost use Rattle.list.specs.Output.{filledOutput};
 ghost use Rattle.list.specs.ReadBack.{gather, itemOf, itemLength, listOf, readBack};
 ghost use Rattle.list.specs.Table.{bodyLength, rowIn};
 ghost use Rattle.list.specs.Table.{carried as Table·carried};
@@ -24,7 +24,7 @@ use records::field;
 // Writes the flow's list at the front of out, and answers the flow's totals and the list's length.
 // What the reader refuses is refused alike, and then an out that is too short by 21.
 pub fn read_back(flow: &[u8], out: &mut [u8]) -> Filled
-    ensures { λ r. ⌜ outputOf r (now (out .exit)) ≡ readBack (now (flow .entry)) (now (out .entry)) ⌝ }
+    ensures { λ r. ⌜ filledOutput r (now (out .exit)) ≡ readBack (now (flow .entry)) (now (out .entry)) ⌝ }
 {
     match flow::read(flow) {
         Answer::Refused(refusal) => Filled::refused(refusal),
@@ -34,7 +34,7 @@ pub fn read_back(flow: &[u8], out: &mut [u8]) -> Filled
                 return Filled::refused(flow::refusal_of_call(NO_ROOM));
             }
             store_list(flow, out);
-            Filled::accepted(totals, flow::count(length))
+            Filled::accepted(totals, flow::as_count(length))
         }
     }
 }

@@ -8,7 +8,7 @@ ghost use Rattle.list.specs.Table.{rows, recordOf, bodyLength, boundsOf,
 ghost use Rattle.list.specs.Table.{letter as Table·letter};
 ghost use Rattle.list.specs.declared.table.ItemKind.the-variants.{Z};
 ghost use Rattle.list.specs.declared.table.Row.the-variants.{Of};
-use records::Kind;
+use records::RecordKind;
 
 // The kinds of item, by their kind bytes.
 pub(crate) enum ItemKind {
@@ -49,20 +49,20 @@ pub(crate) fn letter(kind: ItemKind) -> u8
 }
 
 // The record that an item of the kind encodes.
-pub(crate) fn record_of(kind: ItemKind) -> Kind
+pub(crate) fn record_of(kind: ItemKind) -> RecordKind
     ensures { λ r. ⌜ r ≡ recordOf kind ⌝ }
 {
     match kind {
-        ItemKind::H => Kind::Im,
-        ItemKind::D => Kind::R14,
-        ItemKind::S => Kind::R16,
-        ItemKind::C => Kind::R20,
-        ItemKind::B => Kind::R30,
-        ItemKind::A => Kind::R40,
-        ItemKind::R => Kind::R50,
-        ItemKind::X => Kind::R59,
-        ItemKind::K => Kind::R51,
-        ItemKind::Z => Kind::R70,
+        ItemKind::H => RecordKind::Im,
+        ItemKind::D => RecordKind::R14,
+        ItemKind::S => RecordKind::R16,
+        ItemKind::C => RecordKind::R20,
+        ItemKind::B => RecordKind::R30,
+        ItemKind::A => RecordKind::R40,
+        ItemKind::R => RecordKind::R50,
+        ItemKind::X => RecordKind::R59,
+        ItemKind::K => RecordKind::R51,
+        ItemKind::Z => RecordKind::R70,
     }
 }
 

@@ -8,12 +8,12 @@ ghost use Rattle.sequences.specs.Part.{put};
 ghost use Rattle.records.specs.Context.{headerOf};
 ghost use Rattle.records.specs.Kinds.{heads, opened};
 ghost use Rattle.records.specs.Limits.{countLimit, mostRecords};
-ghost use Rattle.flow.specs.Judge.{go};
-ghost use Rattle.flow.specs.Steps.{start};
-ghost use Rattle.flow.specs.Verdict.{verdict};
-ghost use Rattle.list.specs.Encode.{totalsOf, recordsFor, encode};
+ghost use Rattle.flow.specs.Judge.{walkFrom};
+ghost use Rattle.flow.specs.Walking.{start};
+ghost use Rattle.flow.specs.Verdict.{answerVerdict};
+ghost use Rattle.list.specs.Encode.{listTotals, recordsFor, encode};
 ghost use Rattle.list.specs.Items.{itemsIn, Listed};
-ghost use Rattle.list.specs.Output.{outputOf};
+ghost use Rattle.list.specs.Output.{filledOutput};
 ghost use Rattle.list.specs.Table.{recordOf};
 ghost use Rattle.list.specs.Write.{closed, judgeItems};
 ghost use Rattle.list.specs.Write.{write as Write·write};
@@ -46,7 +46,7 @@ use records::field;
 // reader refuses of the records, or 3 where EF may not follow them; 17, a total of more than fifteen
 // digits. All of this is judged before a byte of out is written.
 pub fn write(list: &[u8], out: &mut [u8]) -> Filled
-    ensures { λ r. ⌜ outputOf r (now (out .exit)) ≡ Write·write (now (list .entry)) (now (out .entry)) ⌝ }
+    ensures { λ r. ⌜ filledOutput r (now (out .exit)) ≡ Write·write (now (list .entry)) (now (out .entry)) ⌝ }
 {
     match count_items(list) {
         Count::Faulty(n) => Filled::refused(Refusal {
@@ -75,7 +75,7 @@ pub fn write(list: &[u8], out: &mut [u8]) -> Filled
 // The answer to the records that the list encodes.
 fn judge_items(list: &[u8]) -> Answer
     requires { ⌜ Listed (now list) ⌝ }
-    ensures { λ r. ⌜ verdict r ≡ judgeItems (itemsIn (now (list .entry))) ⌝ }
+    ensures { λ r. ⌜ answerVerdict r ≡ judgeItems (itemsIn (now (list .entry))) ⌝ }
 {
     if list.len() == 0 {
         return close(Walk::start(), 0);
@@ -98,7 +98,7 @@ fn first_record(list: &[u8]) -> [u8; 120]
 // Each record in turn, built and judged, with the flow's header.
 fn judge_records(list: &[u8], im: &[u8]) -> Answer
     requires { ⌜ Listed (now list) ⌝ }
-    ensures { λ r. ⌜ verdict r ≡ go closed
+    ensures { λ r. ⌜ answerVerdict r ≡ walkFrom closed
         (headerOf (now (im .entry)))
         start [] 0 (recordsFor (itemsIn (now (list .entry)))) ⌝ }
 {
@@ -130,7 +130,7 @@ fn judge_records(list: &[u8], im: &[u8]) -> Answer
                 walk = walk.next(right);
             }
         }
-        let meant = header_behind(header, body, kind);
+        let meant = header_after(header, body, kind);
         header = meant;
         at = end;
     }
@@ -148,8 +148,8 @@ fn counted(dispositions: u64, kind: ItemKind) -> u64
     dispositions
 }
 
-// The body of the latest H behind an item.
-fn header_behind<'a>(header: &'a [u8], body: &'a [u8], kind: ItemKind) -> &'a [u8]
+// The body of the latest H after an item.
+fn header_after<'a>(header: &'a [u8], body: &'a [u8], kind: ItemKind) -> &'a [u8]
     ensures { λ r. ⌜ now r ≡ cond (heads (recordOf kind)) (now (body .entry)) (now (header .entry)) ⌝ }
 {
     if records::heads(record_of(kind)) {
@@ -158,10 +158,10 @@ fn header_behind<'a>(header: &'a [u8], body: &'a [u8], kind: ItemKind) -> &'a [u
     header
 }
 
-// The answer behind the last of n records, where EF is due.
+// The answer after the last of n records, where EF is due.
 fn close(walk: Walk, n: u64) -> Answer
     requires { ⌜ suc n ≤ mostRecords ⌝ }
-    ensures { λ r. ⌜ verdict r ≡ closed walk n ⌝ }
+    ensures { λ r. ⌜ answerVerdict r ≡ closed walk n ⌝ }
 {
     if !walk.may_close() {
         return Answer::Refused(Refusal {
@@ -180,7 +180,7 @@ fn close(walk: Walk, n: u64) -> Answer
 fn store_items(list: &[u8], out: &mut [u8], totals: Totals)
     requires { ⌜ Listed (now list) ⌝ }
     requires { ⌜ 120 * suc (length (itemsIn (now list))) ≤ length (now out) ⌝ }
-    requires { ⌜ totals ≡ totalsOf (itemsIn (now list)) ⌝ }
+    requires { ⌜ totals ≡ listTotals (itemsIn (now list)) ⌝ }
     ensures { λ _. ⌜ now (out .exit) ≡ put 0 (encode (itemsIn (now (list .entry)))) (now (out .entry)) ⌝ }
 {
     let mut header = &list[0..0];
@@ -194,7 +194,7 @@ fn store_items(list: &[u8], out: &mut [u8], totals: Totals)
         dispositions = counted(dispositions, kind);
         let rec = encode_item(kind, dispositions, header, body);
         place(out, 120 * n + 1, &rec);
-        let meant = header_behind(header, body, kind);
+        let meant = header_after(header, body, kind);
         header = meant;
         n += 1;
         at = end;

@@ -36,7 +36,7 @@ pub(crate) fn answer(line: &[u8], held: &[u8], between: &mut [u8], out: &mut [u8
     }
 }
 
-// Behind the kind: the room that the output has, or the other kind.
+// After the kind: the room that the output has, or the other kind.
 fn asked(kind: u8, text: &[u8], held: &[u8], between: &mut [u8], out: &mut [u8]) {
     if text.len() == 0 {
         unknown();

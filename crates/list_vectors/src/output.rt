@@ -1,4 +1,4 @@
-// What is found of an output behind a call.
+// What is found of an output after a call.
 use list::Filled;
 use printing::labelled;
 use printing::line_feed;
@@ -10,7 +10,7 @@ use vector_memory::print_kept;
 // Above this length the checksum and the last record stand for the bytes.
 const SHOWN: usize = 16384;
 
-// The answer, the length, whether the bytes behind it are as before, and the bytes written. A length
+// The answer, the length, whether the bytes after it are as before, and the bytes written. A length
 // above the room counts as the room.
 pub(crate) fn print(filled: Filled, out: &[u8], room: usize) {
     let within = least(room as u64, out.len());

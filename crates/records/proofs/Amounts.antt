@@ -8,35 +8,35 @@ use lib.Dec.{eqb}
 use lib.ListN.{length}
 use borrow.Author.Tests.{eq-eqb, eqb-true}
 use Rattle.fields.specs.Amount.{amountField}
-use Rattle.fields.specs.Answer.{Answer, accepted, refused, notDigits}
+use Rattle.fields.specs.FieldVerdict.{FieldVerdict, accepted, refused, notDigits}
 use Rattle.fields.specs.Digits.{isDigits, number, digitsFrom}
 use Rattle.records.specs.Amount.{amountSpan, amountIn, HasAmount}
 use Rattle.records.specs.Checks.{amountChecks, checks}
 use Rattle.records.specs.Context.{Context}
 use Rattle.records.specs.Field.{firstOf}
-use Rattle.records.specs.Finding.{Finding, right, Check, firstFault, checksAt}
-use Rattle.records.specs.Finding.{refused as Finding·refused}
-use Rattle.records.specs.Judge.{asked, judge}
+use Rattle.records.specs.RecordVerdict.{RecordVerdict, right, Check, firstFault, checksAt}
+use Rattle.records.specs.RecordVerdict.{refused as RecordVerdict·refused}
+use Rattle.records.specs.Judge.{asked, judgeAs}
 use Rattle.records.specs.Kinds.{opens}
 use Rattle.records.specs.Laws.{AmountBy, AmountRows}
-use Rattle.records.specs.Rows.{Fits}
-use Rattle.records.specs.declared.kind.Kind.{Kind}
-use Rattle.records.specs.declared.kind.Kind.the-variants.{R14}
+use Rattle.records.specs.FieldTests.{Fits}
+use Rattle.records.specs.declared.kind.RecordKind.{RecordKind}
+use Rattle.records.specs.declared.kind.RecordKind.the-variants.{R14}
 use Rattle.records.proofs.EachKind.{opens-14}
-use Rattle.records.proofs.FirstFault.{held, broken-front, right-not-refused, kept-all, kept-front, behind}
-use Rattle.records.proofs.Found.{broken}
-use Rattle.records.proofs.Rows.{fits, field-length, field-digits}
+use Rattle.records.proofs.FirstFault.{held, broken-front, right-not-refused, kept-all, kept-front, after}
+use Rattle.records.proofs.RightOrBroken.{broken}
+use Rattle.records.proofs.FieldTests.{fits, field-length, field-digits}
 
 -- what a field's answer is of the record, at the amount's place
-abbrev asFinding : Answer ℕ → Finding
+abbrev asFinding : FieldVerdict ℕ → RecordVerdict
 asFinding (accepted v) = right R14 v
-asFinding (refused n) = Finding·refused n 34
+asFinding (refused n) = RecordVerdict·refused n 34
 
-found-value : (x : Answer ℕ) (v : ℕ) → asFinding x ≡ right R14 v → x ≡ accepted v
+found-value : (x : FieldVerdict ℕ) (v : ℕ) → asFinding x ≡ right R14 v → x ≡ accepted v
 found-value (accepted w) v e = cc
 found-value (refused n) v e = absurd (right-not-refused e)
 
-found-refusal : (x : Answer ℕ) (n : ℕ) → asFinding x ≡ Finding·refused n 34 → x ≡ refused n
+found-refusal : (x : FieldVerdict ℕ) (n : ℕ) → asFinding x ≡ RecordVerdict·refused n 34 → x ≡ refused n
 found-refusal (accepted v) n e = absurd (right-not-refused (sym e))
 found-refusal (refused m) n e = cc
 
@@ -57,7 +57,7 @@ amount-found rec whole = ap asFinding read ∙ by (isDigits bs)
     read : amountField bs ≡ digitsFrom 0 bs
     read = rw (eq-eqb (length bs) 13 thirteen) (field-digits 34 46 rec placed)
 
-    by : (b : Bool) → asFinding (cond b (accepted (number bs)) (refused notDigits)) ≡ cond b (right R14 (number bs)) (Finding·refused notDigits 34)
+    by : (b : Bool) → asFinding (cond b (accepted (number bs)) (refused notDigits)) ≡ cond b (right R14 (number bs)) (RecordVerdict·refused notDigits 34)
     by true = refl
     by false = refl
 
@@ -88,18 +88,18 @@ checks-at-amount ctx rec = refl
 
 pub amount-rows : AmountRows
 amount-rows k ctx rec o whole =
-    let own = ap (λ (l : Kind). checksAt (firstOf amountSpan) (checks l ctx rec)) (opens-14 k o) ∙ checks-at-amount ctx rec in
+    let own = ap (λ (l : RecordKind). checksAt (firstOf amountSpan) (checks l ctx rec)) (opens-14 k o) ∙ checks-at-amount ctx rec in
     subst (λ (cs : List Check). AmountBy cs rec) (sym own) (amount-by rec whole)
 
 -- a right record that opens a disposition has an amount
-pub right-amount : (k l : Kind) (ctx : Context) (rec : List ℕ) (c : ℕ) → opens k ≡ true → judge k ctx rec ≡ right l c → HasAmount rec
-unfolding judge checks
-right-amount k l ctx rec c o e = by (eqb (length rec) 120) refl (subst (λ (m : Kind). judge m ctx rec ≡ right l c) (opens-14 k o) e)
+pub right-amount : (k l : RecordKind) (ctx : Context) (rec : List ℕ) (c : ℕ) → opens k ≡ true → judgeAs k ctx rec ≡ right l c → HasAmount rec
+unfolding judgeAs checks
+right-amount k l ctx rec c o e = by (eqb (length rec) 120) refl (subst (λ (m : RecordKind). judgeAs m ctx rec ≡ right l c) (opens-14 k o) e)
   where
     by :
-        (b : Bool) → eqb (length rec) 120 ≡ b → cond b (firstFault (checks R14 ctx rec) (right R14 (asked R14 rec))) (Finding·refused 1 0) ≡ right l c
+        (b : Bool) → eqb (length rec) 120 ≡ b → cond b (firstFault (checks R14 ctx rec) (right R14 (asked R14 rec))) (RecordVerdict·refused 1 0) ≡ right l c
         → HasAmount rec
     by true t x =
-        let rows = kept-front (amountChecks rec) _ (right R14 (asked R14 rec)) (behind 5 (checks R14 ctx rec) (right R14 (asked R14 rec)) x) in
+        let rows = kept-front (amountChecks rec) _ (right R14 (asked R14 rec)) (after 5 (checks R14 ctx rec) (right R14 (asked R14 rec)) x) in
         amount-by rec (eqb-true (length rec) 120 t) .reads (number (amountIn rec)) .1 (rows, refl)
     by false t x = absurd (right-not-refused x)

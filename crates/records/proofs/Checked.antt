@@ -8,9 +8,9 @@ use Rattle.sequences.specs.Part.{part}
 use Rattle.sequences.proofs.Part.{part-part, part-getD}
 use Rattle.records.specs.Checks.{isPresent, numberChecks, checks}
 use Rattle.records.specs.Field.{field, byteAt}
-use Rattle.records.specs.Finding.{check}
+use Rattle.records.specs.RecordVerdict.{check}
 use Rattle.records.specs.Laws.{ChecksByPosition}
-use Rattle.records.specs.declared.kind.Kind.the-variants.{Im, R14, R16, R20, R30, R40, R50, R59, R51, R70, Ef}
+use Rattle.records.specs.declared.kind.RecordKind.the-variants.{Im, R14, R16, R20, R30, R40, R50, R59, R51, R70, Ef}
 
 -- positions b to f, which lie within a to e
 pub field-within : (a e b f : ℕ) (rec : List ℕ) → 1 ≤ a → a ≤ b → b ≤ f → f ≤ e → part (b - a) (f - (b - 1)) (field a e rec) ≡ field b f rec

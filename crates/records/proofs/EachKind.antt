@@ -9,14 +9,14 @@ use types.Run.{OneOf}
 use Rattle.sequences.specs.All.{All}
 use Rattle.sequences.proofs.Tags.{fails-listed}
 use Rattle.records.specs.Kinds.{heads, opens, closes}
-use Rattle.records.specs.declared.kind.Kind.{Kind}
-use Rattle.records.specs.declared.kind.Kind.the-variants.{Im, R14, R16, R20, R30, R40, R50, R59, R51, R70, Ef}
-use Rattle.records.proofs.kind.Kind.{the-type}
+use Rattle.records.specs.declared.kind.RecordKind.{RecordKind}
+use Rattle.records.specs.declared.kind.RecordKind.the-variants.{Im, R14, R16, R20, R30, R40, R50, R59, R51, R70, Ef}
+use Rattle.records.proofs.kind.RecordKind.{the-type}
 
-abbrev pub kinds : List Kind
+abbrev pub kinds : List RecordKind
 kinds = Im ∷ R14 ∷ R16 ∷ R20 ∷ R30 ∷ R40 ∷ R50 ∷ R59 ∷ R51 ∷ R70 ∷ Ef ∷ []
 
-pub each-kind : (P : Kind → Type 0) → All P kinds → (k : Kind) → P k
+pub each-kind : (P : RecordKind → Type 0) → All P kinds → (k : RecordKind) → P k
 each-kind P all Im = all .0
 each-kind P all R14 = all .1 .0
 each-kind P all R16 = all .1 .1 .0
@@ -30,15 +30,15 @@ each-kind P all R70 = all .1 .1 .1 .1 .1 .1 .1 .1 .1 .0
 each-kind P all Ef = all .1 .1 .1 .1 .1 .1 .1 .1 .1 .1 .0
 
 -- a test that fails at each kind whose tag is listed
-pub fails-at : (t : Kind → Bool) (tags : List ℕ) → All (λ (k : Kind). (not (t k) || not (hasKey tags (tagOf the-type k))) ≡ true) kinds → (k : Kind) → OneOf tags (tagOf the-type k) → false ≡ t k
-fails-at t tags all k listed = fails-listed tags (tagOf the-type k) (t k) (each-kind (λ (k : Kind). (not (t k) || not (hasKey tags (tagOf the-type k))) ≡ true) all k) listed
+pub fails-at : (t : RecordKind → Bool) (tags : List ℕ) → All (λ (k : RecordKind). (not (t k) || not (hasKey tags (tagOf the-type k))) ≡ true) kinds → (k : RecordKind) → OneOf tags (tagOf the-type k) → false ≡ t k
+fails-at t tags all k listed = fails-listed tags (tagOf the-type k) (t k) (each-kind (λ (k : RecordKind). (not (t k) || not (hasKey tags (tagOf the-type k))) ≡ true) all k) listed
 
 -- the one kind that heads a flow, that opens a disposition, that closes a flow
-pub heads-im : (k : Kind) → heads k ≡ true → k ≡ Im
-heads-im = each-kind (λ (k : Kind). heads k ≡ true → k ≡ Im) (λ e. refl, (λ e. absurd (true≢false (sym e)), (λ e. absurd (true≢false (sym e)), (λ e. absurd (true≢false (sym e)), (λ e. absurd (true≢false (sym e)), (λ e. absurd (true≢false (sym e)), (λ e. absurd (true≢false (sym e)), (λ e. absurd (true≢false (sym e)), (λ e. absurd (true≢false (sym e)), (λ e. absurd (true≢false (sym e)), (λ e. absurd (true≢false (sym e)), tt)))))))))))
+pub heads-im : (k : RecordKind) → heads k ≡ true → k ≡ Im
+heads-im = each-kind (λ (k : RecordKind). heads k ≡ true → k ≡ Im) (λ e. refl, (λ e. absurd (true≢false (sym e)), (λ e. absurd (true≢false (sym e)), (λ e. absurd (true≢false (sym e)), (λ e. absurd (true≢false (sym e)), (λ e. absurd (true≢false (sym e)), (λ e. absurd (true≢false (sym e)), (λ e. absurd (true≢false (sym e)), (λ e. absurd (true≢false (sym e)), (λ e. absurd (true≢false (sym e)), (λ e. absurd (true≢false (sym e)), tt)))))))))))
 
-pub opens-14 : (k : Kind) → opens k ≡ true → k ≡ R14
-opens-14 = each-kind (λ (k : Kind). opens k ≡ true → k ≡ R14) (λ e. absurd (true≢false (sym e)), (λ e. refl, (λ e. absurd (true≢false (sym e)), (λ e. absurd (true≢false (sym e)), (λ e. absurd (true≢false (sym e)), (λ e. absurd (true≢false (sym e)), (λ e. absurd (true≢false (sym e)), (λ e. absurd (true≢false (sym e)), (λ e. absurd (true≢false (sym e)), (λ e. absurd (true≢false (sym e)), (λ e. absurd (true≢false (sym e)), tt)))))))))))
+pub opens-14 : (k : RecordKind) → opens k ≡ true → k ≡ R14
+opens-14 = each-kind (λ (k : RecordKind). opens k ≡ true → k ≡ R14) (λ e. absurd (true≢false (sym e)), (λ e. refl, (λ e. absurd (true≢false (sym e)), (λ e. absurd (true≢false (sym e)), (λ e. absurd (true≢false (sym e)), (λ e. absurd (true≢false (sym e)), (λ e. absurd (true≢false (sym e)), (λ e. absurd (true≢false (sym e)), (λ e. absurd (true≢false (sym e)), (λ e. absurd (true≢false (sym e)), (λ e. absurd (true≢false (sym e)), tt)))))))))))
 
-pub closes-ef : (k : Kind) → closes k ≡ true → k ≡ Ef
-closes-ef = each-kind (λ (k : Kind). closes k ≡ true → k ≡ Ef) (λ e. absurd (true≢false (sym e)), (λ e. absurd (true≢false (sym e)), (λ e. absurd (true≢false (sym e)), (λ e. absurd (true≢false (sym e)), (λ e. absurd (true≢false (sym e)), (λ e. absurd (true≢false (sym e)), (λ e. absurd (true≢false (sym e)), (λ e. absurd (true≢false (sym e)), (λ e. absurd (true≢false (sym e)), (λ e. absurd (true≢false (sym e)), (λ e. refl, tt)))))))))))
+pub closes-ef : (k : RecordKind) → closes k ≡ true → k ≡ Ef
+closes-ef = each-kind (λ (k : RecordKind). closes k ≡ true → k ≡ Ef) (λ e. absurd (true≢false (sym e)), (λ e. absurd (true≢false (sym e)), (λ e. absurd (true≢false (sym e)), (λ e. absurd (true≢false (sym e)), (λ e. absurd (true≢false (sym e)), (λ e. absurd (true≢false (sym e)), (λ e. absurd (true≢false (sym e)), (λ e. absurd (true≢false (sym e)), (λ e. absurd (true≢false (sym e)), (λ e. absurd (true≢false (sym e)), (λ e. refl, tt)))))))))))

@@ -2,12 +2,12 @@ pub mod Amounts
 pub mod ByKind
 pub mod Checked
 pub mod EachKind
+pub mod FieldTests
 pub mod FirstFault
-pub mod Found
 pub mod Listed
 pub mod NumberWritten
 pub mod Numbers
 pub mod Printable
-pub mod Rows
-pub mod SeenRight
-pub mod Stopping
+pub mod QuickTestRight
+pub mod RightOrBroken
+pub mod Saturation

@@ -9,11 +9,11 @@ use lib.ListN.{length}
 use borrow.Author.Tests.{eq-eqb, ne-eqb}
 use Rattle.records.specs.Checks.{isListed, checks}
 use Rattle.records.specs.Context.{Context}
-use Rattle.records.specs.Finding.{Finding, right, refused, Check, check, firstFault}
-use Rattle.records.specs.Judge.{asked, judge}
+use Rattle.records.specs.RecordVerdict.{RecordVerdict, right, refused, Check, check, firstFault}
+use Rattle.records.specs.Judge.{asked, judgeAs}
 use Rattle.records.specs.Laws.{OneForLength}
-use Rattle.records.specs.declared.kind.Kind.{Kind}
-use Rattle.records.specs.declared.kind.Kind.the-variants.{Im, R14, R16, R20, R30, R40, R50, R59, R51, R70, Ef}
+use Rattle.records.specs.declared.kind.RecordKind.{RecordKind}
+use Rattle.records.specs.declared.kind.RecordKind.the-variants.{Im, R14, R16, R20, R30, R40, R50, R59, R51, R70, Ef}
 use Rattle.records.proofs.FirstFault.{right-not-refused}
 
 -- the numbers that checks may refuse by
@@ -22,7 +22,7 @@ numbersOf [] = []
 numbersOf (check holds n p ∷ cs) = n ∷ numbersOf cs
 
 -- a refusal is one of theirs, or what follows them
-pub refused-by : (cs : List Check) (rest : Finding) (n p : ℕ) → firstFault cs rest ≡ refused n p → (isListed n (numbersOf cs) ≡ true) ⊎ (rest ≡ refused n p)
+pub refused-by : (cs : List Check) (rest : RecordVerdict) (n p : ℕ) → firstFault cs rest ≡ refused n p → (isListed n (numbersOf cs) ≡ true) ⊎ (rest ≡ refused n p)
 unfolding firstFault isListed
 refused-by [] rest n p e = inr e
 refused-by (check true m q ∷ cs) rest n p e = later (refused-by cs rest n p e)
@@ -35,7 +35,7 @@ refused-by (check false m q ∷ cs) rest n p e =
     inl (rw (eq-eqb n m same))
 
 -- no check of any kind gives 1
-no-one : (k : Kind) (ctx : Context) (rec : List ℕ) → isListed 1 (numbersOf (checks k ctx rec)) ≡ false
+no-one : (k : RecordKind) (ctx : Context) (rec : List ℕ) → isListed 1 (numbersOf (checks k ctx rec)) ≡ false
 unfolding checks isListed
 no-one Im ctx rec = refl
 no-one R14 ctx rec = refl
@@ -50,18 +50,18 @@ no-one R70 ctx rec = refl
 no-one Ef ctx rec = refl
 
 pub one-for-length : OneForLength
-unfolding judge
+unfolding judgeAs
 one-for-length k ctx rec p = (λ e. (position e, never e), λ h. other (h .1) ∙ ap (refused 1) (sym (h .0)))
   where
-    other : ¬ (length rec ≡ 120) → judge k ctx rec ≡ refused 1 0
+    other : ¬ (length rec ≡ 120) → judgeAs k ctx rec ≡ refused 1 0
     other h = rw (ne-eqb (length rec) 120 h)
 
     listed : (isListed 1 (numbersOf (checks k ctx rec)) ≡ true) ⊎ (right k (asked k rec) ≡ refused 1 p) → ⊥
     listed (inl h) = true≢false (sym h ∙ no-one k ctx rec)
     listed (inr h) = right-not-refused (sym h)
 
-    never : judge k ctx rec ≡ refused 1 p → ¬ (length rec ≡ 120)
+    never : judgeAs k ctx rec ≡ refused 1 p → ¬ (length rec ≡ 120)
     never e whole = listed (refused-by (checks k ctx rec) (right k (asked k rec)) 1 p (rw (eq-eqb (length rec) 120 whole) at e))
 
-    position : judge k ctx rec ≡ refused 1 p → p ≡ 0
+    position : judgeAs k ctx rec ≡ refused 1 p → p ≡ 0
     position e = let same : refused 1 0 ≡ refused 1 p = sym (other (never e)) ∙ e in cc

@@ -4,7 +4,7 @@ use Prim.Native.Nat.{ℕ}
 use mathlib.Core.List.{List}
 use mathlib.Core.Path.{_≡_}
 use Rattle.fields.specs.Amount.{amountField}
-use Rattle.fields.specs.Answer.{accepted}
+use Rattle.fields.specs.FieldVerdict.{accepted}
 use Rattle.fields.specs.Digits.{number}
 use Rattle.records.specs.Field.{Span, _to_, fieldAt}
 

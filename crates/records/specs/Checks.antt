@@ -12,10 +12,10 @@ use Rattle.fields.specs.Digits.{isDigits, number}
 use Rattle.records.specs.Constants.{causale, sign, currency}
 use Rattle.records.specs.Context.{Header, Context}
 use Rattle.records.specs.Field.{field, byteAt}
-use Rattle.records.specs.Finding.{Check, check}
+use Rattle.records.specs.RecordVerdict.{Check, check}
 use Rattle.records.specs.declared.judged.Counts.{Counts}
-use Rattle.records.specs.declared.kind.Kind.{Kind}
-use Rattle.records.specs.declared.kind.Kind.the-variants.{Im, R14, R16, R20, R30, R40, R50, R59, R51, R70, Ef}
+use Rattle.records.specs.declared.kind.RecordKind.{RecordKind}
+use Rattle.records.specs.declared.kind.RecordKind.the-variants.{Im, R14, R16, R20, R30, R40, R50, R59, R51, R70, Ef}
 
 -- "present": not all blanks
 abbrev pub isPresent : List ℕ → Bool
@@ -59,7 +59,7 @@ numberChecks n rec =
 abbrev pub amountChecks : List ℕ → List Check
 amountChecks rec = check (isDigits (field 34 46 rec)) 5 34 ∷ []
 
--- row 14, behind its number
+-- row 14, after its number
 abbrev pub dispositionChecks : List ℕ → List ℕ → List ℕ → List Check
 dispositionChecks abi company rec =
     check (isDigits (field 23 28 rec)) 5 23
@@ -75,7 +75,7 @@ dispositionChecks abi company rec =
     ∷ check (isEqual (field 120 120 rec) currency) 6 120
     ∷ []))
 
--- row 16, behind its number
+-- row 16, after its number
 abbrev pub coordinatesChecks : List ℕ → List ℕ → List Check
 coordinatesChecks abi rec =
     check (isEqual (field 11 12 rec) (text "IT") || isEqual (field 11 12 rec) (text "SM")) 6 11
@@ -107,7 +107,7 @@ trailerChecks header counts rec =
     ∷ []
 
 -- the table: each record type and its checks. 40, 50 and 51 have only their number to keep
-unfoldable pub checks : Kind → Context → List ℕ → List Check
+unfoldable pub checks : RecordKind → Context → List ℕ → List Check
 checks Im ctx rec = headerChecks rec
 checks R14 ctx rec = numberChecks (ctx .counts .dispositions) rec ++ dispositionChecks (ctx .header .abi) (ctx .company) rec
 checks R16 ctx rec = numberChecks (ctx .counts .dispositions) rec ++ coordinatesChecks (ctx .header .abi) rec

@@ -5,11 +5,11 @@ use mathlib.Core.List.{List}
 use Rattle.sequences.specs.Text.{text}
 use Rattle.fields.specs.Bytes.{isEqual}
 use Rattle.records.specs.Field.{field}
-use Rattle.records.specs.declared.kind.Kind.{Kind}
-use Rattle.records.specs.declared.kind.Kind.the-variants.{Im, R14, R16, R20, R30, R40, R50, R59, R51, R70, Ef}
+use Rattle.records.specs.declared.kind.RecordKind.{RecordKind}
+use Rattle.records.specs.declared.kind.RecordKind.the-variants.{Im, R14, R16, R20, R30, R40, R50, R59, R51, R70, Ef}
 
 -- the type as it stands in a record
-abbrev pub typeOf : Kind → List ℕ
+abbrev pub typeOf : RecordKind → List ℕ
 typeOf Im = text "IM"
 typeOf R14 = text "14"
 typeOf R16 = text "16"
@@ -22,7 +22,7 @@ typeOf R51 = text "51"
 typeOf R70 = text "70"
 typeOf Ef = text "EF"
 
-abbrev pub hasType : Kind → List ℕ → Bool
+abbrev pub hasType : RecordKind → List ℕ → Bool
 hasType k rec = isEqual (field 2 3 rec) (typeOf k)
 
 -- the record opens a disposition, by its type alone
@@ -37,7 +37,7 @@ pub data Role : Type 0 where
   Closes : Role
 
 -- by its kind (document 01, "The flow as bytes": IM; then dispositions, each from its 14 on; then EF)
-abbrev pub role : Kind → Role
+abbrev pub role : RecordKind → Role
 role Im = Heads
 role R14 = Opens
 role R16 = GoesOn
@@ -58,21 +58,21 @@ byRole GoesOn h o g c = g
 byRole Closes h o g c = c
 
 -- the record that heads a flow
-abbrev pub heads : Kind → Bool
+abbrev pub heads : RecordKind → Bool
 heads k = byRole (role k) true false false false
 
 -- the record that opens a disposition, and has its amount
-abbrev pub opens : Kind → Bool
+abbrev pub opens : RecordKind → Bool
 opens k = byRole (role k) false true false false
 
 -- a record that goes on with a disposition
-abbrev pub goesOn : Kind → Bool
+abbrev pub goesOn : RecordKind → Bool
 goesOn k = byRole (role k) false false true false
 
 -- the record that closes a flow
-abbrev pub closes : Kind → Bool
+abbrev pub closes : RecordKind → Bool
 closes k = byRole (role k) false false false true
 
 -- the dispositions that it opens: one or none
-abbrev pub opened : Kind → ℕ
+abbrev pub opened : RecordKind → ℕ
 opened k = cond (opens k) 1 0

@@ -5,10 +5,10 @@ pub mod Checks
 pub mod Constants
 pub mod Context
 pub mod Field
-pub mod Finding
+pub mod FieldTests
 pub mod Judge
 pub mod Kinds
 pub mod Laws
 pub mod Limits
-pub mod Rows
-pub mod Seen
+pub mod QuickTest
+pub mod RecordVerdict

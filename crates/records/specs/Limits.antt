@@ -18,8 +18,8 @@ countLimit = suc mostRecords
 abbrev pub centsLimit : ℕ
 centsLimit = suc mostCents
 
-abbrev pub stoppedCounts : Counts → Counts
-stoppedCounts c = record { dispositions = min (c .dispositions) countLimit; cents = min (c .cents) centsLimit; records = c .records }
+abbrev pub saturatedCounts : Counts → Counts
+saturatedCounts c = record { dispositions = min (c .dispositions) countLimit; cents = min (c .cents) centsLimit; records = c .records }
 
-abbrev pub stopped : Context → Context
-stopped ctx = record { header = ctx .header; company = ctx .company; counts = stoppedCounts (ctx .counts) }
+abbrev pub saturatedContext : Context → Context
+saturatedContext ctx = record { header = ctx .header; company = ctx .company; counts = saturatedCounts (ctx .counts) }

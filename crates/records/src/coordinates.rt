@@ -4,11 +4,11 @@ ghost use mathlib.Core.List.{_++_};
 ghost use lib.ListN.{length};
 ghost use Rattle.records.specs.Checks.{numberChecks, coordinatesChecks};
 ghost use Rattle.records.specs.Context.{headerOf};
-ghost use Rattle.records.specs.Finding.{right, firstFault, finding};
-ghost use Rattle.records.specs.declared.kind.Kind.the-variants.{R16};
+ghost use Rattle.records.specs.RecordVerdict.{right, firstFault, judgedVerdict};
+ghost use Rattle.records.specs.declared.kind.RecordKind.the-variants.{R16};
 use crate::judged::Judged;
 use crate::judged::Record;
-use crate::kind::Kind;
+use crate::kind::RecordKind;
 use crate::refusals::ABSENT;
 use crate::refusals::NOT_PERMITTED;
 use crate::refusals::WRONG_NUMBER;
@@ -24,7 +24,7 @@ use fields::Number;
 
 pub(crate) fn judge_coordinates(rec: &[u8], n: u64, header: &[u8]) -> Judged
     requires { ⌜ length (now rec) ≡ 120 ⌝ }
-    ensures { λ r. ⌜ finding r ≡ firstFault
+    ensures { λ r. ⌜ judgedVerdict r ≡ firstFault
         (numberChecks n (now (rec .entry)) ++ coordinatesChecks (headerOf (now (header .entry)) .abi) (now (rec .entry)))
         (right R16 0) ⌝ }
 {
@@ -50,7 +50,7 @@ pub(crate) fn judge_coordinates(rec: &[u8], n: u64, header: &[u8]) -> Judged
         return Judged::Refused(ABSENT, 26);
     }
     Judged::Right(Record {
-        kind: Kind::R16,
+        kind: RecordKind::R16,
         cents: 0,
     })
 }

@@ -6,14 +6,14 @@ ghost use Rattle.fields.specs.Digits.{number};
 ghost use Rattle.records.specs.Amount.{amountIn};
 ghost use Rattle.records.specs.Checks.{numberChecks, dispositionChecks};
 ghost use Rattle.records.specs.Context.{headerOf};
-ghost use Rattle.records.specs.Finding.{right, firstFault, finding};
-ghost use Rattle.records.specs.declared.kind.Kind.the-variants.{R14};
+ghost use Rattle.records.specs.RecordVerdict.{right, firstFault, judgedVerdict};
+ghost use Rattle.records.specs.declared.kind.RecordKind.the-variants.{R14};
 use crate::constants::CAUSALE;
 use crate::constants::CURRENCY;
 use crate::constants::SIGN;
 use crate::judged::Judged;
 use crate::judged::Record;
-use crate::kind::Kind;
+use crate::kind::RecordKind;
 use crate::position::field;
 use crate::refusals::NOT_PERMITTED;
 use crate::refusals::OTHER_COMPANY;
@@ -32,7 +32,7 @@ use fields::Number;
 
 pub(crate) fn judge_disposition(rec: &[u8], n: u64, header: &[u8], company: &[u8]) -> Judged
     requires { ⌜ length (now rec) ≡ 120 ⌝ }
-    ensures { λ r. ⌜ finding r ≡ firstFault
+    ensures { λ r. ⌜ judgedVerdict r ≡ firstFault
         (numberChecks n (now (rec .entry))
         ++ dispositionChecks (headerOf (now (header .entry)) .abi) (now (company .entry)) (now (rec .entry)))
         (right R14 (number (amountIn (now (rec .entry))))) ⌝ }
@@ -69,7 +69,7 @@ pub(crate) fn judge_disposition(rec: &[u8], n: u64, header: &[u8], company: &[u8
         return Judged::Refused(NOT_PERMITTED, 120);
     }
     Judged::Right(Record {
-        kind: Kind::R14,
+        kind: RecordKind::R14,
         cents,
     })
 }

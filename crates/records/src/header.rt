@@ -2,12 +2,12 @@
 ghost use mathlib.Core.Path.{_≡_};
 ghost use lib.ListN.{length};
 ghost use Rattle.records.specs.Checks.{headerChecks};
-ghost use Rattle.records.specs.Finding.{right, firstFault, finding};
-ghost use Rattle.records.specs.declared.kind.Kind.the-variants.{Im};
+ghost use Rattle.records.specs.RecordVerdict.{right, firstFault, judgedVerdict};
+ghost use Rattle.records.specs.declared.kind.RecordKind.the-variants.{Im};
 use crate::constants::CURRENCY;
 use crate::judged::Judged;
 use crate::judged::Record;
-use crate::kind::Kind;
+use crate::kind::RecordKind;
 use crate::refusals::ABSENT;
 use crate::refusals::NOT_PERMITTED;
 use crate::rules::blank;
@@ -20,7 +20,7 @@ use fields::NOT_DIGITS;
 
 pub(crate) fn judge_header(rec: &[u8]) -> Judged
     requires { ⌜ length (now rec) ≡ 120 ⌝ }
-    ensures { λ r. ⌜ finding r ≡ firstFault (headerChecks (now (rec .entry))) (right Im 0) ⌝ }
+    ensures { λ r. ⌜ judgedVerdict r ≡ firstFault (headerChecks (now (rec .entry))) (right Im 0) ⌝ }
 {
     if blank(rec, 4, 8) {
         return Judged::Refused(ABSENT, 4);
@@ -48,7 +48,7 @@ pub(crate) fn judge_header(rec: &[u8]) -> Judged
         return Judged::Refused(NOT_PERMITTED, 114);
     }
     Judged::Right(Record {
-        kind: Kind::Im,
+        kind: RecordKind::Im,
         cents: 0,
     })
 }

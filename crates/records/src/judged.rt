@@ -1,10 +1,10 @@
 // What the rules answer of a record, and the counts that they need.
-use crate::kind::Kind;
+use crate::kind::RecordKind;
 
 // A record that keeps its rules: its kind, and the cents that it asks for, which is the amount of a
 // 14 and 0 of every other.
 pub struct Record {
-    pub kind: Kind,
+    pub kind: RecordKind,
     pub cents: u64,
 }
 

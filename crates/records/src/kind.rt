@@ -5,7 +5,7 @@ ghost use Rattle.records.specs.Kinds.{heads as Kinds·heads, opens as Ki
 use crate::constants;
 use crate::position::field;
 
-pub enum Kind {
+pub enum RecordKind {
     Im,
     R14,
     R16,
@@ -20,26 +20,26 @@ pub enum Kind {
 }
 
 // The type as it stands at 2-3 of a record of the kind.
-pub fn type_of(kind: Kind) -> [u8; 2]
+pub fn type_of(kind: RecordKind) -> [u8; 2]
     ensures { λ r. ⌜ r ≡ typeOf kind ⌝ }
 {
     match kind {
-        Kind::Im => constants::TYPE_IM,
-        Kind::R14 => constants::TYPE_14,
-        Kind::R16 => constants::TYPE_16,
-        Kind::R20 => constants::TYPE_20,
-        Kind::R30 => constants::TYPE_30,
-        Kind::R40 => constants::TYPE_40,
-        Kind::R50 => constants::TYPE_50,
-        Kind::R59 => constants::TYPE_59,
-        Kind::R51 => constants::TYPE_51,
-        Kind::R70 => constants::TYPE_70,
-        Kind::Ef => constants::TYPE_EF,
+        RecordKind::Im => constants::TYPE_IM,
+        RecordKind::R14 => constants::TYPE_14,
+        RecordKind::R16 => constants::TYPE_16,
+        RecordKind::R20 => constants::TYPE_20,
+        RecordKind::R30 => constants::TYPE_30,
+        RecordKind::R40 => constants::TYPE_40,
+        RecordKind::R50 => constants::TYPE_50,
+        RecordKind::R59 => constants::TYPE_59,
+        RecordKind::R51 => constants::TYPE_51,
+        RecordKind::R70 => constants::TYPE_70,
+        RecordKind::Ef => constants::TYPE_EF,
     }
 }
 
 // Whether the record is of the kind, by its type alone.
-pub fn has_type(rec: &[u8], kind: Kind) -> bool
+pub fn has_type(rec: &[u8], kind: RecordKind) -> bool
     ensures { λ r. ⌜ r ≡ hasType kind (now (rec .entry)) ⌝ }
 {
     let code = type_of(kind);
@@ -50,19 +50,27 @@ pub fn has_type(rec: &[u8], kind: Kind) -> bool
 pub fn is_opening(rec: &[u8]) -> bool
     ensures { λ r. ⌜ r ≡ isOpening (now (rec .entry)) ⌝ }
 {
-    has_type(rec, Kind::R14)
+    has_type(rec, RecordKind::R14)
 }
 
 // Whether a record of the kind heads the flow.
-pub fn heads(kind: Kind) -> bool
+pub fn heads(kind: RecordKind) -> bool
     ensures { λ r. ⌜ r ≡ Kinds·heads kind ⌝ }
 {
-    if let Kind::Im = kind { true } else { false }
+    if let RecordKind::Im = kind {
+        true
+    } else {
+        false
+    }
 }
 
 // Whether a record of the kind opens a disposition.
-pub fn opens(kind: Kind) -> bool
+pub fn opens(kind: RecordKind) -> bool
     ensures { λ r. ⌜ r ≡ Kinds·opens kind ⌝ }
 {
-    if let Kind::R14 = kind { true } else { false }
+    if let RecordKind::R14 = kind {
+        true
+    } else {
+        false
+    }
 }

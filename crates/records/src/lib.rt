@@ -1,5 +1,5 @@
 // The rules of one M.Av. record of 120 bytes (document 01, table of checks): its type, its fields by
-// position, `judge`, which gives its first fault, and `seen_right`, which sees by a few tests that most
+// position, `judge`, which gives its first fault, and `passes_quick_test`, which sees by a few tests that most
 // records have none.
 //
 // A record is judged by its own bytes. What a rule needs from elsewhere in the flow, the header,
@@ -15,10 +15,10 @@ mod judged;
 mod kind;
 mod limits;
 mod position;
+mod quick_test;
 mod record;
 mod refusals;
 mod rules;
-mod seen;
 mod trailer;
 
 pub use bytes::bad_byte;
@@ -30,7 +30,7 @@ pub use constants::SIGN;
 pub use judged::Counts;
 pub use judged::Judged;
 pub use judged::Record;
-pub use kind::Kind;
+pub use kind::RecordKind;
 pub use kind::has_type;
 pub use kind::heads;
 pub use kind::is_opening;
@@ -40,7 +40,7 @@ pub use limits::MOST_CENTS;
 pub use limits::MOST_RECORDS;
 pub use position::field;
 pub use position::write_number;
+pub use quick_test::passes_quick_test;
 pub use record::judge;
 pub use refusals::WRONG_LENGTH;
 pub use rules::amount;
-pub use seen::seen_right;

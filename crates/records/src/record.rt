@@ -1,8 +1,8 @@
 // One record of a known kind, judged.
 ghost use mathlib.Core.Path.{_≡_};
 ghost use Rattle.records.specs.Context.{headerOf, context};
-ghost use Rattle.records.specs.Finding.{finding};
-ghost use Rattle.records.specs.Judge.{judge as Judge·judge};
+ghost use Rattle.records.specs.RecordVerdict.{judgedVerdict};
+ghost use Rattle.records.specs.Judge.{judgeAs};
 use crate::coordinates::judge_coordinates;
 use crate::detail::judge_control;
 use crate::detail::judge_numbered;
@@ -11,15 +11,15 @@ use crate::disposition::judge_disposition;
 use crate::header::judge_header;
 use crate::judged::Counts;
 use crate::judged::Judged;
-use crate::kind::Kind;
+use crate::kind::RecordKind;
 use crate::refusals::WRONG_LENGTH;
 use crate::trailer::judge_trailer;
 
 // The first fault of a record of the kind, or its cents. `header` is the flow's IM, of which the rules look
 // at no other position than `headerOf` names: what stands elsewhere in it may be anything. `company` is the
 // latest company code present, blank or empty where there is none.
-pub fn judge(rec: &[u8], kind: Kind, counts: Counts, header: &[u8], company: &[u8]) -> Judged
-    ensures { λ r. ⌜ finding r ≡ Judge·judge kind
+pub fn judge(rec: &[u8], kind: RecordKind, counts: Counts, header: &[u8], company: &[u8]) -> Judged
+    ensures { λ r. ⌜ judgedVerdict r ≡ judgeAs kind
         (context (headerOf (now (header .entry))) (now (company .entry)) counts)
         (now (rec .entry)) ⌝ }
 {
@@ -28,16 +28,16 @@ pub fn judge(rec: &[u8], kind: Kind, counts: Counts, header: &[u8], company: &[u
     }
     let n = counts.dispositions;
     match kind {
-        Kind::Im => judge_header(rec),
-        Kind::R14 => judge_disposition(rec, n, header, company),
-        Kind::R16 => judge_coordinates(rec, n, header),
-        Kind::R20 => judge_with_text(rec, Kind::R20, n, 34),
-        Kind::R30 => judge_with_text(rec, Kind::R30, n, 40),
-        Kind::R40 => judge_numbered(rec, Kind::R40, n),
-        Kind::R50 => judge_numbered(rec, Kind::R50, n),
-        Kind::R59 => judge_with_text(rec, Kind::R59, n, 65),
-        Kind::R51 => judge_numbered(rec, Kind::R51, n),
-        Kind::R70 => judge_control(rec, n),
-        Kind::Ef => judge_trailer(rec, counts, header),
+        RecordKind::Im => judge_header(rec),
+        RecordKind::R14 => judge_disposition(rec, n, header, company),
+        RecordKind::R16 => judge_coordinates(rec, n, header),
+        RecordKind::R20 => judge_with_text(rec, RecordKind::R20, n, 34),
+        RecordKind::R30 => judge_with_text(rec, RecordKind::R30, n, 40),
+        RecordKind::R40 => judge_numbered(rec, RecordKind::R40, n),
+        RecordKind::R50 => judge_numbered(rec, RecordKind::R50, n),
+        RecordKind::R59 => judge_with_text(rec, RecordKind::R59, n, 65),
+        RecordKind::R51 => judge_numbered(rec, RecordKind::R51, n),
+        RecordKind::R70 => judge_control(rec, n),
+        RecordKind::Ef => judge_trailer(rec, counts, header),
     }
 }

@@ -4,7 +4,7 @@ ghost use mathlib.Core.Bool.{not, _||_};
 ghost use mathlib.Core.Path.{_≡_};
 ghost use lib.Dec.{eqb};
 ghost use Rattle.fields.specs.Amount.{amountField};
-ghost use Rattle.fields.specs.Answer.{numberAnswer, dateAnswer};
+ghost use Rattle.fields.specs.FieldVerdict.{numberVerdict, dateVerdict};
 ghost use Rattle.fields.specs.Bytes.{isBlank, isEqual};
 ghost use Rattle.fields.specs.Digits.{isDigits, digitsFrom};
 ghost use Rattle.fields.specs.Digits.{number as Digits·number};
@@ -13,7 +13,7 @@ ghost use Rattle.records.specs.Field.{byteAt};
 ghost use Rattle.records.specs.Field.{field as Field·field};
 ghost use Rattle.records.specs.Context.{headerOf};
 ghost use Rattle.records.specs.Checks.{isListed, agrees};
-ghost use Rattle.records.specs.Rows.{Fits, digitsThen, digitsThenDay};
+ghost use Rattle.records.specs.FieldTests.{Fits, digitsThen, digitsThenDay};
 use crate::constants::AMOUNT_FIRST;
 use crate::constants::AMOUNT_LAST;
 use crate::position::field;
@@ -79,7 +79,7 @@ pub(crate) fn digits(rec: &[u8], first: usize, last: usize) -> bool
 // The number that digits give, or else the refusal: 5.
 fn number_at(rec: &[u8], first: usize, last: usize) -> Number
     requires { ⌜ Fits first last (now rec) ⌝ }
-    ensures { λ r. ⌜ numberAnswer r ≡ digitsFrom 0 (Field·field first last (now (rec .entry))) ⌝ }
+    ensures { λ r. ⌜ numberVerdict r ≡ digitsFrom 0 (Field·field first last (now (rec .entry))) ⌝ }
 {
     fields::read_digits(field(rec, first, last))
 }
@@ -111,14 +111,14 @@ pub(crate) fn agreeing(company: &[u8], found: &[u8]) -> bool
 // The date in the six bytes from first on, or else the refusal: 5, then 8.
 pub(crate) fn date(rec: &[u8], first: usize) -> Date
     requires { ⌜ Fits first (first + 5) (now rec) ⌝ }
-    ensures { λ r. ⌜ dateAnswer r ≡ digitsThenDay (Field·field first (first + 5) (now (rec .entry))) ⌝ }
+    ensures { λ r. ⌜ dateVerdict r ≡ digitsThenDay (Field·field first (first + 5) (now (rec .entry))) ⌝ }
 {
     fields::read_date(field(rec, first, first + 5))
 }
 
 // The amount of the disposition that the record opens, or else the refusal, by the rule of amounts.
 pub fn amount(rec: &[u8]) -> Number
-    ensures { λ r. ⌜ numberAnswer r ≡ amountField (amountIn (now (rec .entry))) ⌝ }
+    ensures { λ r. ⌜ numberVerdict r ≡ amountField (amountIn (now (rec .entry))) ⌝ }
 {
     fields::read_amount(field(rec, AMOUNT_FIRST, AMOUNT_LAST))
 }
@@ -132,7 +132,7 @@ pub(crate) fn digits_equal_to(
     number: u64,
 ) -> Number
     requires { ⌜ Fits first last (now rec) ⌝ }
-    ensures { λ r. ⌜ numberAnswer r ≡ digitsThen
+    ensures { λ r. ⌜ numberVerdict r ≡ digitsThen
         (Field·field first last (now (rec .entry)))
         (eqb (Digits·number (Field·field first last (now (rec .entry)))) value)
         number ⌝ }
@@ -149,7 +149,7 @@ pub(crate) fn digits_equal_to(
 // Digits that are the header's ABI, or else the refusal: 5, then 10.
 pub(crate) fn equal_to_abi(rec: &[u8], first: usize, last: usize, header: &[u8]) -> Number
     requires { ⌜ Fits first last (now rec) ⌝ }
-    ensures { λ r. ⌜ numberAnswer r ≡ digitsThen
+    ensures { λ r. ⌜ numberVerdict r ≡ digitsThen
         (Field·field first last (now (rec .entry)))
         (isEqual (Field·field first last (now (rec .entry))) (headerOf (now (header .entry)) .abi))
         10 ⌝ }
@@ -166,7 +166,7 @@ pub(crate) fn equal_to_abi(rec: &[u8], first: usize, last: usize, header: &[u8])
 // Digits above zero, or else the refusal: 5, then 6.
 pub(crate) fn above_zero(rec: &[u8], first: usize, last: usize) -> Number
     requires { ⌜ Fits first last (now rec) ⌝ }
-    ensures { λ r. ⌜ numberAnswer r ≡ digitsThen
+    ensures { λ r. ⌜ numberVerdict r ≡ digitsThen
         (Field·field first last (now (rec .entry)))
         (not (eqb (Digits·number (Field·field first last (now (rec .entry)))) 0))
         6 ⌝ }

@@ -3,12 +3,12 @@ ghost use mathlib.Core.Path.{_≡_};
 ghost use lib.ListN.{length};
 ghost use Rattle.records.specs.Checks.{trailerChecks};
 ghost use Rattle.records.specs.Context.{headerOf};
-ghost use Rattle.records.specs.Finding.{right, firstFault, finding};
-ghost use Rattle.records.specs.declared.kind.Kind.the-variants.{Ef};
+ghost use Rattle.records.specs.RecordVerdict.{right, firstFault, judgedVerdict};
+ghost use Rattle.records.specs.declared.kind.RecordKind.the-variants.{Ef};
 use crate::judged::Counts;
 use crate::judged::Judged;
 use crate::judged::Record;
-use crate::kind::Kind;
+use crate::kind::RecordKind;
 use crate::refusals::NOT_THE_HEADERS;
 use crate::refusals::WRONG_COUNT;
 use crate::refusals::WRONG_RECORDS;
@@ -19,7 +19,7 @@ use fields::Number;
 
 pub(crate) fn judge_trailer(rec: &[u8], counts: Counts, header: &[u8]) -> Judged
     requires { ⌜ length (now rec) ≡ 120 ⌝ }
-    ensures { λ r. ⌜ finding r ≡ firstFault
+    ensures { λ r. ⌜ judgedVerdict r ≡ firstFault
         (trailerChecks (headerOf (now (header .entry))) counts (now (rec .entry)))
         (right Ef 0) ⌝ }
 {
@@ -57,7 +57,7 @@ pub(crate) fn judge_trailer(rec: &[u8], counts: Counts, header: &[u8]) -> Judged
         return Judged::Refused(NOT_THE_HEADERS, 114);
     }
     Judged::Right(Record {
-        kind: Kind::Ef,
+        kind: RecordKind::Ef,
         cents: 0,
     })
 }

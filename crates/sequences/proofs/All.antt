@@ -15,13 +15,13 @@ module _ {A : Type 0} (P : A → Type 0) where
   all-before [] ys all = tt
   all-before (x ∷ xs) ys all = (all .0, all-before xs ys (all .1))
 
-  pub all-behind : (xs ys : List A) → All P (xs ++ ys) → All P ys
-  all-behind [] ys all = all
-  all-behind (x ∷ xs) ys all = all-behind xs ys (all .1)
+  pub all-after : (xs ys : List A) → All P (xs ++ ys) → All P ys
+  all-after [] ys all = all
+  all-after (x ∷ xs) ys all = all-after xs ys (all .1)
 
   -- of one element
   pub all-at : (xs : List A) (x : A) (ys : List A) → All P (xs ++ (x ∷ ys)) → P x
-  all-at xs x ys all = all-behind xs (x ∷ ys) all .0
+  all-at xs x ys all = all-after xs (x ∷ ys) all .0
 
   pub all-getD : (xs : List A) (k : ℕ) (d : A) → k < length xs → All P xs → P (getD xs k d)
   all-getD [] k d h all = absurd (not-suc-le-zero h)

@@ -13,7 +13,7 @@ append-same xs ys us vs size same = (
   sym (drop-at xs us (length xs) refl) ∙ ap (drop (length xs)) same ∙ drop-at ys vs (length xs) (sym size),
 )
 
--- the k-th of a list, counted from 1, between those before it and those behind it
+-- the k-th of a list, counted from 1, between those before it and those after it
 pub parted :
     {A : Type 0} (k : ℕ) (d : A) (xs pre : List A) (x : A) (post : List A) → xs ≡ pre ++ (x ∷ post) → k ≡ 1 + length pre
     → (take (k - 1) xs ≡ pre) × (getD xs (k - 1) d ≡ x) × (drop k xs ≡ post)

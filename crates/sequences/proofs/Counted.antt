@@ -11,9 +11,9 @@ module _ {A : Type 0} (P : ℕ → A → Type 0) where
   counted-before n [] ys all = tt
   counted-before n (x ∷ xs) ys all = (all .0, counted-before (suc n) xs ys (all .1))
 
-  pub counted-behind : (n : ℕ) (xs ys : List A) → Counted P n (xs ++ ys) → Counted P (n + length xs) ys
-  counted-behind n [] ys all = let same : n ≡ n + 0 = omega arith in subst (λ (m : ℕ). Counted P m ys) same all
-  counted-behind n (x ∷ xs) ys all = let same : suc n + length xs ≡ n + suc (length xs) = omega arith in subst (λ (m : ℕ). Counted P m ys) same (counted-behind (suc n) xs ys (all .1))
+  pub counted-after : (n : ℕ) (xs ys : List A) → Counted P n (xs ++ ys) → Counted P (n + length xs) ys
+  counted-after n [] ys all = let same : n ≡ n + 0 = omega arith in subst (λ (m : ℕ). Counted P m ys) same all
+  counted-after n (x ∷ xs) ys all = let same : suc n + length xs ≡ n + suc (length xs) = omega arith in subst (λ (m : ℕ). Counted P m ys) same (counted-after (suc n) xs ys (all .1))
 
   pub counted-append : (n : ℕ) (xs ys : List A) → Counted P n xs → Counted P (n + length xs) ys → Counted P n (xs ++ ys)
   counted-append n [] ys front back = let same : n + 0 ≡ n = omega arith in subst (λ (m : ℕ). Counted P m ys) same back

@@ -21,13 +21,13 @@ module _ {A : Type 0} where
   pub dropLast-getD : (xs : List A) (i : ℕ) (d : A) → suc i < length xs → getD (dropLast xs) i d ≡ getD xs i d
   dropLast-getD xs i d h = rw dropLast-take (getD-take (length xs - 1) xs i d (omega arith))
 
-  -- the rest behind which one element was put
+  -- the rest after which one element was put
   pub dropLast-append : (xs : List A) (x : A) → dropLast (xs ++ (x ∷ [])) ≡ xs
   dropLast-append [] x = refl
   dropLast-append (y ∷ []) x = refl
   dropLast-append (y ∷ z ∷ xs) x = ap (λ (l : List A). y ∷ l) (dropLast-append (z ∷ xs) x)
 
-  -- and the last behind the others
+  -- and the last after the others
   pub dropLast-last : (xs : List A) (d : A) → 1 ≤ length xs → dropLast xs ++ (getD xs (length xs - 1) d ∷ []) ≡ xs
   dropLast-last xs d some =
       let all : suc (length xs - 1) ≡ length xs = omega arith in

@@ -32,40 +32,40 @@ module _ {A : Type 0} (p : A → Bool) where
       by false e = ap (λ (l : List A). x ∷ l) e
 
   -- the index at which group k starts, both counted from 0
-  abbrev pub startOf : List A → ℕ → ℕ
-  startOf xs k = length (lead p xs) + length (flatten (take k (groups p xs)))
+  abbrev pub groupStart : List A → ℕ → ℕ
+  groupStart xs k = length (lead p xs) + length (flatten (take k (groups p xs)))
 
-  -- group k starts at index s: an element that passes stands there, and those behind it up to the next that does are its others
+  -- group k starts at index s: an element that passes stands there, and those after it up to the next that does are its others
   pub record Group (xs : List A) (d : A) (k s : ℕ) : Type 0 where
     pub within : s < length xs
     pub opens : p (getD xs s d) ≡ true
     pub all : getD (groups p xs) k [] ≡ getD xs s d ∷ lead p (drop (suc s) xs)
 
-  pub group-at : (xs : List A) (d : A) (k : ℕ) → k < length (groups p xs) → Group xs d k (startOf xs k)
+  pub group-at : (xs : List A) (d : A) (k : ℕ) → k < length (groups p xs) → Group xs d k (groupStart xs k)
   unfolding lead groups flatten
   group-at [] d k h = absurd (not-suc-le-zero h)
   group-at (x ∷ xs) d k h = by (p x) refl k h (group-at xs d)
     where
       -- a group of xs is one of x ∷ xs, a place further on
-      on : (k j s : ℕ) → Group xs d j s → getD (groups p (x ∷ xs)) k [] ≡ getD (groups p xs) j [] → startOf (x ∷ xs) k ≡ suc s → Group (x ∷ xs) d k (startOf (x ∷ xs) k)
+      on : (k j s : ℕ) → Group xs d j s → getD (groups p (x ∷ xs)) k [] ≡ getD (groups p xs) j [] → groupStart (x ∷ xs) k ≡ suc s → Group (x ∷ xs) d k (groupStart (x ∷ xs) k)
       on k j s g same starts =
           let far = g .within in
           subst (Group (x ∷ xs) d k) (sym starts) (record { within = omega arith; opens = g .opens; all = same ∙ g .all })
 
-      by : (b : Bool) → p x ≡ b → (k : ℕ) → k < length (groups p (x ∷ xs)) → ((k : ℕ) → k < length (groups p xs) → Group xs d k (startOf xs k)) → Group (x ∷ xs) d k (startOf (x ∷ xs) k)
+      by : (b : Bool) → p x ≡ b → (k : ℕ) → k < length (groups p (x ∷ xs)) → ((k : ℕ) → k < length (groups p xs) → Group xs d k (groupStart xs k)) → Group (x ∷ xs) d k (groupStart (x ∷ xs) k)
       by true e zero h rest =
-          let starts : startOf (x ∷ xs) 0 ≡ 0 = rw e in
+          let starts : groupStart (x ∷ xs) 0 ≡ 0 = rw e in
           subst (Group (x ∷ xs) d 0) (sym starts) (record { within = omega arith; opens = e; all = rw e })
       by true e (suc k) h rest =
-          on (suc k) k (startOf xs k) (rest k (le-of-suc-le-suc (rw e at h))) (rw e) (rw (e, length-append) (omega arith))
-      by false e k h rest = on k k (startOf xs k) (rest k (rw e at h)) (rw e) (rw e (omega arith))
+          on (suc k) k (groupStart xs k) (rest k (le-of-suc-le-suc (rw e at h))) (rw e) (rw (e, length-append) (omega arith))
+      by false e k h rest = on k k (groupStart xs k) (rest k (rw e at h)) (rw e) (rw e (omega arith))
 
   -- the next group starts where it ends
-  pub start-next : (xs : List A) (k : ℕ) → k < length (groups p xs) → startOf xs (suc k) ≡ startOf xs k + length (getD (groups p xs) k [])
+  pub start-next : (xs : List A) (k : ℕ) → k < length (groups p xs) → groupStart xs (suc k) ≡ groupStart xs k + length (getD (groups p xs) k [])
   start-next xs k h = rw (flatten-next (groups p xs) k h, length-append) (omega arith)
 
-  -- and no group ends behind the list
-  pub start-within : (xs : List A) (k : ℕ) → startOf xs k ≤ length xs
+  -- and no group ends after the list
+  pub start-within : (xs : List A) (k : ℕ) → groupStart xs k ≤ length xs
   start-within xs k =
       let whole = simp length-append at (ap length (lead-groups xs)) in
       omega (arith, flatten-taken (groups p xs) k)
@@ -123,5 +123,5 @@ module _ {A : Type 0} (p : A → Bool) where
       let o = opens .0 in
       let rest = flatten xss in
       let led : lead p (o .others ++ rest) ≡ o .others = lead-none (o .others) rest (o .none) ∙ ap (λ (l : List A). o .others ++ l) (lead-joined xss (opens .1)) ∙ append-nil (o .others) in
-      let behind : groups p (o .others ++ rest) ≡ xss = groups-none (o .others) rest (o .none) ∙ groups-joined xss (opens .1) in
-      ap (λ (l : List A). groups p (l ++ rest)) (o .whole) ∙ rw (o .passes, led, behind) (ap (λ (l : List A). l ∷ xss) (sym (o .whole)))
+      let after : groups p (o .others ++ rest) ≡ xss = groups-none (o .others) rest (o .none) ∙ groups-joined xss (opens .1) in
+      ap (λ (l : List A). groups p (l ++ rest)) (o .whole) ∙ rw (o .passes, led, after) (ap (λ (l : List A). l ∷ xss) (sym (o .whole)))

@@ -12,7 +12,7 @@ use borrow.Author.Tests.{leb-true, leb-false}
 use borrow.Rule.Slice.PartMut.{putMid}
 use Rattle.sequences.specs.All.{All}
 use Rattle.sequences.specs.Part.{part, put}
-use Rattle.sequences.proofs.All.{all-append, all-before, all-behind}
+use Rattle.sequences.proofs.All.{all-append, all-before, all-after}
 
 -- a part within the list has its length
 pub part-length : (a n : ℕ) (xs : List ℕ) → a + n ≤ length xs → length (part a n xs) ≡ n
@@ -65,7 +65,7 @@ module _ (a : ℕ) (ys xs : List ℕ) (fits : a + length ys ≤ length xs) where
       let within : n ≤ length (take a xs) = rw before h in
       take-append-le n (take a xs) (ys ++ drop (a + length ys) xs) within ∙ take-take n a xs h
 
-  -- what stands behind it stays
+  -- what stands after it stays
   pub drop-put : (n : ℕ) → a + length ys ≤ n → drop n (put a ys xs) ≡ drop n xs
   drop-put n h =
       let end = a + length ys in
@@ -84,15 +84,15 @@ module _ (a : ℕ) (ys xs : List ℕ) (fits : a + length ys ≤ length xs) where
   pub getD-put-before : (i : ℕ) → i < a → getD (put a ys xs) i 0 ≡ getD xs i 0
   getD-put-before i h = sym (getD-take a (put a ys xs) i 0 h) ∙ ap (λ (l : List ℕ). getD l i 0) (take-put a (le-refl a)) ∙ getD-take a xs i 0 h
 
-  pub getD-put-behind : (i : ℕ) → a + length ys ≤ i → getD (put a ys xs) i 0 ≡ getD xs i 0
-  getD-put-behind i h = sym (head (put a ys xs) i) ∙ ap (λ (l : List ℕ). getD l 0 0) (drop-put i h) ∙ head xs i
+  pub getD-put-after : (i : ℕ) → a + length ys ≤ i → getD (put a ys xs) i 0 ≡ getD xs i 0
+  getD-put-after i h = sym (head (put a ys xs) i) ∙ ap (λ (l : List ℕ). getD l 0 0) (drop-put i h) ∙ head xs i
 
   pub getD-put-elsewhere : (i : ℕ) → ¬ ((a ≤ i) × (i < a + length ys)) → getD (put a ys xs) i 0 ≡ getD xs i 0
   getD-put-elsewhere i outside = by (leb a i) (leb (a + length ys) i) refl refl
     where
       by : (b d : Bool) → leb a i ≡ b → leb (a + length ys) i ≡ d → getD (put a ys xs) i 0 ≡ getD xs i 0
       by false d s t = getD-put-before i (leb-false a i s)
-      by true true s t = getD-put-behind i (leb-true (a + length ys) i t)
+      by true true s t = getD-put-after i (leb-true (a + length ys) i t)
       by true false s t = absurd (outside (leb-true a i s, leb-false (a + length ys) i t))
 
   -- so does each part that lies outside it
@@ -100,32 +100,32 @@ module _ (a : ℕ) (ys xs : List ℕ) (fits : a + length ys ≤ length xs) where
   part-put-before b n h =
       sym (drop-take b n (put a ys xs)) ∙ ap (drop b) (take-put (b + n) h) ∙ drop-take b n xs
 
-  pub part-put-behind : (b n : ℕ) → a + length ys ≤ b → part b n (put a ys xs) ≡ part b n xs
-  part-put-behind b n h = ap (take n) (drop-put b h)
+  pub part-put-after : (b n : ℕ) → a + length ys ≤ b → part b n (put a ys xs) ≡ part b n xs
+  part-put-after b n h = ap (take n) (drop-put b h)
 
 -- what holds of every element of both holds of every element of the list written over
 pub all-put : (P : ℕ → Type 0) (a : ℕ) (ys xs : List ℕ) → All P ys → All P xs → All P (put a ys xs)
 all-put P a ys xs placed all =
     let end = a + length ys in
     all-append P (take a xs) (ys ++ drop end xs) (all-before P (take a xs) (drop a xs) (rw take-append-drop all))
-    (all-append P ys (drop end xs) placed (all-behind P (take end xs) (drop end xs) (rw take-append-drop all)))
+    (all-append P ys (drop end xs) placed (all-after P (take end xs) (drop end xs) (rw take-append-drop all)))
 
 -- nothing written over
 pub put-nothing : (a : ℕ) (xs : List ℕ) → put a [] xs ≡ xs
 put-nothing a xs = let end : a + 0 ≡ a = omega arith in rw end (take-append-drop a xs)
 
--- two lists joined are written over one behind the other
+-- two lists joined are written over one after the other
 pub put-append : (a : ℕ) (ys zs xs : List ℕ) → a + length ys + length zs ≤ length xs → put a (ys ++ zs) xs ≡ put (a + length ys) zs (put a ys xs)
 put-append a ys zs xs fits =
     let end = a + length ys in
     let within : end ≤ length xs = omega arith in
-    let behind = drop (end + length zs) xs in
+    let after = drop (end + length zs) xs in
     let sizes : a + length (ys ++ zs) ≡ end + length zs = rw length-append (omega arith) in
     let front : take end (put a ys xs) ≡ take a xs ++ ys = ap (take end) (sym (append-assoc (take a xs) ys (drop end xs))) ∙ take-at (take a xs ++ ys) (drop end xs) end (through a ys xs within) in
-    let back : drop (end + length zs) (put a ys xs) ≡ behind = drop-put a ys xs within (end + length zs) (omega arith) in
+    let back : drop (end + length zs) (put a ys xs) ≡ after = drop-put a ys xs within (end + length zs) (omega arith) in
     ap (λ (n : ℕ). take a xs ++ ((ys ++ zs) ++ drop n xs)) sizes
-    ∙ ap (λ (l : List ℕ). take a xs ++ l) (append-assoc ys zs behind)
-    ∙ sym (append-assoc (take a xs) ys (zs ++ behind))
+    ∙ ap (λ (l : List ℕ). take a xs ++ l) (append-assoc ys zs after)
+    ∙ sym (append-assoc (take a xs) ys (zs ++ after))
     ∙ (λ i. sym front i ++ (zs ++ sym back i))
 
 -- a part written back as it was
@@ -191,7 +191,7 @@ put-apart a b ys zs xs before fits =
     ap (put a ys) one ∙ put-front a ys front (put 0 zs back) within
     ∙ sym (ap₂ (λ (m : ℕ) (l : List ℕ). put m zs l) (sym kept) two ∙ put-back 0 zs (put a ys front) back)
 
--- behind two lists joined stands the third
+-- after two lists joined stands the third
 pub drop-two : (n m : ℕ) (xs ys zs : List ℕ) → length xs ≡ n → length ys ≡ m → drop (n + m) (xs ++ (ys ++ zs)) ≡ zs
 drop-two n m xs ys zs first second = sym (drop-drop m n (xs ++ (ys ++ zs))) ∙ ap (drop m) (drop-at xs (ys ++ zs) n first) ∙ drop-at ys zs m second
 

@@ -18,7 +18,7 @@ either : (t : Bool) (x b c d : ℕ) (bs : List ℕ) → cond t (x ∷ unescaped 
 either true x b c d bs = refl
 either false x b c d bs = refl
 
--- the first byte, then what is left behind those that encode it
+-- the first byte, then what is left after those that encode it
 pub unescaped-next : (xs : List ℕ) → 0 < length xs → unescaped xs ≡ escapedByte xs ∷ unescaped (drop (escapeWidth xs) xs)
 unfolding unescaped escapeWidth escapedByte
 unescaped-next [] h = absurd (not-suc-le-zero h)
@@ -46,13 +46,13 @@ module _ {bs begun : List ℕ} where
   pub decoding-next : {out : List ℕ} {at n b w : ℕ} → Decoding bs begun out at n → at < length bs → n < length out → b ≡ escapedByte (drop at bs) → w ≡ escapeWidth (drop at bs) → at + w ≤ length bs → Decoding bs begun (set out n b) (at + w) (n + 1)
   decoding-next {out} {at} {n} {b} {w} d read room byte width within =
       let left : 0 < length (drop at bs) = rw length-drop (omega arith) in
-      let behind : unescaped (drop at bs) ≡ b ∷ unescaped (drop (at + w) bs) = rw (byte, width, ← drop-drop) (unescaped-next (drop at bs) left) in
+      let after : unescaped (drop at bs) ≡ b ∷ unescaped (drop (at + w) bs) = rw (byte, width, ← drop-drop) (unescaped-next (drop at bs) left) in
       let stored : take (n + 1) (set out n b) ≡ take n out ++ (b ∷ []) = rw add-one (take-suc-set out n b room) in
       record {
         within = within;
         fits = rw length-set (omega arith);
         same = length-set out n b ∙ d .same;
-        written = rw (stored, append-assoc, ← behind) (d .written);
+        written = rw (stored, append-assoc, ← after) (d .written);
         kept = drop-set-lt (n + 1) out n b (omega arith) ∙ sym (drop-drop 1 n out) ∙ ap (drop 1) (d .kept) ∙ drop-drop 1 n begun;
       }
 
@@ -70,6 +70,6 @@ module _ {bs begun : List ℕ} where
       let all : length (take n out) ≡ length begun = length-take-le n out (d .fits) ∙ full ∙ d .same in
       sym (take-at (take n out) (unescaped (drop at bs)) (length begun) all) ∙ ap (take (length begun)) (d .written)
 
-  -- and the places written, with those behind them, are `out`
+  -- and the places written, with those after them, are `out`
   pub decoding-put : {out : List ℕ} {at n : ℕ} → Decoding bs begun out at n → take n out ≡ fitting (length begun) bs → out ≡ put 0 (fitting (length begun) bs) begun
   decoding-put {out} {at} {n} d e = rw (← e, length-take-le n out (d .fits), zero-add, ← d .kept, take-append-drop)

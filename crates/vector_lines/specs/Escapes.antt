@@ -6,7 +6,7 @@ use lib.Dec.{eqb, leb}
 use lib.ListN.{length, take, getD}
 use Rattle.vector_lines.specs.Lines.{hexDigit}
 
--- the bytes that a text encodes: a backslash with fewer than two bytes behind it stands for itself too
+-- the bytes that a text encodes: a backslash with fewer than two bytes after it stands for itself too
 unfoldable pub unescaped : List ℕ → List ℕ
 unescaped [] = []
 unescaped (b ∷ []) = b ∷ []

@@ -4,7 +4,7 @@ use mathlib.Core.Bool.{cond, _&&_}
 use mathlib.Core.List.{List, [], _∷_}
 use lib.Dec.{eqb, leb}
 
--- the index of the first line feed, where the first of bs has the index i: the index behind the last byte where there is none
+-- the index of the first line feed, where the first of bs has the index i: the index after the last byte where there is none
 unfoldable pub lineFrom : ℕ → List ℕ → ℕ
 lineFrom i [] = i
 lineFrom i (b ∷ bs) = cond (eqb b 10) i (lineFrom (suc i) bs)

@@ -12,7 +12,7 @@ largest = 18446744073709551615
 abbrev pub decimalDigit : ℕ → ℕ
 decimalDigit b = cond (leb 48 b && leb b 57) (b - 48) 0
 
--- the number n with the digits of bs behind it, or the largest one
+-- the number n with the digits of bs after it, or the largest one
 unfoldable pub decimalFrom : ℕ → List ℕ → ℕ
 decimalFrom n [] = n
 decimalFrom n (b ∷ bs) = decimalFrom (min largest (10 * n + decimalDigit b)) bs

@@ -8,7 +8,7 @@ ghost use Rattle.sequences.specs.Part.{put};
 ghost use Rattle.vector_lines.specs.Escapes.{fitting, escapeWidth, escapedByte};
 
 // Puts the bytes that text encodes at the start of out, as many as fit, and answers how many. What is
-// no digit behind a backslash counts as 0, and a backslash with fewer than two bytes behind it stands
+// no digit after a backslash counts as 0, and a backslash with fewer than two bytes after it stands
 // for itself.
 pub fn unescape(text: &[u8], out: &mut [u8]) -> usize
     ensures { λ r. ⌜ now (out .exit) ≡ put 0 (fitting (length (now (out .entry))) (now (text .entry))) (now (out .entry)) ⌝ }

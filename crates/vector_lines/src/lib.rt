@@ -54,7 +54,7 @@ pub fn decimal(text: &[u8]) -> u64
     n
 }
 
-// n with one digit more behind it, or the largest number.
+// n with one digit more after it, or the largest number.
 fn with_digit(n: u64, digit: u64) -> u64
     ensures { λ r. ⌜ r ≡ min largest (10 * n + digit) ⌝ }
 {

@@ -24,8 +24,8 @@ pub marked-next : (xs : List ℕ) (i : ℕ) → i < length xs → marked (i + 1)
 unfolding marksFrom
 marked-next xs i h =
     let stored : take (i + 1) (set xs i (marker i)) ≡ take i xs ++ (marker i ∷ []) = rw add-one (take-suc-set xs i (marker i) h) in
-    let behind : drop (i + 1) (set xs i (marker i)) ≡ drop (i + 1) xs = drop-set-lt (i + 1) xs i (marker i) (omega arith) in
-    rw (stored, behind, append-assoc, drop-next xs i h, add-one i)
+    let after : drop (i + 1) (set xs i (marker i)) ≡ drop (i + 1) xs = drop-set-lt (i + 1) xs i (marker i) (omega arith) in
+    rw (stored, after, append-assoc, drop-next xs i h, add-one i)
 
 pub marked-past : (xs : List ℕ) (i : ℕ) → length xs ≤ i → marked i xs ≡ xs
 unfolding marksFrom

@@ -18,7 +18,7 @@ marksFrom i (b ∷ bs) = marker i ∷ marksFrom (suc i) bs
 abbrev pub marked : ℕ → List ℕ → List ℕ
 marked at bs = take at bs ++ marksFrom at (drop at bs)
 
--- the first index whose byte is not its mark, where the first of bs has the index i: the index behind the last byte where there is none
+-- the first index whose byte is not its mark, where the first of bs has the index i: the index after the last byte where there is none
 unfoldable pub changedFrom : ℕ → List ℕ → ℕ
 changedFrom i [] = i
 changedFrom i (b ∷ bs) = cond (eqb b (marker i)) (changedFrom (suc i) bs) i

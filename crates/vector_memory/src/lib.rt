@@ -1,5 +1,5 @@
 // What the programs that run vectors tell of memory: marks that stand in it before a call, which of
-// them are found changed behind it, and a checksum that stands for long runs of bytes.
+// them are found changed after it, and a checksum that stands for long runs of bytes.
 //
 // No public function has a `requires`. Each says its answer and every byte that it changes, but
 // `print_kept`, whose writing is tested and not proved.

@@ -1,4 +1,4 @@
-// Marks, which stand in memory before a call, and what is found of them behind it.
+// Marks, which stand in memory before a call, and what is found of them after it.
 use printing::labelled;
 ghost use Prim.Native.Nat.{_≤_, max};
 ghost use mathlib.Core.Path.{_≡_};
@@ -25,7 +25,7 @@ pub fn mark(out: &mut [u8], at: usize)
 }
 
 // The first index from `at` on whose byte is not its mark; the length where each is, or `at` where that
-// is behind the length.
+// is after the length.
 pub fn changed(out: &[u8], at: usize) -> usize
     ensures { λ r. ⌜ r ≡ changedFrom at (drop at (now (out .entry))) ⌝ }
     ensures { λ r. ⌜ (at ≤ r) × (r ≤ max at (length (now (out .entry)))) ⌝ }

@@ -32,7 +32,7 @@ impl Call {
             Call::Read => (answered(mav::read(input)), 0),
             Call::Change { k, cents } => (answered(mav::change(memory, k, cents)), 0),
             Call::Withdraw { k } => {
-                let left = mav::withdraw(memory, k);
+                let left = mav::withdraw_in_place(memory, k);
                 let length = left.map_or(lent, |left| left.length);
                 (answered(left.map(|left| left.accepted)), length)
             }

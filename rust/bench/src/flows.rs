@@ -34,7 +34,7 @@ const TOWNS: [&[u8]; 5] = [
 /// Where the text of the records 20, 30 and 59 of a slow flow begins.
 #[derive(Clone, Copy, Debug, Eq, PartialEq)]
 pub enum Indent {
-    /// Behind one blank.
+    /// After one blank.
     One,
     /// At the last byte of the field that has to be present.
     Most,
@@ -50,7 +50,7 @@ pub fn usual(dispositions: u64) -> Vec<u8> {
 }
 
 /// A flow in which few records can be seen to be right by one byte: with
-/// record 16, with five 59, each text behind blanks, and P or B in every 70.
+/// record 16, with five 59, each text after blanks, and P or B in every 70.
 pub fn slow(dispositions: u64, indent: Indent) -> Vec<u8> {
     flow(dispositions, SLOW_RECORDS, |k| {
         let mut last = closing(k);

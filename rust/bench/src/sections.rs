@@ -117,7 +117,7 @@ pub fn slow_flows(rounds: usize) {
     const DISPOSITIONS: u64 = 10_000;
     let mut table = Table::new(&[&["flow", "dispositions"], &BOTH[..]].concat());
     for (name, indent) in [
-        ("text behind one blank", Indent::One),
+        ("text after one blank", Indent::One),
         ("text at the field's last byte", Indent::Most),
     ] {
         let flow = flows::slow(DISPOSITIONS, indent);

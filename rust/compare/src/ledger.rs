@@ -72,7 +72,7 @@ impl Session<'_> {
         Ok(outcome)
     }
 
-    /// An amendment: its answer is the ledger's, and the bytes behind the flow
+    /// An amendment: its answer is the ledger's, and the bytes after the flow
     /// left, up to the length of the first flow, are blanks. Gives the memory
     /// with the flow left lent.
     fn amend(&mut self, call: Call, memory: Buffer, whole: usize) -> Agreed<Buffer> {

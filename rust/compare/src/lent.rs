@@ -4,7 +4,7 @@
 use mav::raw::Entries;
 use oracle::rng::Rng;
 
-/// The fewest bytes in front of a buffer, and those behind it.
+/// The fewest bytes in front of a buffer, and those after it.
 const GUARD: usize = 16;
 
 /// Bytes lent to a call, in the middle of a larger allocation, so that a byte
@@ -62,7 +62,7 @@ impl Buffer {
     }
 
     /// Makes blanks of the bytes from `from` up to `to`, counted from the
-    /// first one lent. They may be behind those lent.
+    /// first one lent. They may be after those lent.
     pub fn blank(&mut self, from: usize, to: usize) {
         if let Some(bytes) = self.bytes.get_mut(self.start + from..self.start + to) {
             bytes.fill(b' ');

@@ -121,7 +121,7 @@ fn first_byte(kind: Kind, found: &Buffer, wanted: &Buffer) -> Option<(String, u8
     let (index, found_byte, wanted_byte) = found.first_difference(wanted)?;
     let place = match usize::try_from(index) {
         Err(_) => String::from(" (in front of it)"),
-        Ok(index) if index >= found.lent().len() => String::from(" (behind it)"),
+        Ok(index) if index >= found.lent().len() => String::from(" (after it)"),
         Ok(index) if kind == Kind::Flow => {
             let (record, position) = (index / RECORD_LEN + 1, index % RECORD_LEN + 1);
             format!(" (record {record}, position {position})")

@@ -176,7 +176,7 @@ fn a_zero_entry_is_forgotten() {
     check(&found(&forgets_a_zero), 1, &differs);
 }
 
-/// Leaves the bytes behind the flow as they were.
+/// Leaves the bytes after the flow as they were.
 fn leaves_bytes(entry: Entry, flow: &mut [u8], output: &mut [u8], answer: &mut Entries) -> u8 {
     let before = flow.to_vec();
     let status = second(entry, flow, output, answer);

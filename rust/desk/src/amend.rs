@@ -4,7 +4,7 @@ use std::fs;
 use std::io::{ErrorKind, Write};
 use std::path::Path;
 
-use mav::{Accepted, Refusal};
+use mav::{Accepted, Dispositions, Refusal};
 
 use crate::euro::{grouped, shown as euro};
 use crate::failure::{Failure, Outcome};
@@ -12,26 +12,27 @@ use crate::input::copy;
 use crate::name::shown;
 use crate::output::{confirm, saved};
 use crate::refusal;
-use crate::request::{requests, titles, Request};
+use crate::request::{titles, Request};
 use crate::save::Target;
 
 /// A flow that is locked and accepted, and that may be amended.
 struct Open<'a> {
     named: &'a Path,
-    target: Target,
-    flow: Vec<u8>,
-    numbers: Accepted,
+    target: &'a Target,
+    flow: &'a [u8],
+    requests: Dispositions<'a>,
 }
 
 /// Gives request `k` another amount.
 pub fn amount(named: &Path, k: u64, cents: u64, yes: bool, out: &mut impl Write) -> Outcome {
-    let open = Open::new(named)?;
-    let mut amended = copy(&open.flow)?;
+    let (target, flow) = locked(named)?;
+    let open = Open::new(named, &target, &flow)?;
+    let mut amended = copy(&flow)?;
     let left = mav::change(&mut amended, k, cents).map_err(|refusal| open.refused(&refusal, k))?;
-    let found = mav::find(&open.flow, k).map_err(|refusal| open.refused(&refusal, k))?;
-    let request = Request::of(found.part, k);
+    let found = mav::find(&flow, k).map_err(|refusal| open.refused(&refusal, k))?;
+    let request = Request::of(found);
     writeln!(out, "{}: {}\n", shown(named), request.named())?;
-    if amended == open.flow {
+    if amended == flow {
         writeln!(
             out,
             "Its amount is {} already; there is nothing to save.",
@@ -54,18 +55,16 @@ pub fn withdraw(named: &Path, numbers: &[u64], yes: bool, out: &mut impl Write) 
             twice[0]
         )));
     }
-    let open = Open::new(named)?;
-    let mut amended = copy(&open.flow)?;
-    let mut left = open.numbers;
+    let (target, flow) = locked(named)?;
+    let open = Open::new(named, &target, &flow)?;
+    let mut amended = copy(&flow)?;
+    let mut left = open.numbers();
     // From the last one on: a withdrawal gives later requests new numbers, and the earlier ones keep theirs.
     for &k in &falling {
-        let withdrawn =
-            mav::withdraw(&mut amended, k).map_err(|refusal| open.refused(&refusal, k))?;
-        amended.truncate(withdrawn.length);
-        left = withdrawn.accepted;
+        left = mav::withdraw(&mut amended, k).map_err(|refusal| open.refused(&refusal, k))?;
     }
     writeln!(out, "{}: to be withdrawn\n\n{}", shown(named), titles())?;
-    for request in requests(&open.flow) {
+    for request in open.requests.clone().map(Request::of) {
         if falling.binary_search_by(|k| request.number.cmp(k)).is_ok() {
             writeln!(out, "{}", request.row())?;
         }
@@ -81,27 +80,36 @@ pub fn withdraw(named: &Path, numbers: &[u64], yes: bool, out: &mut impl Write) 
     open.save(&[], left, &amended, yes, out)
 }
 
+/// Locks and reads a flow.
+fn locked(named: &Path) -> Outcome<(Target, Vec<u8>)> {
+    // A file that is not there is told as such, and not that it cannot be locked.
+    let unread = |error| Failure::of_file(named, "cannot be read", &error);
+    fs::metadata(named).map_err(unread)?;
+    let target = Target::lock(named)?;
+    let gone = || unread(ErrorKind::NotFound.into());
+    let flow = target.read()?.ok_or_else(gone)?;
+    Ok((target, flow))
+}
+
 impl<'a> Open<'a> {
-    /// Locks and reads a flow, which must be accepted.
-    fn new(named: &'a Path) -> Outcome<Open<'a>> {
-        // A file that is not there is told as such, and not that it cannot be locked.
-        let unread = |error| Failure::of_file(named, "cannot be read", &error);
-        fs::metadata(named).map_err(unread)?;
-        let target = Target::lock(named)?;
-        let gone = || unread(ErrorKind::NotFound.into());
-        let flow = target.read()?.ok_or_else(gone)?;
-        let numbers = refusal::accepted(named, &flow)?;
+    /// A flow as it was locked, which must be accepted.
+    fn new(named: &'a Path, target: &'a Target, flow: &'a [u8]) -> Outcome<Open<'a>> {
         Ok(Open {
             named,
             target,
             flow,
-            numbers,
+            requests: refusal::accepted(named, flow)?,
         })
+    }
+
+    /// The numbers of the flow before it is amended.
+    fn numbers(&self) -> Accepted {
+        self.requests.accepted()
     }
 
     /// What the clerk is told where the library refuses the amendment of request `k`.
     fn refused(&self, refusal: &Refusal, k: u64) -> Failure {
-        let count = self.numbers.dispositions;
+        let count = self.numbers().dispositions;
         refusal::of_request(refusal, self.named, k, count, "; nothing was changed")
     }
 
@@ -115,7 +123,7 @@ impl<'a> Open<'a> {
         out: &mut impl Write,
     ) -> Outcome {
         writeln!(out, "{:<24}{:>24}{:>24}", "", "BEFORE", "AFTER")?;
-        for [what, before, after] in rows.iter().chain(&trailer(self.numbers, left)) {
+        for [what, before, after] in rows.iter().chain(&trailer(self.numbers(), left)) {
             writeln!(out, "{what:<24}{before:>24}{after:>24}")?;
         }
         writeln!(out)?;
@@ -123,7 +131,7 @@ impl<'a> Open<'a> {
             confirm(out, "Save it?", "not saved: the flow is as it was.")?;
         }
         out.flush()?;
-        self.target.save(Some(&self.flow), amended)?;
+        self.target.save(Some(self.flow), amended)?;
         saved(out, "flow", Some(&self.target.kept_as()))
     }
 }

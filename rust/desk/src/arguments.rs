@@ -37,7 +37,7 @@ pub enum Saving {
     Write { list: PathBuf, flow: PathBuf },
 }
 
-/// The words behind a command's name: its options, which may stand anywhere, and the others in order.
+/// The words after a command's name: its options, which may stand anywhere, and the others in order.
 #[derive(Default)]
 struct Words {
     operands: Vec<OsString>,

@@ -76,7 +76,7 @@ fn table<'a>(
     Ok(())
 }
 
-/// What stands behind a flow's name.
+/// What stands after a flow's name.
 fn row(verdict: &Verdict) -> String {
     match verdict {
         Verdict::Accepted(numbers) => cells(

@@ -19,25 +19,31 @@ pub fn number(number: u64, out: &mut impl Write) -> Outcome {
 
 /// Explains all of them.
 pub fn table(out: &mut impl Write) -> Outcome {
-    for (index, reason) in Reason::ALL.into_iter().enumerate() {
+    for (index, reason) in Reason::ALL.iter().enumerate() {
         if index > 0 {
             writeln!(out)?;
         }
-        row(reason, out)?;
+        row(*reason, out)?;
     }
     Ok(())
 }
 
+/// The number, what it means, and what is known of it here. Of a number that only a later library has, that
+/// is nothing.
 fn row(reason: Reason, out: &mut impl Write) -> Outcome {
     writeln!(out, "{:>2}  {reason}", reason.number())?;
-    writeln!(out, "    Place: {}.", place(reason))?;
-    writeln!(out, "    {}", remedy(reason))?;
+    if let Some(place) = place(reason) {
+        writeln!(out, "    Place: {place}.")?;
+    }
+    if let Some(remedy) = remedy(reason) {
+        writeln!(out, "    {remedy}")?;
+    }
     Ok(())
 }
 
 /// The place that a refusal by the number gives (document 01, "Numbers a clerk may see").
-fn place(reason: Reason) -> &'static str {
-    match reason {
+fn place(reason: Reason) -> Option<&'static str> {
+    Some(match reason {
         Reason::Byte => "the record, and the position of the byte",
         Reason::RecordType => "the record, position 2",
         Reason::Ended => "the record that is missing",
@@ -58,12 +64,13 @@ fn place(reason: Reason) -> &'static str {
         | Reason::TotalTooLarge
         | Reason::OnlyDisposition
         | Reason::Room => "none",
-    }
+        _ => return None,
+    })
 }
 
 /// What a clerk can do.
-fn remedy(reason: Reason) -> &'static str {
-    match reason {
+fn remedy(reason: Reason) -> Option<&'static str> {
+    Some(match reason {
         Reason::Length => "It was cut short or is no flow. The longest has 9.999.999 records.",
         Reason::Byte => "Often an accent, a tab or a line end. Have it sent in plain characters.",
         Reason::RecordType => "A record is missing before it, or it stands there by mistake.",
@@ -83,5 +90,22 @@ fn remedy(reason: Reason) -> &'static str {
         Reason::OnlyDisposition => "A flow has at least one request. Keep the flow back instead.",
         Reason::Item => "The list was cut short or is no list. Make it again from its flow.",
         Reason::Room => "Programs that use the library see it. mavdesk makes the room.",
+        _ => return None,
+    })
+}
+
+#[cfg(test)]
+mod tests {
+    use super::*;
+
+    /// The compiler does not say it: an enum that may grow is matched with an arm for all others.
+    #[test]
+    fn every_number_of_today_has_a_place_and_a_remedy() {
+        for &reason in Reason::ALL {
+            assert!(
+                place(reason).is_some() && remedy(reason).is_some(),
+                "{reason:?}"
+            );
+        }
     }
 }

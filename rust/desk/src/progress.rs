@@ -44,7 +44,7 @@ impl Progress {
 impl Drop for Progress {
     fn drop(&mut self) {
         if self.shown {
-            // Back to the line's first column, and all behind it cleared.
+            // Back to the line's first column, and all after it cleared.
             let _ = write!(io::stderr(), "\r\u{1b}[K");
         }
     }

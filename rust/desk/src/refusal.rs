@@ -3,7 +3,7 @@
 use std::fmt::Write;
 use std::path::Path;
 
-use mav::{Accepted, ItemKind, Reason, Refusal, RECORD_LENGTH};
+use mav::{Dispositions, ItemKind, Reason, Refusal, RECORD_LENGTH};
 
 use crate::euro::grouped;
 use crate::failure::{Failure, Outcome};
@@ -32,9 +32,9 @@ pub fn line(refusal: &Refusal) -> String {
     format!("{}: {}", place(refusal), refusal.reason)
 }
 
-/// The numbers of a flow; or the end of a command, where it is refused.
-pub fn accepted(named: &Path, flow: &[u8]) -> Outcome<Accepted> {
-    mav::read(flow).map_err(|refusal| of_flow(&refusal, named, flow))
+/// The requests of a flow; or the end of a command, where it is refused.
+pub fn accepted<'a>(named: &Path, flow: &'a [u8]) -> Outcome<Dispositions<'a>> {
+    mav::dispositions(flow).map_err(|refusal| of_flow(&refusal, named, flow))
 }
 
 /// The end of a command whose flow is refused.

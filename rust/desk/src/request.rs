@@ -1,7 +1,7 @@
 //! What is shown of a request. All of it is read from a flow that the library has accepted: its records
 //! stand in the order of document 01 and its fields keep the table of checks (`GrammarExact`).
 
-use mav::RECORD_LENGTH;
+use mav::{Disposition, RECORD_LENGTH};
 
 use crate::euro;
 use crate::record::{characters, field, record_type, text};
@@ -18,8 +18,14 @@ pub struct Request {
 const TITLES: [&str; 5] = ["NUMBER", "DUE", "AMOUNT", "DEBTOR", "REFERENCE"];
 
 impl Request {
-    /// The request with this number whose records are this part of a flow.
-    pub fn of(part: &[u8], number: u64) -> Request {
+    /// The request that the library calls this disposition.
+    pub fn of(found: Disposition<'_>) -> Request {
+        let Disposition {
+            number,
+            cents,
+            part,
+            ..
+        } = found;
         let opening = &part[..RECORD_LENGTH];
         let of_type = |wanted: &[u8]| {
             let found = part
@@ -27,8 +33,6 @@ impl Request {
                 .find(|record| record_type(record) == wanted);
             found.expect("every request of an accepted flow has records 30 and 51")
         };
-        let cents = mav::amount(field(opening, 34, 46))
-            .expect("the amount of a request of an accepted flow is digits");
         let cells = [
             number.to_string(),
             date(field(opening, 23, 28)),
@@ -77,25 +81,6 @@ fn line([number, due, amount, debtor, reference]: &[&str; 5]) -> String {
     format!("{number:>7}  {due:<10} {amount:>17}  {debtor:<30} {reference}")
         .trim_end()
         .to_owned()
-}
-
-/// The requests of an accepted flow, in order.
-pub fn requests(flow: &[u8]) -> impl Iterator<Item = Request> + '_ {
-    let mut records = flow.chunks_exact(RECORD_LENGTH).enumerate();
-    let mut starts = std::iter::from_fn(move || {
-        records
-            .find(|(_, record)| matches!(record_type(record), b"14" | b"EF"))
-            .map(|(index, _)| index * RECORD_LENGTH)
-    });
-    // A request ends where the next one begins, and the last one at the trailer.
-    let mut start = starts.next();
-    let mut number = 0;
-    std::iter::from_fn(move || {
-        let (first, end) = (start?, starts.next()?);
-        start = Some(end);
-        number += 1;
-        Some(Request::of(&flow[first..end], number))
-    })
 }
 
 /// A date GGMMAA as day, month and year, of the years 2000 to 2099.

@@ -12,14 +12,15 @@ use crate::name::{plain, shown};
 use crate::output::counted;
 use crate::record::{drawn, field, record_type, text};
 use crate::refusal;
-use crate::request::{date, requests, titles, Request};
+use crate::request::{date, titles, Request};
 
 /// Shows the requests of a flow, or those that have a text in their row.
 pub fn table(named: &Path, wanted: Option<&str>, out: &mut impl Write) -> Outcome {
     let flow = read(named)?;
-    let numbers = refusal::accepted(named, &flow)?;
+    let requests = refusal::accepted(named, &flow)?;
+    let numbers = requests.accepted();
     let (mut found, mut cents) = (0_u64, 0_u64);
-    for request in requests(&flow) {
+    for request in requests.map(Request::of) {
         if wanted.is_none_or(|wanted| request.has(wanted)) {
             if found == 0 {
                 heading(named, &flow, out)?;
@@ -53,12 +54,11 @@ pub fn table(named: &Path, wanted: Option<&str>, out: &mut impl Write) -> Outcom
 /// Shows one request with all its records.
 pub fn request(named: &Path, k: u64, out: &mut impl Write) -> Outcome {
     let flow = read(named)?;
-    let numbers = refusal::accepted(named, &flow)?;
+    let numbers = refusal::accepted(named, &flow)?.accepted();
     let found = mav::find(&flow, k)
         .map_err(|refusal| refusal::of_request(&refusal, named, k, numbers.dispositions, ""))?;
-    let request = Request::of(found.part, k);
     heading(named, &flow, out)?;
-    writeln!(out, "{}\n{}", titles(), request.row())?;
+    writeln!(out, "{}\n{}", titles(), Request::of(found).row())?;
     for (record, number) in found
         .part
         .chunks_exact(RECORD_LENGTH)

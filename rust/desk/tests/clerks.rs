@@ -281,7 +281,7 @@ fn read_all_the_time(folder: &Folder, made: usize, done: &AtomicBool) -> usize {
 }
 
 /// So many clerks amend one flow at once. Each changes the amounts of its own requests, each to one that no
-/// other request gets, and all withdraw the request behind these, so many times.
+/// other request gets, and all withdraw the request after these, so many times.
 fn many_clerks(clerks: usize, amounts: usize, withdrawals: usize) {
     let own = clerks * amounts;
     let gone = clerks * withdrawals;

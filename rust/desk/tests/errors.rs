@@ -17,7 +17,7 @@ use common::{
     withdraw, Ended, Folder,
 };
 
-/// What `amount FILE 2 400` shows of two-rents.flow behind the file's name.
+/// What `amount FILE 2 400` shows of two-rents.flow after the file's name.
 const TO_400: &str = ": Request 2, due 31/03/2026, BIANCHI MARCO, reference 0000000023
 
                                           BEFORE                   AFTER

@@ -125,13 +125,13 @@ const MARKED: [Refused; 12] = [
     ),
 ];
 
-/// The refusal of the flow whose last byte is missing, behind its name.
+/// The refusal of the flow whose last byte is missing, after its name.
 const LENGTH: &str = "\
 refused 1: the flow is empty, is not whole records of 120 bytes, or is too long.
 It has 1.919 bytes: 15 records, and 119 bytes more.
 ";
 
-/// The refusal of the flow whose trailer is missing, behind its name.
+/// The refusal of the flow whose trailer is missing, after its name.
 const ENDED: &str = "\
 refused 4 at record 16: the flow ends where one more record is due.
 Record 15, the last one:
@@ -149,7 +149,7 @@ impl Refused {
         format!("refused {number} at record {record}, position {position}")
     }
 
-    /// All that is told of it behind the flow's name.
+    /// All that is told of it after the flow's name.
     fn told(&self) -> String {
         let flow = sample(self.file);
         let (number, position) = self.at;
@@ -167,7 +167,7 @@ impl Refused {
     }
 }
 
-/// Every sample that is a refused flow: its place, and all that is told of it behind its name.
+/// Every sample that is a refused flow: its place, and all that is told of it after its name.
 fn flows() -> Vec<(&'static str, String, String)> {
     let mut flows: Vec<_> = MARKED
         .iter()
@@ -345,7 +345,7 @@ fn the_mark_stands_exactly_under_the_byte_at_the_position() {
         assert!(byte == b'\t' || row.field.starts_with(char::from(byte)));
         let ruler = if position > 60 { RULER_2 } else { RULER_1 };
         assert_eq!(lines[marked - 2], ruler, "{told}");
-        // Behind the three columns before each row, the column is the position within its half.
+        // After the three columns before each row, the column is the position within its half.
         assert_eq!(column, 3 + (position - 1) % 60, "{told}");
     }
 }
@@ -627,7 +627,7 @@ fn number_18_is_given_where_all_requests_are_to_go() {
 }
 
 /// Writes a list that is refused, to a new file and over one that is there, and compares what is told
-/// behind its name.
+/// after its name.
 #[track_caller]
 fn refused_list(list: &[u8], told: &str) {
     let folder = folder_of("a.list", list);
@@ -720,7 +720,7 @@ Item 9, kind D, at the positions of its record 14:
 #[test]
 fn number_2_tells_the_byte_of_an_item() {
     let [head, mut first, second] = rents();
-    // Item B, behind the items D of 59 bytes and C of 97: the name begins behind its kind.
+    // Item B, after the items D of 59 bytes and C of 97: the name begins after its kind.
     assert_eq!(&first[156..169], b"BROSSI GIULIA");
     first[161] = 0xE8;
     refused_list(

@@ -32,8 +32,40 @@ pub fn change(flow: &mut [u8], k: u64, cents: u64) -> Result<Accepted, Refusal> 
     ask_flow(|answer| raw::change(flow, k, cents, answer)).map(|entries| accepted(&entries))
 }
 
-/// What a withdrawal leaves.
+/// Takes disposition `k`, counted from 1, out of a flow, shortens the vector to the flow left, and gives
+/// its numbers.
+///
+/// Refused as by [`read`](crate::read), then by
+/// [`NoSuchDisposition`](crate::Reason::NoSuchDisposition) and
+/// [`OnlyDisposition`](crate::Reason::OnlyDisposition). Later dispositions move up and are numbered anew.
+/// A refused call leaves every byte as it was, and the flow keeps its length.
+///
+/// ```
+/// use mav::{Accepted, Reason};
+///
+/// let mut flow = include_bytes!(concat!(env!("CARGO_MANIFEST_DIR"), "/../../samples/two-rents.flow")).to_vec();
+///
+/// // Example 3 of document 01: 1,080 bytes are left.
+/// let left = mav::withdraw(&mut flow, 1)?;
+/// assert_eq!(left, Accepted { dispositions: 1, cents: 38_050, records: 9 });
+/// assert_eq!(flow.len(), 1_080);
+/// assert_eq!(mav::read(&flow), Ok(left));
+///
+/// // Example 10: the only one cannot go, and the flow is as before.
+/// assert_eq!(mav::withdraw(&mut flow, 1).unwrap_err().reason, Reason::OnlyDisposition);
+/// assert_eq!(mav::read(&flow), Ok(left));
+/// # Ok::<(), mav::Refusal>(())
+/// ```
+pub fn withdraw(flow: &mut Vec<u8>, k: u64) -> Result<Accepted, Refusal> {
+    let left = withdraw_in_place(flow, k)?;
+    // The blanks after the flow left are no part of it, and must not go out with it.
+    flow.truncate(left.length);
+    Ok(left.accepted)
+}
+
+/// What a withdrawal in place leaves.
 #[derive(Clone, Copy, Debug, Eq, Hash, PartialEq)]
+#[must_use = "only the first `length` bytes are still a flow, and blanks stand after them"]
 pub struct Withdrawn {
     /// The numbers of the flow left.
     pub accepted: Accepted,
@@ -41,22 +73,20 @@ pub struct Withdrawn {
     pub length: usize,
 }
 
-/// Takes disposition `k`, counted from 1, out, and gives the numbers and the length of the flow left.
+/// The same in memory that cannot be shortened: takes disposition `k` out, and gives the numbers and the
+/// length of the flow left.
 ///
-/// Refused as by [`read`](crate::read), then by
-/// [`NoSuchDisposition`](crate::Reason::NoSuchDisposition) and
-/// [`OnlyDisposition`](crate::Reason::OnlyDisposition). Later dispositions move up and are numbered anew,
-/// and the freed bytes at the end become blanks: after that the slice is longer than its flow, and only
-/// its first [`length`](Withdrawn::length) bytes are a flow. A refused call leaves every byte as it was,
-/// and the flow keeps its length.
+/// Refused as [`withdraw`] is. The freed bytes at the end become blanks: after that the slice is longer
+/// than its flow, and only its first [`length`](Withdrawn::length) bytes are a flow. A refused call leaves
+/// every byte as it was, and the flow keeps its length.
 ///
 /// ```
 /// use mav::{Accepted, Reason};
 ///
-/// let mut flow = include_bytes!(concat!(env!("CARGO_MANIFEST_DIR"), "/../../samples/two-rents.flow")).to_vec();
+/// let mut flow = *include_bytes!(concat!(env!("CARGO_MANIFEST_DIR"), "/../../samples/two-rents.flow"));
 ///
 /// // Example 3 of document 01: 1,080 bytes are left, and 840 blanks.
-/// let left = mav::withdraw(&mut flow, 1)?;
+/// let left = mav::withdraw_in_place(&mut flow, 1)?;
 /// assert_eq!(left.length, 1_080);
 /// assert_eq!(left.accepted, Accepted { dispositions: 1, cents: 38_050, records: 9 });
 /// assert_eq!(flow[1_080..], [b' '; 840]);
@@ -66,7 +96,7 @@ pub struct Withdrawn {
 /// assert_eq!(mav::read(&flow).unwrap_err().reason, Reason::RecordType);
 /// # Ok::<(), mav::Refusal>(())
 /// ```
-pub fn withdraw(flow: &mut [u8], k: u64) -> Result<Withdrawn, Refusal> {
+pub fn withdraw_in_place(flow: &mut [u8], k: u64) -> Result<Withdrawn, Refusal> {
     let entries = ask_flow(|answer| raw::withdraw(flow, k, answer))?;
     Ok(Withdrawn {
         accepted: accepted(&entries),

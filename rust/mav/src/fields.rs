@@ -7,7 +7,7 @@ use crate::answer::{ask, foreign};
 use crate::raw;
 use crate::reason::Reason;
 
-/// Why a field is refused. A field rule's refusal is its number alone, 5 or 8.
+/// Why a field is refused. A field rule's refusal is its number alone, 5 or 8. Later versions add numbers.
 ///
 /// ```
 /// use mav::{FieldRefusal, Reason};
@@ -16,6 +16,7 @@ use crate::reason::Reason;
 /// assert_eq!(FieldRefusal::NotADate.reason(), Reason::NotADate);
 /// ```
 #[derive(Clone, Copy, Debug, Eq, Hash, PartialEq)]
+#[non_exhaustive]
 pub enum FieldRefusal {
     /// 5: the field is not digits, or not of the length due.
     NotDigits,

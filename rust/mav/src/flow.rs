@@ -27,7 +27,10 @@ pub fn read(flow: &[u8]) -> Result<Accepted, Refusal> {
 ///
 /// It borrows the flow, so that it cannot be used after the flow has changed.
 #[derive(Clone, Copy, Debug, Eq, Hash, PartialEq)]
+#[must_use = "it only says where the disposition stands"]
 pub struct Disposition<'a> {
+    /// Its number, counted from 1.
+    pub number: u64,
     /// Its first record, counted from 1 with the header.
     pub first_record: u64,
     /// How many records it has.
@@ -59,7 +62,8 @@ impl Disposition<'_> {
 /// Says where disposition `k` stands, counted from 1, and gives its part of the flow.
 ///
 /// Refused as by [`read`], then by [`NoSuchDisposition`](crate::Reason::NoSuchDisposition) where `k` is 0
-/// or above the count. The part is a slice of the flow and never a copy.
+/// or above the count. The part is a slice of the flow and never a copy. Each call judges the whole flow;
+/// [`dispositions`](crate::dispositions) gives all of them and judges it once.
 ///
 /// ```
 /// use mav::Reason;
@@ -81,6 +85,7 @@ pub fn find(flow: &[u8], k: u64) -> Result<Disposition<'_>, Refusal> {
         .get(byte_range(first_record, records))
         .unwrap_or_else(|| foreign("first record", first_record));
     Ok(Disposition {
+        number: k,
         first_record,
         records,
         cents,

@@ -7,6 +7,7 @@ use crate::raw;
 
 /// What writing or reading back has put at the front of an output.
 #[derive(Clone, Copy, Debug, Eq, Hash, PartialEq)]
+#[must_use = "only the first `length` bytes of the output were written"]
 pub struct Written {
     /// The numbers of the flow, written or read.
     pub accepted: Accepted,
@@ -126,7 +127,7 @@ pub fn read_back_to_vec(flow: &[u8]) -> Result<(Accepted, Vec<u8>), Refusal> {
 ///
 /// It counts the whole items at the front of the list, and is never more than
 /// [`MAX_FLOW_LENGTH`]. So with this room [`write`](fn@write) is never refused by
-/// [`Room`](crate::Reason::Room): a list with anything else behind its items, or with too many of them, is
+/// [`Room`](crate::Reason::Room): a list with anything else after its items, or with too many of them, is
 /// refused by a reason that comes first. The count is not part of the proved library. Were it wrong, a
 /// call would be refused and write nothing.
 ///
@@ -138,6 +139,7 @@ pub fn read_back_to_vec(flow: &[u8]) -> Result<(Accepted, Vec<u8>), Refusal> {
 /// assert_eq!(mav::flow_room(&list[..643]), 1_080);
 /// assert_eq!(mav::flow_room(&[]), 120);
 /// ```
+#[must_use = "it only counts: the caller makes the room"]
 pub fn flow_room(list: &[u8]) -> usize {
     items(list)
         .count()
@@ -156,6 +158,7 @@ pub fn flow_room(list: &[u8]) -> usize {
 /// assert_eq!(mav::list_room(1_920), 1_665);
 /// assert_eq!(mav::list_room(0), 0);
 /// ```
+#[must_use = "it only counts: the caller makes the room"]
 pub const fn list_room(flow_length: usize) -> usize {
     let longest = if flow_length < MAX_FLOW_LENGTH {
         flow_length

@@ -42,36 +42,42 @@ extern "C" {
 }
 
 /// The number of a field of 1 to 15 digits: entry 0.
+#[must_use = "0 says that the call is refused"]
 pub fn digits(field: &[u8], answer: &mut Entries) -> u8 {
     // SAFETY: the pointers and the length are those of the borrows, which last for the call.
     unsafe { mav_digits(field.as_ptr(), field.len(), answer) }
 }
 
 /// The cents of a field of 13 digits: entry 0.
+#[must_use = "0 says that the call is refused"]
 pub fn amount(field: &[u8], answer: &mut Entries) -> u8 {
     // SAFETY: as for `digits`.
     unsafe { mav_amount(field.as_ptr(), field.len(), answer) }
 }
 
 /// Whether a field of 6 digits is a day of the calendar. An accepted answer is all zeros.
+#[must_use = "0 says that the call is refused"]
 pub fn date(field: &[u8], answer: &mut Entries) -> u8 {
     // SAFETY: as for `digits`.
     unsafe { mav_date(field.as_ptr(), field.len(), answer) }
 }
 
 /// The numbers of a flow: dispositions, cents and records.
+#[must_use = "0 says that the call is refused"]
 pub fn read(flow: &[u8], answer: &mut Entries) -> u8 {
     // SAFETY: as for `digits`.
     unsafe { mav_read(flow.as_ptr(), flow.len(), answer) }
 }
 
 /// Where disposition `k` stands: its first record, its number of records and its cents.
+#[must_use = "0 says that the call is refused"]
 pub fn find(flow: &[u8], k: u64, answer: &mut Entries) -> u8 {
     // SAFETY: as for `digits`.
     unsafe { mav_find(flow.as_ptr(), flow.len(), k, answer) }
 }
 
 /// Writes the flow of a list at the front of `out`. Entry 3 is the length written, 0 where refused.
+#[must_use = "0 says that the call is refused"]
 pub fn write(list: &[u8], out: &mut [u8], answer: &mut Entries) -> u8 {
     // SAFETY: as for `digits`; `out` is borrowed alone, so it overlaps neither of the others.
     unsafe {
@@ -86,6 +92,7 @@ pub fn write(list: &[u8], out: &mut [u8], answer: &mut Entries) -> u8 {
 }
 
 /// Writes the list of a flow at the front of `out`. Entry 3 is the length written, 0 where refused.
+#[must_use = "0 says that the call is refused"]
 pub fn list(flow: &[u8], out: &mut [u8], answer: &mut Entries) -> u8 {
     // SAFETY: as for `write`.
     unsafe {
@@ -100,12 +107,14 @@ pub fn list(flow: &[u8], out: &mut [u8], answer: &mut Entries) -> u8 {
 }
 
 /// Gives disposition `k` the amount. An accepted answer has the numbers of the flow left.
+#[must_use = "0 says that the call is refused"]
 pub fn change(flow: &mut [u8], k: u64, cents: u64, answer: &mut Entries) -> u8 {
     // SAFETY: as for `write`, with `flow` in the place of `out`.
     unsafe { mav_change(flow.as_mut_ptr(), flow.len(), k, cents, answer) }
 }
 
 /// Takes disposition `k` out. Entry 3 is the length of the flow left, the length of `flow` where refused.
+#[must_use = "0 says that the call is refused"]
 pub fn withdraw(flow: &mut [u8], k: u64, answer: &mut Entries) -> u8 {
     // SAFETY: as for `change`.
     unsafe { mav_withdraw(flow.as_mut_ptr(), flow.len(), k, answer) }

@@ -7,6 +7,9 @@ use std::fmt;
 /// Number 19 is not used. [`Display`](fmt::Display) gives one sentence for a clerk, which begins in small
 /// letters and has no period, so that it can follow a colon.
 ///
+/// Later versions add numbers, so a `match` on it needs an arm for those that it does not name; the number
+/// and the sentence are there for every one.
+///
 /// ```
 /// use mav::Reason;
 ///
@@ -15,8 +18,16 @@ use std::fmt;
 ///     Reason::OnlyDisposition.to_string(),
 ///     "the only disposition of a flow cannot be withdrawn",
 /// );
+///
+/// let advice = |reason: Reason| match reason {
+///     Reason::Ended => "have it sent again".to_string(),
+///     other => format!("number {}: {other}", other.number()),
+/// };
+/// assert_eq!(advice(Reason::Ended), "have it sent again");
+/// assert_eq!(advice(Reason::Total), "number 13: this total of the trailer is wrong");
 /// ```
 #[derive(Clone, Copy, Debug, Eq, Hash, Ord, PartialEq, PartialOrd)]
+#[non_exhaustive]
 #[repr(u8)]
 pub enum Reason {
     /// 1: the flow's length is 0, no multiple of 120, or above
@@ -72,7 +83,7 @@ impl Reason {
     /// assert_eq!(Reason::ALL.len(), 20);
     /// assert!(Reason::ALL.iter().all(|reason| reason.number() != 19));
     /// ```
-    pub const ALL: [Reason; 20] = [
+    pub const ALL: &'static [Reason] = &[
         Reason::Length,
         Reason::Byte,
         Reason::RecordType,
@@ -114,9 +125,8 @@ impl Reason {
     /// assert_eq!(Reason::from_number(0), None);
     /// ```
     pub fn from_number(number: u64) -> Option<Reason> {
-        Reason::ALL
-            .into_iter()
-            .find(|reason| reason.number() == number)
+        let mut reasons = Reason::ALL.iter().copied();
+        reasons.find(|reason| reason.number() == number)
     }
 
     /// The sentence for a clerk.

@@ -106,35 +106,52 @@ fn calls_on_one_memory() {
         mav::change(&mut memory, 3, 1),
         Err(of_call(Reason::NoSuchDisposition))
     );
-    let left = mav::withdraw(&mut memory, 1).expect("two dispositions");
+    let left = mav::withdraw_in_place(&mut memory, 1).expect("two dispositions");
     assert_eq!(
         (left.length, left.accepted),
         (1_080, accepted(1, 40_000, 9))
     );
     let refusal = of_call(Reason::OnlyDisposition);
-    assert_eq!(mav::withdraw(&mut memory[..left.length], 1), Err(refusal));
+    let told = mav::withdraw_in_place(&mut memory[..left.length], 1);
+    assert_eq!(told, Err(refusal));
     assert_eq!(mav::read(&memory[..left.length]), Ok(left.accepted));
     assert_eq!(memory[left.length..], [b' '; 840]);
-    // At the old length the blanks are records behind the trailer.
+    // At the old length the blanks are records after the trailer.
     assert_eq!(mav::read(&memory), Err(refused(Reason::RecordType, 10, 2)));
 }
 
 #[test]
 fn forty_rents_withdrawn_one_after_another() {
-    let mut memory = sample("forty-rents.flow");
-    let mut length = memory.len();
+    let mut flow = sample("forty-rents.flow");
     for count in (1..40).rev() {
-        let gone = mav::find(&memory[..length], 1)
-            .expect("some are left")
-            .records as usize;
-        let left = mav::withdraw(&mut memory[..length], 1).expect("more than one");
-        assert_eq!(left.accepted.dispositions, count);
-        assert_eq!(left.length, length - 120 * gone);
-        assert_eq!(mav::read(&memory[..left.length]), Ok(left.accepted));
-        length = left.length;
+        let gone = mav::find(&flow, 1).expect("some are left").part.len();
+        let due = flow.len() - gone;
+        let left = mav::withdraw(&mut flow, 1).expect("more than one");
+        assert_eq!(left.dispositions, count);
+        assert_eq!(flow.len(), due);
+        assert_eq!(mav::read(&flow), Ok(left));
     }
     // The fortieth is left, of 30000 + 40 * 1250 cents.
-    assert_eq!(mav::find(&memory[..length], 1).expect("one").cents, 80_000);
+    assert_eq!(mav::find(&flow, 1).expect("one").cents, 80_000);
+}
+
+#[test]
+fn a_vector_is_left_with_the_flow_and_no_blanks() {
+    for file in [
+        "two-rents.flow",
+        "two-rents-filler.flow",
+        "forty-rents.flow",
+    ] {
+        let before = sample(file);
+        let count = mav::read(&before).expect("right").dispositions;
+        for k in 1..=count {
+            let mut memory = before.clone();
+            let left = mav::withdraw_in_place(&mut memory, k).expect("more than one");
+            let mut flow = before.clone();
+            assert_eq!(mav::withdraw(&mut flow, k), Ok(left.accepted));
+            assert_eq!(flow, memory[..left.length], "{file} {k}");
+        }
+    }
 }
 
 /// The list of 101 rents of the largest amount, the last of them with another amount.

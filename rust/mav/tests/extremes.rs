@@ -12,9 +12,11 @@ fn an_empty_flow_has_no_length() {
     assert_eq!(mav::read_back(&[], &mut []), Err(refusal));
     assert_eq!(mav::read_back(&[], &mut [0; 120]), Err(refusal));
     assert_eq!(mav::read_back_to_vec(&[]), Err(refusal));
+    assert_eq!(mav::dispositions(&[]).err(), Some(refusal));
     for k in [0, 1, u64::MAX] {
         assert_eq!(mav::find(&[], k), Err(refusal));
-        assert_eq!(mav::withdraw(&mut [], k), Err(refusal));
+        assert_eq!(mav::withdraw(&mut vec![], k), Err(refusal));
+        assert_eq!(mav::withdraw_in_place(&mut [], k), Err(refusal));
         for cents in [0, u64::MAX] {
             assert_eq!(mav::change(&mut [], k, cents), Err(refusal));
         }

@@ -29,7 +29,7 @@ fn the_header_has_every_number_and_limit() {
         .filter_map(|line| line.trim().strip_prefix("MAV_REFUSED_"))
         .collect();
     assert_eq!(given.len(), Reason::ALL.len());
-    for reason in Reason::ALL {
+    for &reason in Reason::ALL {
         let due = format!("    {} = {}", c_name(reason), reason.number());
         let stands = |line: &str| line.strip_prefix(&due).is_some_and(ends_a_number);
         assert!(text.lines().any(stands), "{due}");

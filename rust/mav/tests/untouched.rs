@@ -77,8 +77,13 @@ fn refused_withdrawals_leave_the_flow() {
         let before = sample(file);
         for k in [0, 1, 2, 3, 40, 41, u64::MAX] {
             let mut flow = before.clone();
-            if mav::withdraw(&mut flow, k).is_err() {
+            let mut memory = before.clone();
+            let told = mav::withdraw(&mut flow, k);
+            let in_place = mav::withdraw_in_place(&mut memory, k);
+            assert_eq!(told, in_place.map(|left| left.accepted));
+            if told.is_err() {
                 assert_eq!(flow, before, "{file} {k}");
+                assert_eq!(memory, before, "{file} {k}");
                 refused += 1;
             }
         }
@@ -129,7 +134,7 @@ fn a_change_writes_only_its_two_fields() {
 fn a_withdrawal_writes_numbers_counts_sum_and_blanks() {
     let before = sample("two-rents-filler.flow");
     let mut flow = before.clone();
-    let left = mav::withdraw(&mut flow, 1).expect("two dispositions");
+    let left = mav::withdraw_in_place(&mut flow, 1).expect("two dispositions");
     assert_eq!(left.length, 1_080);
     assert_eq!(flow[1_080..], [b' '; 840]);
     let mut due = [&before[..120], &before[960..]].concat();

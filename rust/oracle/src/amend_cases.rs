@@ -369,7 +369,7 @@ const GENERATED: [(usize, usize, usize, u64); 4] = [
 ];
 
 /// The first generated flow with such a number of dispositions, and the
-/// generator behind it. Every other one is canonical.
+/// generator after it. Every other one is canonical.
 fn generated_flow(index: u64, least: usize, most: usize) -> (Rng, Vec<u8>) {
     let mut attempt = 0;
     loop {

@@ -205,7 +205,7 @@ fn swap_records(rng: &mut Rng, flow: &mut [u8]) {
 }
 
 /// Copies a whole disposition twice, and adjusts the trailer to agree. The
-/// copy stands right behind the original or at the end, and at times has the
+/// copy stands right after the original or at the end, and at times has the
 /// number due there, so that the flow is right again.
 fn copy_block(rng: &mut Rng, flow: &mut Vec<u8>) {
     let kinds: Vec<[u8; 2]> = records_of(flow).iter().map(record_type).collect();

@@ -61,7 +61,7 @@ pub fn cases() -> Vec<Case> {
     cases.0
 }
 
-/// The items of one disposition behind H, in 7 and in 8 items.
+/// The items of one disposition after H, in 7 and in 8 items.
 const RENT: &str = "D C B A R K Z";
 const RENT_X: &str = "D S C B A X K Z";
 /// One disposition: 9 records.
@@ -277,7 +277,7 @@ const KINDS: &[u8; 10] = b"HDSCBARXKZ";
 
 /// 20: kinds that are none, and bodies cut short.
 impl Cases {
-    /// Bytes that are no kind: what stands behind them would be the body of
+    /// Bytes that are no kind: what stands after them would be the body of
     /// any kind, and then no item.
     fn unknown_kinds(&mut self) {
         let others = [0, 1, 9, 10, 13, 31, 32, 127, 128, 255];

@@ -202,7 +202,7 @@ impl Cases {
         }
     }
 
-    /// Each obligatory field blank, with text right behind it where that is
+    /// Each obligatory field blank, with text right after it where that is
     /// not checked; all of them with one byte alone.
     fn present(&mut self) {
         let ends = ["first", "last"];
@@ -388,7 +388,7 @@ const MISPLACED: [(&str, &str, &str); 11] = [
 ];
 
 /// The obligatory fields: name, record of `FULL`, first and last position,
-/// and what is put behind the blank field.
+/// and what is put after the blank field.
 const PRESENT: [(&str, usize, usize, usize, &[u8]); 7] = [
     ("IM 4-8", 1, 4, 8, b""),
     ("IM 20-39", 1, 20, 39, b"X"),

@@ -39,10 +39,10 @@
 //! | `><` | the list written, and the flow read back |
 //! | `<>` | the flow read back, and its list written |
 //!
-//! Before a call with a room the output, and 64 bytes behind it, hold the byte
+//! Before a call with a room the output, and 64 bytes after it, hold the byte
 //! 128 + i % 101 at index i from 0. Its line is
 //! `accepted dispositions 2 cents 83050 records 16 length 1920 kept 64 " IMAB123.."`:
-//! the answer; the length returned; how many bytes of the output behind that
+//! the answer; the length returned; how many bytes of the output after that
 //! length, and of the 64, are all as before; and the bytes written, in quotes and
 //! escaped as above. Where one has changed, `changed at 1925` stands for `kept 64`
 //! and gives the first one's index. Of a refused call, as
@@ -72,8 +72,8 @@
 //! `reads accepted dispositions 1 cents 38050 records 9 list 643 adler 1234567
 //! flow 1080 adler 7654321 blank 840 kept 64`: the reader's answer; the length
 //! and the Adler-32 checksum of its list, read back; its own length and
-//! checksum; how many bytes of the first flow's memory lie behind it, all blank;
-//! and how many bytes behind that memory are all as before, of 64 that hold the
+//! checksum; how many bytes of the first flow's memory lie after it, all blank;
+//! and how many bytes after that memory are all as before, of 64 that hold the
 //! byte 128 + i % 101 at index i of the memory from 0. Where one is not,
 //! `not blank at 1081` or `changed at 1925` gives the first one's index. Of a
 //! refused flow the list is `list 0 adler 1`.
@@ -81,7 +81,7 @@
 //! Before that stands the answer of the call, of a withdrawal with the length
 //! returned: `accepted dispositions 2 cents 85000 records 16 reads ..`,
 //! `accepted dispositions 1 cents 38050 records 9 length 1080 reads ..`, or
-//! `refused 15 record 0 position 0 length 1920 reads ..`, behind which the flow
+//! `refused 15 record 0 position 0 length 1920 reads ..`, after which the flow
 //! is told as it was before the call. Answers, lengths and lists are those of
 //! the ledger, or of the reader where it refuses the flow; the flows are those
 //! of the amendments.
@@ -276,7 +276,7 @@ impl Held {
 /// A call that fills an output: writing a list or reading a flow back.
 type Fill = fn(&[u8], &mut [u8]) -> (Answer, usize);
 
-/// How many bytes behind the room are looked at too.
+/// How many bytes after the room are looked at too.
 const BEHIND: usize = 64;
 /// Above this length the checksum and the last record stand for the bytes.
 const SHOWN: usize = 16_384;

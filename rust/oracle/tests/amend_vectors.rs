@@ -4,7 +4,7 @@
 //!
 //! What the lines would catch:
 //! - k counted from 0, cut to fewer bits or compared with the first count:
-//!   "numbers of ..", and every case that goes on behind a withdrawal;
+//!   "numbers of ..", and every case that goes on after a withdrawal;
 //! - 16 before 15, 17 before 16, 18 before 15, a limit that is one off, a sum that
 //!   wraps: "15 before 16 and 18", "amounts", "a total of 999999999999999";
 //! - a call that answers before the flow is read to its end: the refused flows;
@@ -16,9 +16,9 @@
 //! - a trailer written anew, with the header's 40-45 or blanks in its unchecked
 //!   bytes: the flows that are not canonical;
 //! - 14 or EF looked for elsewhere than at 2-3: the look-alikes;
-//! - freed bytes that are not blank, bytes behind the lent flow touched: `blank`
+//! - freed bytes that are not blank, bytes after the lent flow touched: `blank`
 //!   and `kept`;
-//! - a refused call that changes a byte: the checksum behind it.
+//! - a refused call that changes a byte: the checksum after it.
 
 mod common;
 

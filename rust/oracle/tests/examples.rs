@@ -129,7 +129,7 @@ fn a_block_copied_twice_is_refused_though_the_trailer_agrees() {
 }
 
 /// Withdrawals from either end and from the middle, of dispositions longer
-/// and shorter than those behind them, leave every kept record once.
+/// and shorter than those after them, leave every kept record once.
 #[test]
 fn withdrawal_moves_later_records_up_in_order() {
     let numbers = ["0000001", "0000002", "0000003", "0000004"];

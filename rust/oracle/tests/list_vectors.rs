@@ -10,7 +10,7 @@
 //! - 20 looked for on the way instead of first, an item's number from 0, 21 after
 //!   the reader's refusals, 17 before them: the cases at several rooms and
 //!   those with two faults;
-//! - a room taken a byte too long or too short, bytes written behind the length,
+//! - a room taken a byte too long or too short, bytes written after the length,
 //!   output written before the refusal: the number of bytes kept;
 //! - a refusal of the list's place instead of the record's: the refused values;
 //! - a flow called canonical that is not, or the reverse: the round trips.
@@ -931,7 +931,7 @@ fn every_answer_is_the_literal_one() {
 }
 
 /// Whether a line is the due one, with the number of bytes kept: all those of
-/// the room and of the 64 behind it that the length leaves.
+/// the room and of the 64 after it that the length leaves.
 fn is_line(question: &str, line: &str, due: &str) -> bool {
     let Ok(room) = question[1..].parse::<usize>() else {
         return line == due;

@@ -213,7 +213,7 @@ fn number_7_blank() {
         flow = flow.with(record, 11, &[b' '; 110]);
     }
     assert_eq!(flow.read(), accepted(2, 83_050, 16));
-    // Text behind the obligatory segment does not make it present.
+    // Text after the obligatory segment does not make it present.
     let flow = two_rents().with(3, 11, &[b' '; 24]).with(3, 35, b"X");
     assert_eq!(flow.read(), refused(7, 3, 11));
 }

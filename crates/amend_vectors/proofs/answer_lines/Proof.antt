@@ -1,4 +1,4 @@
--- `amend_vectors::answer_lines` is safe and ends: each line ends behind its start, and the flow left lies in the memory, which lies in `space`. Assumes nothing.
+-- `amend_vectors::answer_lines` is safe and ends: each line ends after its start, and the flow left lies in the memory, which lies in `space`. Assumes nothing.
 use Prim.Native.Nat.{_-_, _≤_}
 use mathlib.Core.Path.{_≡_}
 use lib.ListN.{length}

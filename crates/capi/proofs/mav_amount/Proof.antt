@@ -1,7 +1,7 @@
 -- `capi::mav_amount` meets its contract. Assumes nothing.
 use mathlib.Core.Path.{_∙_, ap}
 use borrow.Author.Needs.{needs}
-use Rattle.capi.specs.Reply.{ofNumber}
+use Rattle.capi.specs.Returned.{ofNumber}
 use Rattle.capi.proofs.mav_amount.Statement.{statement}
 use Rattle.capi.proofs.mav_amount.Tie as tie
 

@@ -2,7 +2,7 @@
 use mathlib.Core.Path.{_∙_, ap}
 use borrow.Author.Needs.{needs}
 use Rattle.amend.specs.Amended.{Amended}
-use Rattle.capi.specs.Reply.{ofChange}
+use Rattle.capi.specs.Returned.{ofChange}
 use Rattle.capi.proofs.mav_change.Statement.{statement}
 use Rattle.capi.proofs.mav_change.Tie as tie
 

@@ -3,7 +3,7 @@ use mathlib.Core.Path.{_∙_, ap}
 use borrow.Author.Needs.{needs}
 use Rattle.flow.specs.Output.{Output}
 use Rattle.flow.specs.declared.answer.Totals.{Totals}
-use Rattle.capi.specs.Reply.{ofOutput}
+use Rattle.capi.specs.Returned.{ofOutput}
 use Rattle.capi.proofs.mav_list.Statement.{statement}
 use Rattle.capi.proofs.mav_list.Tie as tie
 

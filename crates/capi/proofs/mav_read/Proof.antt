@@ -3,7 +3,7 @@ use mathlib.Core.Path.{_∙_, ap}
 use borrow.Author.Needs.{needs}
 use Rattle.flow.specs.Verdict.{Verdict}
 use Rattle.flow.specs.declared.answer.Totals.{Totals}
-use Rattle.capi.specs.Reply.{ofVerdict}
+use Rattle.capi.specs.Returned.{ofVerdict}
 use Rattle.capi.proofs.mav_read.Statement.{statement}
 use Rattle.capi.proofs.mav_read.Tie as tie
 

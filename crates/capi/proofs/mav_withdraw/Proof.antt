@@ -2,7 +2,7 @@
 use mathlib.Core.Path.{_∙_, ap}
 use borrow.Author.Needs.{needs}
 use Rattle.amend.specs.Amended.{Amended}
-use Rattle.capi.specs.Reply.{ofWithdrawal}
+use Rattle.capi.specs.Returned.{ofWithdrawal}
 use Rattle.capi.proofs.mav_withdraw.Statement.{statement}
 use Rattle.capi.proofs.mav_withdraw.Tie as tie
 

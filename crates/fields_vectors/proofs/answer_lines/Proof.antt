@@ -1,4 +1,4 @@
--- `fields_vectors::answer_lines` is safe and ends: each line ends behind its start. Assumes nothing.
+-- `fields_vectors::answer_lines` is safe and ends: each line ends after its start. Assumes nothing.
 use Prim.Native.Nat.{_-_}
 use mathlib.Core.Path.{_≡_}
 use lib.ListN.{length}

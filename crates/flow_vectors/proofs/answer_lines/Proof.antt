@@ -1,4 +1,4 @@
--- `flow_vectors::answer_lines` is safe and ends: each line ends behind its start, and the latest flow lies in `space`. Assumes nothing.
+-- `flow_vectors::answer_lines` is safe and ends: each line ends after its start, and the latest flow lies in `space`. Assumes nothing.
 use Prim.Native.Nat.{_-_, _≤_}
 use mathlib.Core.Path.{_≡_}
 use lib.ListN.{length}

@@ -1,4 +1,4 @@
--- `list_vectors::answer_lines` is safe and ends: each line ends behind its start, and the bytes held lie in `held`. Assumes nothing.
+-- `list_vectors::answer_lines` is safe and ends: each line ends after its start, and the bytes held lie in `held`. Assumes nothing.
 use Prim.Native.Nat.{_-_, _≤_}
 use mathlib.Core.Path.{_≡_}
 use lib.ListN.{length}

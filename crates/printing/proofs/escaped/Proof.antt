@@ -1,4 +1,4 @@
--- `printing::escaped` is safe and ends: each turn ends behind its start. Assumes nothing.
+-- `printing::escaped` is safe and ends: each turn ends after its start. Assumes nothing.
 use Prim.Native.Nat.{_-_, _≤_}
 use lib.ListN.{length}
 use borrow.Author.Needs.{needs}

@@ -269,7 +269,7 @@ pub fn are_root() -> bool {
     fs::metadata(Folder::new().path(".")).unwrap().uid() == 0
 }
 
-/// Runs the command behind these words of the shell, which may limit it.
+/// Runs the command after these words of the shell, which may limit it.
 pub fn run_limited(folder: &Folder, limits: &str, words: &[&str]) -> Ended {
     let command = limited(Path::new(env!("CARGO_BIN_EXE_mavdesk")), limits, words);
     ended(command, folder)

@@ -9,28 +9,28 @@ use borrow.Author.Tests.{le-leb, lt-leb}
 use Rattle.fields.specs.Amount.{mostAmount}
 use Rattle.fields.specs.Digits.{digits}
 use Rattle.records.specs.Limits.{mostCents}
-use Rattle.flow.specs.Seek.{sought, seek}
+use Rattle.flow.specs.Find.{foundWithTotalsVerdict, findWithTotals}
 use Rattle.flow.specs.Verdict.{Verdict, accepted, refused}
 use Rattle.flow.specs.declared.answer.Answer.the-variants.{Refused}
 use Rattle.flow.specs.declared.answer.Refusal.{Refusal}
 use Rattle.flow.specs.declared.answer.Totals.{Totals}
-use Rattle.flow.specs.declared.location.Target.{Target}
-use Rattle.amend.specs.Amended.{unchanged, written}
-use Rattle.amend.specs.Change.{totalsChanged, changed, changeAt, changeFound}
+use Rattle.flow.specs.declared.location.WithTotals.{WithTotals}
+use Rattle.amend.specs.Amended.{unchanged, whereFound, writtenInRecord}
+use Rattle.amend.specs.Change.{totalsChanged, changed, changeAt}
 use Rattle.amend.specs.Change.{change as Change·change}
-use Rattle.amend.proofs.Standing.{Standing, sought-stands}
+use Rattle.amend.proofs.FoundFacts.{FoundFacts, found-facts}
 use Rattle.amend.proofs.Unchanged.{left-unchanged}
 use Rattle.amend.proofs.amount.change.Statement.{statement}
 use Rattle.amend.proofs.amount.change.Tie as tie
 
--- what was sought decides
-refused-so : (f : List ℕ) (k new : ℕ) {x : Refusal} → seek f k ≡ refused x → Change·change f k new ≡ unchanged x f
+-- what was found decides
+refused-so : (f : List ℕ) (k new : ℕ) {x : Refusal} → findWithTotals f k ≡ refused x → Change·change f k new ≡ unchanged x f
 unfolding Change·change
-refused-so f k new none = ap (λ (l : Verdict Target). changeFound l new f) none
+refused-so f k new none = ap (λ (l : Verdict WithTotals). whereFound l (λ (v : WithTotals). changeAt v new f) f) none
 
-change-so : (f : List ℕ) (k new : ℕ) {v : Target} → seek f k ≡ accepted v → Change·change f k new ≡ changeAt v new f
+change-so : (f : List ℕ) (k new : ℕ) {v : WithTotals} → findWithTotals f k ≡ accepted v → Change·change f k new ≡ changeAt v new f
 unfolding Change·change
-change-so f k new there = ap (λ (l : Verdict Target). changeFound l new f) there
+change-so f k new there = ap (λ (l : Verdict WithTotals). whereFound l (λ (v : WithTotals). changeAt v new f) f) there
 
 -- disposition k stands in the flow
 module _ (c : tie.After-known-told2) where
@@ -43,14 +43,14 @@ module _ (c : tie.After-known-told2) where
   abbrev new : ℕ
   new = c .before .before .before .before .before .before .args .cents
 
-  abbrev found : Target
-  found = c .before .target .given .0 .0
+  abbrev found : WithTotals
+  found = c .before .found .given .0 .0
 
-  there : seek flow k ≡ accepted found
-  there = sym (c .before .before .before .seek .ensures) ∙ ap sought (c .before .target .given .1)
+  there : findWithTotals flow k ≡ accepted found
+  there = sym (c .before .before .before .find-with-totals .ensures) ∙ ap foundWithTotalsVerdict (c .before .found .given .1)
 
-  known : Standing flow k found
-  known = sought-stands flow k there
+  known : FoundFacts flow k found
+  known = found-facts flow k there
 
   -- the totals that the change makes
   abbrev made : Totals
@@ -84,7 +84,7 @@ place-number-requires-2 c κs =
     omega (arith, s .starts, s .ends, s .size)
 
 returns-3 : tie.Need-returns-3
-returns-3 c = sym (refused-so _ _ _ (sym (c .before .before .before .seek .ensures) ∙ ap sought (c .before .refusal .given .1)))
+returns-3 c = sym (refused-so _ _ _ (sym (c .before .before .before .find-with-totals .ensures) ∙ ap foundWithTotalsVerdict (c .before .refusal .given .1)))
 
 returns-4 : tie.Need-returns-4
 returns-4 c =
@@ -92,7 +92,7 @@ returns-4 c =
     let at = end .before .before .before .before .before .before .before in
     let t = made at in
     let first = c .before .before .before .before .before .before .place-number .ensures in
-    let bytes : c .before .before .place-number2 .last .0 ≡ changed (found at .stand .first) (new at) t (flow at) = c .before .before .place-number2 .ensures ∙ ap (written (t .records) 53 (digits 15 (t .cents))) first in
+    let bytes : c .before .before .place-number2 .last .0 ≡ changed (found at .location .first) (new at) t (flow at) = c .before .before .place-number2 .ensures ∙ ap (writtenInRecord (t .records) 53 (digits 15 (t .cents))) first in
     ap (λ (l : List ℕ). record { answer = accepted t; size = length (flow at); bytes = l }) bytes
     ∙ sym (change-so _ _ _ (there at) ∙ rw (le-leb (new at) mostAmount (end .before .before .before .before .before .before .if1 .left), le-leb (t .cents) mostCents (end .if2 .left)))
 

@@ -16,7 +16,7 @@ use Rattle.amend.proofs.digits.place_number.Tie as tie
 
 returns : tie.Need-returns
 returns c =
-    let r = c .before .before .before .before .index in
+    let r = c .before .before .before .before .as-index in
     let args = c .before .before .before .before .before .before .args in
     let f = args .flow .now in
     let at = 120 * (r .result - 1) in

@@ -17,7 +17,7 @@ abbrev μ-loop : tie.MeasureT-loop
 μ-loop flow₀ to from i₀ flow i = length flow₀ - from - i
 
 module _ (f : List ℕ) (to from i : ℕ) (up : to ≤ from) (within : from ≤ length f) (some : i ≤ length f - from) where
-  -- behind i bytes that were moved, the next one stands where it stood
+  -- after i bytes that were moved, the next one stands where it stood
   unmoved : getD (paste f to (drop from f) i) (from + i) 0 ≡ getD (drop from f) i 0
   unmoved =
       let place : to + i + (from - to) ≡ from + i = omega arith in

@@ -7,13 +7,13 @@ use borrow.Author.Needs.{needs}
 use Rattle.sequences.specs.Part.{part, put}
 use Rattle.sequences.proofs.Part.{part-length, lent-changed}
 use Rattle.amend.specs.Withdraw.{recounted}
-use Rattle.amend.proofs.Kept.{recounted-length}
+use Rattle.amend.proofs.RulesKept.{recounted-length}
 use Rattle.amend.proofs.withdrawal.recount.Statement.{statement}
 use Rattle.amend.proofs.withdrawal.recount.Tie as tie
 
 returns : tie.Need-returns
 returns c =
-    let r = c .before .before .before .before .index in
+    let r = c .before .before .before .before .as-index in
     let args = c .before .before .before .before .before .before .args in
     let f = args .flow .now in
     let t = args .totals in

@@ -8,27 +8,27 @@ use borrow.Author.Needs.{needs}
 use borrow.Author.Tests.{lt-ltb, le-ltb}
 use Rattle.sequences.specs.Part.{put}
 use Rattle.flow.specs.Records.{cut}
-use Rattle.flow.specs.Seek.{sought, seek}
+use Rattle.flow.specs.Find.{foundWithTotalsVerdict, findWithTotals}
 use Rattle.flow.specs.Verdict.{Verdict, accepted, refused}
 use Rattle.flow.specs.declared.answer.Refusal.{Refusal}
-use Rattle.flow.specs.declared.location.Target.{Target}
-use Rattle.amend.specs.Amended.{unchanged}
-use Rattle.amend.specs.Withdraw.{renumberedFrom, totalsLeft, withdrawn, withdrawAt, withdrawFound}
+use Rattle.flow.specs.declared.location.WithTotals.{WithTotals}
+use Rattle.amend.specs.Amended.{unchanged, whereFound}
+use Rattle.amend.specs.Withdraw.{renumberedFrom, totalsLeft, withdrawn, withdrawAt}
 use Rattle.amend.specs.Withdraw.{withdraw as Withdraw·withdraw}
-use Rattle.amend.proofs.Standing.{Standing, sought-stands}
+use Rattle.amend.proofs.FoundFacts.{FoundFacts, found-facts}
 use Rattle.amend.proofs.Unchanged.{left-unchanged}
 use Rattle.amend.proofs.Withdrawn.{withdrawn-so}
 use Rattle.amend.proofs.withdrawal.withdraw.Statement.{statement}
 use Rattle.amend.proofs.withdrawal.withdraw.Tie as tie
 
--- what was sought decides
-refused-so : (f : List ℕ) (k : ℕ) {x : Refusal} → seek f k ≡ refused x → Withdraw·withdraw f k ≡ unchanged x f
+-- what was found decides
+refused-so : (f : List ℕ) (k : ℕ) {x : Refusal} → findWithTotals f k ≡ refused x → Withdraw·withdraw f k ≡ unchanged x f
 unfolding Withdraw·withdraw
-refused-so f k none = ap (λ (l : Verdict Target). withdrawFound l k f) none
+refused-so f k none = ap (λ (l : Verdict WithTotals). whereFound l (λ (v : WithTotals). withdrawAt k v f) f) none
 
-withdraw-so : (f : List ℕ) (k : ℕ) {v : Target} → seek f k ≡ accepted v → Withdraw·withdraw f k ≡ withdrawAt k v f
+withdraw-so : (f : List ℕ) (k : ℕ) {v : WithTotals} → findWithTotals f k ≡ accepted v → Withdraw·withdraw f k ≡ withdrawAt k v f
 unfolding Withdraw·withdraw
-withdraw-so f k there = ap (λ (l : Verdict Target). withdrawFound l k f) there
+withdraw-so f k there = ap (λ (l : Verdict WithTotals). whereFound l (λ (v : WithTotals). withdrawAt k v f) f) there
 
 -- disposition k stands in the flow
 module _ (c : tie.After-known-told2) where
@@ -38,26 +38,26 @@ module _ (c : tie.After-known-told2) where
   abbrev k : ℕ
   k = c .before .before .before .before .before .before .args .k
 
-  abbrev found : Target
-  found = c .before .target .given .0 .0
+  abbrev found : WithTotals
+  found = c .before .found .given .0 .0
 
-  there : seek flow k ≡ accepted found
-  there = sym (c .before .before .before .seek .ensures) ∙ ap sought (c .before .target .given .1)
+  there : findWithTotals flow k ≡ accepted found
+  there = sym (c .before .before .before .find-with-totals .ensures) ∙ ap foundWithTotalsVerdict (c .before .found .given .1)
 
-  known : Standing flow k found
-  known = sought-stands flow k there
+  known : FoundFacts flow k found
+  known = found-facts flow k there
 
 -- the places at which a step is called, from each to the one before it
-abbrev moving : tie.After-index2 → tie.After-known-told2
+abbrev moving : tie.After-as-index2 → tie.After-known-told2
 moving c = c .before .before .before .before .before .before .before .before .before .before .before .before
 
-abbrev numbering : tie.After-index3 → tie.After-index2
+abbrev numbering : tie.After-as-index3 → tie.After-as-index2
 numbering c = c .before .before .before .before .before
 
-abbrev counting : tie.After-recount-arg → tie.After-index3
+abbrev counting : tie.After-recount-arg → tie.After-as-index3
 counting c = c .before .before .before .before
 
-abbrev blanking : tie.After-index4 → tie.After-recount-arg
+abbrev blanking : tie.After-as-index4 → tie.After-recount-arg
 blanking c = c .before .before .before .before .before
 
 returns : tie.Need-returns
@@ -111,7 +111,7 @@ mul-t18 c = let s = known (moving (numbering (counting (blanking (c .before .bef
 returns-2 : tie.Need-returns-2
 returns-2 c =
     left-unchanged (c .refused .result .answer) (c .refused .result .length) _ (c .refused .ensures .0) (c .refused .ensures .1)
-    ∙ sym (refused-so _ _ (sym (c .before .before .before .before .seek .ensures) ∙ ap sought (c .before .before .refusal .given .1)))
+    ∙ sym (refused-so _ _ (sym (c .before .before .before .before .find-with-totals .ensures) ∙ ap foundWithTotalsVerdict (c .before .before .refusal .given .1)))
 
 returns-3 : tie.Need-returns-3
 returns-3 c =
@@ -127,10 +127,10 @@ returns-3 c =
     let f₂ = third .before .before .before .renumber .last .0 in
     let f₃ = last .before .before .before .before .recount .last .0 in
     let f₄ = c .before .before .before .blank .last .0 in
-    let begins = first .before .before .index .ensures in
-    let taken = first .index2 .ensures in
-    let ends = second .index3 .ensures in
-    let kept = last .index4 .ensures in
+    let begins = first .before .before .as-index .ensures in
+    let taken = first .as-index2 .ensures in
+    let ends = second .as-index3 .ensures in
+    let kept = last .as-index4 .ensures in
     let bytes : f₄ ≡ withdrawn f (k at) (v .totals .records) t =
     withdrawn-so (known at) f₁ f₂ f₃ f₄
     (second .before .before .before .before .move-up .ensures ∙ (λ i. put (120 * (begins i - 1)) (drop (120 * (begins i - 1 + taken i)) f) f))

@@ -7,7 +7,7 @@ use Rattle.sequences.specs.Part.{put}
 use Rattle.fields.specs.Digits.{digits}
 use Rattle.records.specs.Field.{_to_, numberWritten}
 use Rattle.records.proofs.NumberWritten.{written-within}
-use Rattle.amend.proofs.Kept.{over-length}
+use Rattle.amend.proofs.RulesKept.{over-length}
 use Rattle.amend.proofs.withdrawal.write_totals.Statement.{statement}
 use Rattle.amend.proofs.withdrawal.write_totals.Tie as tie
 

@@ -1,4 +1,4 @@
--- `fields::read_digits` meets its contract. What is left behind i, read behind value, decides as the whole field does. Assumes nothing.
+-- `fields::read_digits` meets its contract. What is left after i, read after value, decides as the whole field does. Assumes nothing.
 use Prim.Native.Nat.{ℕ, _+_, _*_, _-_, _^_, _≤_, _<_}
 use mathlib.Core.Path.{_≡_, sym, _∙_}
 use mathlib.Core.Bool.{cond}
@@ -6,7 +6,7 @@ use native.Mathlib.Nat.{pow-le-pow-right}
 use native.Mathlib.Omega.{arith}
 use lib.ListN.{length, drop, getD}
 use borrow.Author.Needs.{needs}
-use Rattle.fields.specs.Answer.{refused, notDigits}
+use Rattle.fields.specs.FieldVerdict.{refused, notDigits}
 use Rattle.fields.specs.Digits.{isDigit, digitField, digitsFrom}
 use Rattle.fields.proofs.Decimal.{digit-more}
 use Rattle.fields.proofs.DigitField.{digit-low, digit-high, digit-right, digitField-empty, digitField-long, digitField-sized, digitsFrom-next, digitsFrom-end}

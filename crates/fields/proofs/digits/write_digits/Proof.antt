@@ -1,4 +1,4 @@
--- `fields::write_digits` meets its contract. The digits of rest, and then what is written behind i, are those of the whole. Assumes nothing.
+-- `fields::write_digits` meets its contract. The digits of rest, and then what is written after i, are those of the whole. Assumes nothing.
 use Prim.Native.Nat.{suc, _-_, _≤_, _<_}
 use mathlib.Core.Path.{_≡_, refl, _∙_}
 use mathlib.Core.List.{_++_, append-nil}

@@ -1,4 +1,4 @@
--- `flow::pass_over` meets its contract: behind each record that was seen, what is left decides as it did. Assumes nothing.
+-- `flow::pass_over` meets its contract: after each record that was seen, what is left decides as it did. Assumes nothing.
 use Prim.Native.Nat.{ℕ, _-_, _/_}
 use mathlib.Core.Bool.{true}
 use mathlib.Core.List.{List}
@@ -8,11 +8,11 @@ use lib.ListN.{length}
 use borrow.Author.Needs.{needs}
 use borrow.Author.Tests.{not-false}
 use Rattle.records.specs.Field.{field}
-use Rattle.records.specs.Seen.{seenRight}
-use Rattle.records.proofs.SeenRight.{seen-right}
+use Rattle.records.specs.QuickTest.{passesQuickTest}
+use Rattle.records.proofs.QuickTestRight.{quick-test-right}
 use Rattle.flow.specs.FastPath.{Inside}
 use Rattle.flow.specs.Records.{recordAt}
-use Rattle.flow.specs.declared.order.Found.the-variants.{Of}
+use Rattle.flow.specs.declared.order.TypeFound.the-variants.{Of}
 use Rattle.flow.proofs.Cut.{record-part}
 use Rattle.flow.proofs.FastPath.{Passing, pass-begin, counts-stay, pass-next}
 use Rattle.flow.proofs.fast_path.pass_over.Statement.{statement}
@@ -34,7 +34,7 @@ flow-of at = at .before .before .args .flow .now
 seen-of :
     (c : tie.Else1 Inv-loop μ-loop) → let at = c .before .before .before .before .before .before .before .before .before .before .before in let i = at .loop .i in
     let kind = c .before .before .before .before .kind .given .0 .0 in
-    Inside (at .loop .here .place .due) (recordAt i (flow-of at)) (Of kind) × (seenRight kind (field 4 10 (recordAt (i - 1) (flow-of at))) (recordAt i (flow-of at)) ≡ true)
+    Inside (at .loop .here .place .due) (recordAt i (flow-of at)) (Of kind) × (passesQuickTest kind (field 4 10 (recordAt (i - 1) (flow-of at))) (recordAt i (flow-of at)) ≡ true)
 seen-of c =
     let found = c .before .before .before .before in
     let asked = found .before .before in
@@ -44,7 +44,7 @@ seen-of c =
     let rec = record-part i (flow-of at) in
     let number = c .before .before .field .ensures .0 ∙ ap (field 4 10) (record-part (i - 1) (flow-of at)) in (
       rw rec at (subst (Inside _ _) (found .kind .given .1) (asked .kind-inside .ensures)),
-      sym (λ j. seenRight kind (number j) (rec j)) ∙ sym (c .before .seen-right .ensures) ∙ not-false _ (c .if1 .left),
+      sym (λ j. passesQuickTest kind (number j) (rec j)) ∙ sym (c .before .passes-quick-test .ensures) ∙ not-false _ (c .if1 .left),
     )
 
 pass-requires : tie.Need-pass-requires Inv-loop μ-loop
@@ -52,7 +52,7 @@ pass-requires c κs =
     let at = c .before .before .before .before .before .before .before .before .before .before .before in
     let i = at .loop .i in
     let kind = c .before .before .before .before .kind .given .0 .0 in
-    (seen-right kind (field 4 10 (recordAt (i - 1) (flow-of at))) (recordAt i (flow-of at)) (seen-of c .1) .1, (refl, counts-stay (at .loop .inv)))
+    (quick-test-right kind (field 4 10 (recordAt (i - 1) (flow-of at))) (recordAt i (flow-of at)) (seen-of c .1) .1, (refl, counts-stay (at .loop .inv)))
 
 loop-again : tie.Need-loop-again Inv-loop μ-loop
 loop-again c =

@@ -6,9 +6,9 @@ use native.Mathlib.Omega.{arith}
 use lib.ListN.{length}
 use borrow.Author.Needs.{needs}
 use Rattle.sequences.specs.Part.{part}
-use Rattle.flow.specs.Find.{located, bytesAt, offsetAt, find}
+use Rattle.flow.specs.Find.{foundVerdict, bytesAt, offsetAt, find}
 use Rattle.flow.specs.Verdict.{Verdict, accepted, refused}
-use Rattle.flow.specs.declared.location.Stand.{Stand}
+use Rattle.flow.specs.declared.location.Location.{Location}
 use Rattle.flow.proofs.Dispositions.{found-within}
 use Rattle.flow.proofs.location.disposition.Statement.{statement}
 use Rattle.flow.proofs.location.disposition.Tie as tie
@@ -18,20 +18,20 @@ module _ (c : tie.After-known-told) where
   abbrev flow : List ℕ
   flow = c .before .before .before .before .before .args .flow .now
 
-  abbrev stand : Stand
-  stand = c .before .stand .given .0 .0
+  abbrev location : Location
+  location = c .before .location .given .0 .0
 
-  found : find flow (c .before .before .before .before .before .args .k) ≡ accepted stand
-  found = sym (c .before .before .before .find .ensures) ∙ ap located (c .before .stand .given .1)
+  found : find flow (c .before .before .before .before .before .args .k) ≡ accepted location
+  found = sym (c .before .before .before .find .ensures) ∙ ap foundVerdict (c .before .location .given .1)
 
-  within : (1 ≤ stand .first) × (120 * (stand .first - 1 + stand .records) + 120 ≤ length flow)
+  within : (1 ≤ location .first) × (120 * (location .first - 1 + location .records) + 120 ≤ length flow)
   within = found-within flow _ found
 
-sub-index : tie.Need-sub-index
-sub-index c = omega (arith, within (c .before))
+sub-as-index : tie.Need-sub-as-index
+sub-as-index c = omega (arith, within (c .before))
 
 mul-result : tie.Need-mul-result
-mul-result c = omega (arith, within (c .before .before), c .index .ensures)
+mul-result c = omega (arith, within (c .before .before), c .as-index .ensures)
 
 add-result : tie.Need-add-result
 add-result c = omega (arith, within (c .before .before .before))
@@ -45,20 +45,20 @@ part-result-end c = omega (arith, within (c .before .before .before))
 returns : tie.Need-returns
 returns c =
     let told = c .before .before .before .before in
-    let from = c .before .before .index .result in
-    let to = from + c .before .index2 .result in
-    let start : 120 * from ≡ 120 * (stand told .first - 1) = ap (λ (n : ℕ). 120 * n) (c .before .before .index .ensures) in
-    let size : 120 * to - 120 * from ≡ 120 * stand told .records = omega (arith, c .before .index2 .ensures) in
-    let bytes = ap₂ (λ (a n : ℕ). part a n (flow told)) start size ∙ sym (ap (λ (l : Verdict Stand). bytesAt l (flow told)) (found told)) in
+    let from = c .before .before .as-index .result in
+    let to = from + c .before .as-index2 .result in
+    let start : 120 * from ≡ 120 * (location told .first - 1) = ap (λ (n : ℕ). 120 * n) (c .before .before .as-index .ensures) in
+    let size : 120 * to - 120 * from ≡ 120 * location told .records = omega (arith, c .before .as-index2 .ensures) in
+    let bytes = ap₂ (λ (a n : ℕ). part a n (flow told)) start size ∙ sym (ap (λ (l : Verdict Location). bytesAt l (flow told)) (found told)) in
     let lent = told .before .before .before .before .before .args .flow in
     (bytes, (refl, ap (λ (n : ℕ). n + lent .ptr .1) (start ∙ sym (ap offsetAt (found told)))))
 
 returns-2 : tie.Need-returns-2
 returns-2 c =
-    let none : located (c .before .before .before .find .result) ≡ refused _ = ap located (c .before .enum-told .given .1) in
+    let none : foundVerdict (c .before .before .before .find .result) ≡ refused _ = ap foundVerdict (c .before .enum-told .given .1) in
     let wrong = sym (c .before .before .before .find .ensures) ∙ none in
     let lent = c .before .before .before .before .before .args .flow in
-    (sym (ap (λ (l : Verdict Stand). bytesAt l (lent .now)) wrong), (refl, ap (λ (n : ℕ). n + lent .ptr .1) (sym (ap offsetAt wrong))))
+    (sym (ap (λ (l : Verdict Location). bytesAt l (lent .now)) wrong), (refl, ap (λ (n : ℕ). n + lent .ptr .1) (sym (ap offsetAt wrong))))
 
 pub disposition-spec : {M : Type 1} → statement M
 disposition-spec =
@@ -66,7 +66,7 @@ disposition-spec =
     (tie.spec
     (search needs)
     (search needs)
-    sub-index
+    sub-as-index
     (search needs)
     mul-result
     (search needs)

@@ -1,4 +1,4 @@
--- `flow::next_opening` meets its contract: behind each record that opens no disposition, the first one from there on is the first of all. Assumes nothing.
+-- `flow::next_opening` meets its contract: after each record that opens no disposition, the first one from there on is the first of all. Assumes nothing.
 use Prim.Native.Nat.{_+_, _-_}
 use mathlib.Core.Bool.{cond}
 use mathlib.Core.Path.{_≡_, refl, sym, _∙_, ap}

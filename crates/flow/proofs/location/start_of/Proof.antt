@@ -4,13 +4,13 @@ use mathlib.Core.List.{flatten}
 use mathlib.Core.Path.{_≡_, refl, sym, _∙_, ap}
 use native.Mathlib.Omega.{arith}
 use borrow.Author.Needs.{needs}
-use Rattle.flow.specs.Find.{dispositionsIn, startsAt, Stands, openingFrom}
+use Rattle.flow.specs.Find.{dispositionsIn, startOf, HasDisposition, openingFrom}
 use Rattle.flow.proofs.Dispositions.{accepted-length, disposition-stands, starts-next}
 use Rattle.flow.proofs.location.start_of.Statement.{statement}
 use Rattle.flow.proofs.location.start_of.Tie as tie
 
 abbrev Inv-loop : tie.InvT-loop
-Inv-loop flow k at₀ j₀ at j = (1 ≤ j) × (j ≤ k) × (at ≡ startsAt (dispositionsIn flow) j)
+Inv-loop flow k at₀ j₀ at j = (1 ≤ j) × (j ≤ k) × (at ≡ startOf (dispositionsIn flow) j)
 
 abbrev μ-loop : tie.MeasureT-loop
 μ-loop flow k at₀ j₀ at j = k - j
@@ -20,7 +20,7 @@ unfolding flatten
 loop-holds c = (omega arith, c .before .pre .some, refl)
 
 -- disposition j stands in the flow too
-stands : (c : tie.At-loop Inv-loop μ-loop) → Stands (c .before .before .args .flow .now) (c .loop .j)
+stands : (c : tie.At-loop Inv-loop μ-loop) → HasDisposition (c .before .before .args .flow .now) (c .loop .j)
 stands c =
     let s = c .before .before .pre in
     let below = s .within in
@@ -40,13 +40,13 @@ loop-again c =
     let at = c .before .before in
     let f = at .before .before .args .flow .now in
     let s = stands at in
-    let on : openingFrom f (at .loop .at + 1) ≡ startsAt (dispositionsIn f) (at .loop .j + 1) = ap (λ (i : ℕ). openingFrom f (i + 1)) (at .loop .inv .2) ∙ disposition-stands f (at .loop .j) s .next ∙ sym (starts-next f (at .loop .j) s) in
+    let on : openingFrom f (at .loop .at + 1) ≡ startOf (dispositionsIn f) (at .loop .j + 1) = ap (λ (i : ℕ). openingFrom f (i + 1)) (at .loop .inv .2) ∙ disposition-stands f (at .loop .j) s .next ∙ sym (starts-next f (at .loop .j) s) in
     (omega arith, omega arith, c .next-opening .ensures ∙ on)
 
 returns : tie.Need-returns Inv-loop μ-loop
 returns c =
     let last : c .before .loop .j ≡ c .before .before .before .args .k = omega arith in
-    c .before .loop .inv .2 ∙ ap (startsAt _) last
+    c .before .loop .inv .2 ∙ ap (startOf _) last
 
 pub start-of-spec : {M : Type 1} → statement M
 start-of-spec =

@@ -1,4 +1,4 @@
--- `flow::read_records` meets its contract. Behind each right record, what is left decides as the whole does. Assumes nothing.
+-- `flow::read_records` meets its contract. After each right record, what is left decides as the whole does. Assumes nothing.
 use Prim.Native.Nat.{ℕ, suc, _+_, _-_, _*_, _/_, _≤_}
 use mathlib.Core.List.{List}
 use mathlib.Core.Path.{_≡_, sym, _∙_, ap, ap₂}
@@ -8,11 +8,11 @@ use lib.ListN.{length}
 use borrow.Author.Needs.{needs}
 use Rattle.sequences.specs.Part.{part}
 use Rattle.records.specs.Context.{headerOf}
-use Rattle.records.specs.Finding.{finding}
-use Rattle.flow.specs.FastPath.{Numbered}
+use Rattle.records.specs.RecordVerdict.{judgedVerdict}
+use Rattle.flow.specs.FastPath.{NumberBefore}
 use Rattle.flow.specs.Judge.{ended}
 use Rattle.flow.specs.Records.{recordAt, recordsOf, recordsFrom, mostBytes}
-use Rattle.flow.specs.Steps.{judgeRecord, stopped}
+use Rattle.flow.specs.Walking.{judgeRecord, saturated}
 use Rattle.flow.proofs.Lengths.{length-said}
 use Rattle.flow.proofs.Cut.{cut-next, cut-end, record-part, record-whole}
 use Rattle.flow.proofs.FastPath.{numbered-stopped, stopped-twice, pass-on}
@@ -41,20 +41,20 @@ handed at = record-part (at .loop .i) (flow-of at)
 
 found :
     (c : tie.After-judge Inv-loop μ-loop) → let at = c .before .before .before .before in let a = at .before .before .before .before .before .args in
-    judgeRecord (headerOf (a .header .now)) (at .loop .walk) (at .loop .company .now) (suc (at .loop .i)) (recordAt (at .loop .i) (a .flow .now)) ≡ finding (c .judge .result)
+    judgeRecord (headerOf (a .header .now)) (at .loop .walk) (at .loop .company .now) (suc (at .loop .i)) (recordAt (at .loop .i) (a .flow .now)) ≡ judgedVerdict (c .judge .result)
 found c =
     let at = c .before .before .before .before in
-    let number : c .before .count .result ≡ suc (at .loop .i) = c .before .count .ensures ∙ add-one (at .loop .i) in
+    let number : c .before .as-count .result ≡ suc (at .loop .i) = c .before .as-count .ensures ∙ add-one (at .loop .i) in
     sym (c .judge .ensures ∙ ap₂ (judgeRecord _ _ _) number (handed at))
 
 returns : tie.Need-returns Inv-loop μ-loop
 returns c =
     let at = c .before .before .before .before .before .before .before in
-    let told = found (c .before .before .before) ∙ ap finding (c .before .number .given .1) in
-    rw (c .before .before .before .before .count .ensures, add-one) (refuse (at .loop .inv .2) _ _ (cut-next _ _ _ (c .before .before .before .before .before .before .loop-test .taken)) _ _ told)
+    let told = found (c .before .before .before) ∙ ap judgedVerdict (c .before .number .given .1) in
+    rw (c .before .before .before .before .as-count .ensures, add-one) (refuse (at .loop .inv .2) _ _ (cut-next _ _ _ (c .before .before .before .before .before .before .loop-test .taken)) _ _ told)
 
 pass-over-requires : tie.Need-pass-over-requires Inv-loop μ-loop
-pass-over-requires c κs = (omega arith, (omega arith, ap stopped (c .next .ensures) ∙ stopped-twice _ ∙ sym (c .next .ensures)))
+pass-over-requires c κs = (omega arith, (omega arith, ap saturated (c .next .ensures) ∙ stopped-twice _ ∙ sym (c .next .ensures)))
 
 loop-less : tie.Need-loop-less Inv-loop μ-loop
 loop-less c = omega (arith, c .before .pass-over .ensures .on)
@@ -68,9 +68,9 @@ loop-again c =
     let at = within .before in
     let i = at .loop .i in
     let flow = flow-of at in
-    let told = found judged ∙ ap finding (c .before .before .before .before .before .before .right .given .1) in
+    let told = found judged ∙ ap judgedVerdict (c .before .before .before .before .before .before .right .given .1) in
     let back : suc i - 1 ≡ i = omega arith in
-    let numbered : Numbered (walked .result) (recordAt (suc i - 1) flow) = rw (walked .ensures, back) (numbered-stopped _ _ _ _ _ _ _ (record-whole flow i (within .loop-test .taken)) told) in (
+    let numbered : NumberBefore (walked .result) (recordAt (suc i - 1) flow) = rw (walked .ensures, back) (numbered-stopped _ _ _ _ _ _ _ (record-whole flow i (within .loop-test .taken)) told) in (
       passed .ensures .within,
       at .loop .inv .1,
       rw (c .before .before .before .latest-company .ensures .0, c .before .before .before .before .field .ensures .0, handed at)
@@ -78,12 +78,12 @@ loop-again c =
     )
 
 end-requires : tie.Need-end-requires Inv-loop μ-loop
-end-requires c κs = omega (arith, c .count2 .ensures)
+end-requires c κs = omega (arith, c .as-count2 .ensures)
 
 returns-2 : tie.Need-returns-2 Inv-loop μ-loop
 returns-2 c =
     let at = c .before .before .before in
-    c .end .ensures ∙ rw (c .before .count2 .ensures) (finish (at .loop .inv .2) (cut-end _ _ _ (c .before .before .loop-test .left)) (ended-alike (at .loop .inv .2)))
+    c .end .ensures ∙ rw (c .before .as-count2 .ensures) (finish (at .loop .inv .2) (cut-end _ _ _ (c .before .before .loop-test .left)) (ended-alike (at .loop .inv .2)))
 
 pub read-records-spec : {M : Type 1} → statement M
 read-records-spec =

@@ -8,9 +8,9 @@ use denote.Enum.Declared.{tagOf}
 use types.Run.{OneOf, miss}
 use Rattle.fields.specs.Digits.{digits}
 use Rattle.records.specs.Kinds.{Heads, Opens, Closes, role}
-use Rattle.records.specs.declared.kind.Kind.{Kind}
+use Rattle.records.specs.declared.kind.RecordKind.{RecordKind}
 use Rattle.records.proofs.EachKind.{each-kind}
-use Rattle.records.proofs.kind.Kind.{the-type}
+use Rattle.records.proofs.kind.RecordKind.{the-type}
 use Rattle.list.specs.Encode.{Placed, place, fill, supplied}
 use Rattle.list.proofs.Filling.{Fills, fills-none, fills-place, fills-number}
 use Rattle.list.proofs.encode.supply.Statement.{statement}
@@ -22,7 +22,7 @@ returns c =
     let rec = at .args .rec .now in
     let abi = at .args .abi .now in
     let all : Fills (supplied Heads (at .args .number) abi) rec (c .before .before .place .last .0) = fills-place (c .before .before .place .ensures) refl fills-none in
-    all .done ∙ ap (λ (k : Kind). fill (supplied (role k) (at .args .number) abi) rec) (sym (c .before .before .before .before .before .enum-told .given .1))
+    all .done ∙ ap (λ (k : RecordKind). fill (supplied (role k) (at .args .number) abi) rec) (sym (c .before .before .before .before .before .enum-told .given .1))
 
 returns-2 : tie.Need-returns-2
 returns-2 c =
@@ -38,7 +38,7 @@ returns-2 c =
     fills-number 4 10 (at .args .number) (first .write-number .ensures) (omega arith) (search needs)
     (fills-place (second .place2 .ensures) refl
     (fills-place (third .place3 .ensures) refl (fills-place (fourth .place4 .ensures) refl (fills-place (fifth .place5 .ensures) refl fills-none)))) in
-    all .done ∙ ap (λ (k : Kind). fill (supplied (role k) (at .args .number) abi) rec) (sym (first .before .before .enum-told2 .given .1))
+    all .done ∙ ap (λ (k : RecordKind). fill (supplied (role k) (at .args .number) abi) rec) (sym (first .before .before .enum-told2 .given .1))
 
 returns-3 : tie.Need-returns-3
 returns-3 c =
@@ -46,15 +46,15 @@ returns-3 c =
     let rec = at .args .rec .now in
     let abi = at .args .abi .now in
     let all : Fills (supplied Closes (at .args .number) abi) rec rec = fills-none in
-    all .done ∙ ap (λ (k : Kind). fill (supplied (role k) (at .args .number) abi) rec) (sym (c .enum-told3 .given .1))
+    all .done ∙ ap (λ (k : RecordKind). fill (supplied (role k) (at .args .number) abi) rec) (sym (c .enum-told3 .given .1))
 
 -- every other kind has its number alone
 abbrev others : List ℕ
 others = 2 ∷ 3 ∷ 4 ∷ 5 ∷ 6 ∷ 7 ∷ 8 ∷ 9 ∷ []
 
-numbered : (n : ℕ) (abi : List ℕ) (k : Kind) → OneOf others (tagOf the-type k) → supplied (role k) n abi ≡ place 4 (digits 7 n) ∷ []
+numbered : (n : ℕ) (abi : List ℕ) (k : RecordKind) → OneOf others (tagOf the-type k) → supplied (role k) n abi ≡ place 4 (digits 7 n) ∷ []
 numbered n abi =
-    each-kind (λ (k : Kind). OneOf others (tagOf the-type k) → supplied (role k) n abi ≡ place 4 (digits 7 n) ∷ [])
+    each-kind (λ (k : RecordKind). OneOf others (tagOf the-type k) → supplied (role k) n abi ≡ place 4 (digits 7 n) ∷ [])
     (λ o. absurd (miss others 0 tt o), (λ o. absurd (miss others 1 tt o), (λ o. refl, (λ o. refl, (λ o. refl, (λ o. refl, (λ o. refl, (λ o. refl, (λ o. refl, (λ o. refl, (λ o. absurd (miss others 10 tt o), tt)))))))))))
 
 returns-4 : tie.Need-returns-4

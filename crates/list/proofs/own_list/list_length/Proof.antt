@@ -1,4 +1,4 @@
--- `list::list_length` meets its contract: behind each record, the length so far and that of the others' items are the whole. Assumes nothing.
+-- `list::list_length` meets its contract: after each record, the length so far and that of the others' items are the whole. Assumes nothing.
 use Prim.Native.Nat.{ℕ, suc, _+_, _-_, _*_, _/_, _≤_}
 use mathlib.Core.Path.{_≡_, _∙_, ap}
 use native.Mathlib.Numerals.{add-one}

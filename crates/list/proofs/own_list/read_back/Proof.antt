@@ -6,7 +6,7 @@ use lib.ListN.{length}
 use borrow.Author.Needs.{needs}
 use borrow.Author.Tests.{le-leb, lt-leb}
 use Rattle.flow.specs.Judge.{judge}
-use Rattle.flow.specs.Verdict.{accepted, refused, verdict}
+use Rattle.flow.specs.Verdict.{accepted, refused, answerVerdict}
 use Rattle.flow.proofs.Dispositions.{accepted-length}
 use Rattle.list.specs.ReadBack.{listOf, judgeRoom, readBack}
 use Rattle.list.proofs.own_list.read_back.Statement.{statement}
@@ -15,7 +15,7 @@ use Rattle.list.proofs.own_list.read_back.Tie as tie
 -- the flow is accepted
 read :
     (c : tie.After-known-told2) → judge (c .before .before .before .before .before .before .args .flow .now) ≡ accepted (c .before .totals .given .0 .0)
-read c = sym (c .before .before .before .read .ensures) ∙ ap verdict (c .before .totals .given .1)
+read c = sym (c .before .before .before .read .ensures) ∙ ap answerVerdict (c .before .totals .given .1)
 
 list-length-requires : tie.Need-list-length-requires
 list-length-requires c κs = accepted-length _ (read c) .2
@@ -33,7 +33,7 @@ returns-2 : tie.Need-returns-2
 unfolding readBack judgeRoom
 returns-2 c =
     let a = c .before .before .before .before .before .before .before .args in
-    let wrong : judge (a .flow .now) ≡ refused (c .before .before .refusal .given .0 .0) = sym (c .before .before .before .before .read .ensures) ∙ ap verdict (c .before .before .refusal .given .1) in
+    let wrong : judge (a .flow .now) ≡ refused (c .before .before .refusal .given .0 .0) = sym (c .before .before .before .before .read .ensures) ∙ ap answerVerdict (c .before .before .refusal .given .1) in
     let said = c .refused .ensures in
     rw wrong (λ i. record { answer = said .0 i; written = said .1 i; bytes = a .out .now })
 
@@ -45,7 +45,7 @@ returns-3 c =
     let size = c .before .before .before .before .before .before .before .list-length .ensures in
     let fits : leb (length (listOf (a .flow .now))) (length (a .out .now)) ≡ true = le-leb _ _ (rw size at (c .before .before .before .before .before .before .if1 .left)) in
     let said = c .accepted .ensures in
-    let written : c .accepted .result .length ≡ length (listOf (a .flow .now)) = said .1 ∙ c .before .count .ensures ∙ size in
+    let written : c .accepted .result .length ≡ length (listOf (a .flow .now)) = said .1 ∙ c .before .as-count .ensures ∙ size in
     rw (read told, fits) (λ i. record { answer = said .0 i; written = written i; bytes = c .before .before .before .before .store-list .ensures i })
 
 pub read-back-spec : {M : Type 1} → statement M

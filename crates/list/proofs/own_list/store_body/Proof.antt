@@ -1,4 +1,4 @@
--- `list::store_body` meets its contract: behind each span, the bytes at the others still find room, and then all are there. Assumes nothing.
+-- `list::store_body` meets its contract: after each span, the bytes at the others still find room, and then all are there. Assumes nothing.
 use Prim.Native.Nat.{ℕ, _+_, _-_, _≤_}
 use mathlib.Core.List.{List, [], _∷_}
 use mathlib.Core.Path.{_≡_, refl, sym, _∙_, ap}

@@ -1,4 +1,4 @@
--- `list::store_list` meets its contract: behind each record, the items of the others still find room, and then all are there. Assumes nothing.
+-- `list::store_list` meets its contract: after each record, the items of the others still find room, and then all are there. Assumes nothing.
 use Prim.Native.Nat.{ℕ, _+_, _-_, _/_, _≤_}
 use mathlib.Core.List.{List}
 use mathlib.Core.Path.{_≡_, sym, _∙_, ap, subst}

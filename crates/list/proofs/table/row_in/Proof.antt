@@ -1,4 +1,4 @@
--- `list::row_in` meets its contract. What is left behind i decides as the whole does. Assumes nothing.
+-- `list::row_in` meets its contract. What is left after i decides as the whole does. Assumes nothing.
 use Prim.Native.Nat.{ℕ, _-_}
 use mathlib.Core.Bool.{Bool, true, false}
 use mathlib.Core.List.{List}
@@ -6,10 +6,10 @@ use mathlib.Core.Path.{_≡_, refl, sym, _∙_, ap}
 use native.Mathlib.Omega.{arith}
 use borrow.Author.Needs.{needs}
 use Rattle.records.specs.Kinds.{hasType}
-use Rattle.records.specs.declared.kind.Kind.{Kind}
+use Rattle.records.specs.declared.kind.RecordKind.{RecordKind}
 use Rattle.list.specs.Table.{recordOf}
 use Rattle.list.specs.declared.table.ItemKind.{ItemKind}
-use Rattle.list.proofs.Rows.{Decides, found, next, ended}
+use Rattle.list.proofs.TableRows.{Decides, found, next, ended}
 use Rattle.list.proofs.table.row_in.Statement.{statement}
 use Rattle.list.proofs.table.row_in.Tie as tie
 
@@ -30,7 +30,7 @@ returns c =
     let at = c .before .before .before .before .before in
     let rec = at .before .before .args .rec .now in
     let kind = c .before .before .before .kind-at in
-    let passes : test rec (kind .result) ≡ true = sym (c .before .has-type .ensures ∙ ap (λ (k : Kind). hasType k rec) (c .before .before .record-of .ensures)) ∙ c .if1 .taken in
+    let passes : test rec (kind .result) ≡ true = sym (c .before .has-type .ensures ∙ ap (λ (k : RecordKind). hasType k rec) (c .before .before .record-of .ensures)) ∙ c .if1 .taken in
     found (test rec) (at .loop .i) (omega arith) (kind .ensures) (at .loop .inv) passes
 
 loop-again : tie.Need-loop-again Inv-loop μ-loop
@@ -38,7 +38,7 @@ loop-again c =
     let at = c .before .before .before .before .before in
     let rec = at .before .before .args .rec .now in
     let kind = c .before .before .before .kind-at in
-    let fails : test rec (kind .result) ≡ false = sym (c .before .has-type .ensures ∙ ap (λ (k : Kind). hasType k rec) (c .before .before .record-of .ensures)) ∙ c .if1 .left in
+    let fails : test rec (kind .result) ≡ false = sym (c .before .has-type .ensures ∙ ap (λ (k : RecordKind). hasType k rec) (c .before .before .record-of .ensures)) ∙ c .if1 .left in
     next (test rec) (at .loop .i) (omega arith) (kind .ensures) (at .loop .inv) fails
 
 returns-2 : tie.Need-returns-2 Inv-loop μ-loop

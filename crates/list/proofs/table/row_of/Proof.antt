@@ -1,4 +1,4 @@
--- `list::row_of` meets its contract. What is left behind i decides as the whole does. Assumes nothing.
+-- `list::row_of` meets its contract. What is left after i decides as the whole does. Assumes nothing.
 use Prim.Native.Nat.{ℕ, _-_}
 use mathlib.Core.Bool.{Bool, true, false}
 use mathlib.Core.Path.{_≡_, refl, sym, _∙_}
@@ -8,7 +8,7 @@ use borrow.Author.Needs.{needs}
 use borrow.Author.Tests.{eq-eqb, ne-eqb}
 use Rattle.list.specs.Table.{letter}
 use Rattle.list.specs.declared.table.ItemKind.{ItemKind}
-use Rattle.list.proofs.Rows.{Decides, found, next, ended}
+use Rattle.list.proofs.TableRows.{Decides, found, next, ended}
 use Rattle.list.proofs.table.row_of.Statement.{statement}
 use Rattle.list.proofs.table.row_of.Tie as tie
 

@@ -7,7 +7,7 @@ use lib.Dec.{leb}
 use borrow.Author.Needs.{needs}
 use borrow.Author.Tests.{not-true, not-false, le-leb, lt-leb}
 use Rattle.records.specs.Limits.{mostCents}
-use Rattle.flow.specs.Judge.{totals}
+use Rattle.flow.specs.Judge.{walkTotals}
 use Rattle.flow.specs.Order.{permitted, mayClose}
 use Rattle.flow.specs.Verdict.{accepted, refused}
 use Rattle.list.proofs.writer.close.Statement.{statement}
@@ -29,7 +29,7 @@ returns-3 c =
     let told = c .before in
     let due : mayClose (permitted (told .before .before .before .before .args .walk .place .due)) ≡ true = sym (told .before .before .before .may-close .ensures) ∙ not-false _ (told .before .before .if1 .left) in
     let small : leb (told .before .before .before .before .args .walk .cents) mostCents ≡ true = le-leb (told .before .before .before .before .args .walk .cents) mostCents (omega (arith, told .if2 .left)) in
-    rw (due, small) (ap accepted (c .totals .ensures ∙ ap (totals (told .before .before .before .before .args .walk)) (add-one _)))
+    rw (due, small) (ap accepted (c .totals .ensures ∙ ap (walkTotals (told .before .before .before .before .args .walk)) (add-one _)))
 
 pub close-spec : {M : Type 1} → statement M
 close-spec =

@@ -5,8 +5,8 @@ use mathlib.Core.Path.{_≡_, sym, _∙_, ap}
 use lib.ListN.{take}
 use borrow.Author.Needs.{needs}
 use Rattle.records.specs.Context.{headerOf}
-use Rattle.flow.specs.Judge.{go}
-use Rattle.flow.specs.Steps.{start}
+use Rattle.flow.specs.Judge.{walkFrom}
+use Rattle.flow.specs.Walking.{start}
 use Rattle.flow.specs.declared.walk.Walk.{Walk}
 use Rattle.list.specs.Encode.{recordsFor}
 use Rattle.list.specs.Items.{itemsIn}
@@ -23,7 +23,7 @@ unfolding judgeItems
 returns-2 c =
     let recs = recordsFor (itemsIn (c .before .before .before .before .before .args .list .now)) in
     let first : c .before .before .first-record .result ≡ take 120 (flatten recs) = c .before .before .first-record .ensures in
-    c .judge-records .ensures ∙ ap (λ (im : List ℕ). go closed (headerOf im) start [] 0 recs) first
+    c .judge-records .ensures ∙ ap (λ (im : List ℕ). walkFrom closed (headerOf im) start [] 0 recs) first
 
 pub judge-items-spec : {M : Type 1} → statement M
 judge-items-spec =

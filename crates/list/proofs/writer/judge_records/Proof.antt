@@ -1,4 +1,4 @@
--- `list::judge_records` meets its contract. Behind each right record, what is left decides as the whole does. Assumes nothing.
+-- `list::judge_records` meets its contract. After each right record, what is left decides as the whole does. Assumes nothing.
 use Prim.Native.Nat.{ℕ, suc, _+_, _-_, _≤_}
 use mathlib.Core.Bool.{cond}
 use mathlib.Core.List.{List}
@@ -10,10 +10,10 @@ use borrow.Author.Needs.{needs}
 use Rattle.records.specs.Context.{Header, headerOf}
 use Rattle.records.specs.Field.{_to_, field}
 use Rattle.records.specs.Kinds.{heads, opened}
-use Rattle.records.specs.Finding.{finding}
+use Rattle.records.specs.RecordVerdict.{judgedVerdict}
 use Rattle.records.specs.Limits.{mostRecords}
-use Rattle.records.specs.declared.kind.Kind.{Kind}
-use Rattle.flow.specs.Steps.{latestOf, judgeRecord}
+use Rattle.records.specs.declared.kind.RecordKind.{RecordKind}
+use Rattle.flow.specs.Walking.{latestOf, judgeRecord}
 use Rattle.list.specs.Encode.{carriedAt, encodeItem}
 use Rattle.list.specs.Items.{itemsIn}
 use Rattle.list.specs.Table.{recordOf, bodyLength}
@@ -93,7 +93,7 @@ found :
     (c : tie.After-judge Inv-loop μ-loop) → let l = c .before .before .before .before .before .before .before .before .before in let k = c .before .before .before .before .before .before .kind-of .result in
     judgeRecord (header-of l) (l .loop .walk) (l .loop .company .now) (suc (l .loop .n))
     (encodeItem (l .loop .dispositions + opened (recordOf k)) (l .loop .header .now) (itemAt (list-of l) (l .loop .at) k))
-    ≡ finding (c .judge .result)
+    ≡ judgedVerdict (c .judge .result)
 found c =
     let l = c .before .before .before .before .before .before .before .before .before in
     sym (c .judge .ensures ∙ ap₂ (judgeRecord _ _ _) (add-one (l .loop .n)) (built (c .before .before)))
@@ -101,7 +101,7 @@ found c =
 returns : tie.Need-returns Inv-loop μ-loop
 returns c =
     let l = c .before .before .before .before .before .before .before .before .before .before .before .before in
-    let told = found (c .before .before .before) ∙ ap finding (c .before .number .given .1) in
+    let told = found (c .before .before .before) ∙ ap judgedVerdict (c .before .number .given .1) in
     rw add-one (judging-refused (l .loop .inv .2) (c .before .before .before .before .before .before .before .before .before .before .before .loop-test .taken) _ (c .before .before .before .before .before .before .before .before .before .kind-of .ensures) _ _ told)
 
 loop-less : tie.Need-loop-less Inv-loop μ-loop
@@ -115,13 +115,13 @@ loop-again c =
     let b = c .before .before .before .before .before .before .before .before .before .before .before .before .before in
     let k = b .before .kind-of .result in
     let t = turn-so b in
-    let told = found (c .before .before .before .before .before .before .before .before) ∙ ap finding (c .before .before .before .before .before .before .right .given .1) in
+    let told = found (c .before .before .before .before .before .before .before .before) ∙ ap judgedVerdict (c .before .before .before .before .before .before .right .given .1) in
     let on = judging-on (l .loop .inv .2) (c .before .before .before .before .before .before .before .before .before .before .before .before .before .before .before .before .loop-test .taken) k (b .before .kind-of .ensures) _ _ told in
     let end : i + 1 + bodyLength k ≡ i + 1 + b .body-length .result = omega (arith, t .size-so) in
     let number : l .loop .dispositions + opened (recordOf k) ≡ c .before .before .before .before .before .before .before .before .before .before .before .counted .result = sym (c .before .before .before .before .before .before .before .before .before .before .before .counted .ensures) in
-    let meant : cond (heads (recordOf k)) (itemAt list i k .body) (l .loop .header .now) ≡ c .header-behind .result .now = sym (c .header-behind .ensures ∙ ap (λ (body : List ℕ). cond (heads (recordOf k)) body (l .loop .header .now)) (t .body-so)) in
+    let meant : cond (heads (recordOf k)) (itemAt list i k .body) (l .loop .header .now) ≡ c .header-after .result .now = sym (c .header-after .ensures ∙ ap (λ (body : List ℕ). cond (heads (recordOf k)) body (l .loop .header .now)) (t .body-so)) in
     let company : latestOf (recordOf k) (l .loop .company .now) (carriedAt D (92 to 96) (itemAt list i k .body)) ≡ c .before .before .latest-company .result .now =
-    sym (c .before .before .latest-company .ensures .0 ∙ ap₂ (λ (m : Kind) (code : List ℕ). latestOf m (l .loop .company .now) code) (c .before .before .before .record-of .ensures) (c .before .before .before .before .field .ensures .0 ∙ ap (field 37 41) (t .body-so))) in
+    sym (c .before .before .latest-company .ensures .0 ∙ ap₂ (λ (m : RecordKind) (code : List ℕ). latestOf m (l .loop .company .now) code) (c .before .before .before .record-of .ensures) (c .before .before .before .before .field .ensures .0 ∙ ap (field 37 41) (t .body-so))) in
     (omega (arith, t .ends), l .loop .inv .1, subst (λ (A : Type 0). A) (λ j. JudgingAt (header-of l) list (end j) (sym (add-one (l .loop .n)) j) (number j) (meant j) (sym (c .before .next .ensures) j) (company j)) on)
 
 close-requires : tie.Need-close-requires Inv-loop μ-loop

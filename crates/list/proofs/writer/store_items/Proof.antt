@@ -1,4 +1,4 @@
--- `list::store_items` meets its contract. Behind each record stored, what is left to store makes the whole of the output. Assumes nothing.
+-- `list::store_items` meets its contract. After each record stored, what is left to store makes the whole of the output. Assumes nothing.
 use Prim.Native.Nat.{ℕ, suc, _+_, _-_, _*_, _≤_}
 use mathlib.Core.Bool.{cond}
 use mathlib.Core.List.{List}
@@ -99,7 +99,7 @@ sized c =
     let proper = next-proper (list-of l) (l .loop .n) (l .loop .at) k (s .left) (next-stored s (c .before .before .before .before .before .before .loop-test .taken) k (kind .ensures)) in
     ap length (built c) ∙ encoded-length (l .loop .dispositions + opened (recordOf k)) (l .loop .header .now) (itemAt (list-of l) (l .loop .at) k) proper
 
--- there is room for one more record, and for EF behind the last
+-- there is room for one more record, and for EF after the last
 room-so : (a : tie.At-loop Inv-loop μ-loop) → 120 * a .loop .n + 120 ≤ length (a .loop .out)
 room-so a = let s = a .loop .inv .3 in omega (arith, s .count, s .room)
 
@@ -122,7 +122,7 @@ loop-again c =
     let k = b .before .kind-of .result in
     let end : i + 1 + bodyLength k ≡ i + 1 + b .body-length .result = omega (arith, t .size-so) in
     let number : l .loop .dispositions + opened (recordOf k) ≡ c .before .before .before .before .before .before .before .counted .result = sym (c .before .before .before .before .before .before .before .counted .ensures) in
-    let meant : cond (heads (recordOf k)) (itemAt list i k .body) (l .loop .header .now) ≡ c .header-behind .result .now = sym (c .header-behind .ensures ∙ ap (λ (body : List ℕ). cond (heads (recordOf k)) body (l .loop .header .now)) (t .body-so)) in
+    let meant : cond (heads (recordOf k)) (itemAt list i k .body) (l .loop .header .now) ≡ c .header-after .result .now = sym (c .header-after .ensures ∙ ap (λ (body : List ℕ). cond (heads (recordOf k)) body (l .loop .header .now)) (t .body-so)) in
     let index : 120 * l .loop .n + 1 - 1 ≡ 120 * l .loop .n = omega arith in
     let stored : c .before .before .before .place .last .0 ≡ put (120 * l .loop .n) (record-of l k) (l .loop .out) = c .before .before .before .place .ensures ∙ (λ j. put (index j) (built (c .before .before .before .before .before .before) j) (l .loop .out)) in
     let size : length (record-of l k) ≡ 120 = ap length (sym (built (c .before .before .before .before .before .before))) ∙ sized (c .before .before .before .before .before .before) in (
@@ -144,7 +144,7 @@ trailer-sized c = ap length (c .encode-trailer .ensures) ∙ trailer-length _ _
 place-requires-2 : tie.Need-place-requires-2 Inv-loop μ-loop
 place-requires-2 c κs = (omega arith, omega (arith, trailer-sized (c .before .before), room-so (c .before .before .before .before)))
 
--- EF behind the last record
+-- EF after the last record
 last-stored : (c : tie.After-place2 Inv-loop μ-loop) → let l = c .before .before .before .before .before in c .place2 .last .0 ≡ put (120 * l .loop .n) (c .before .before .before .encode-trailer .result) (l .loop .out)
 last-stored c =
     let l = c .before .before .before .before .before in

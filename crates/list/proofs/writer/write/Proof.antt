@@ -6,7 +6,7 @@ use native.Mathlib.Omega.{arith}
 use lib.ListN.{length}
 use borrow.Author.Needs.{needs}
 use Rattle.sequences.specs.All.{All}
-use Rattle.flow.specs.Verdict.{accepted, refused, verdict, refusal, ofCall}
+use Rattle.flow.specs.Verdict.{accepted, refused, answerVerdict, refusal, ofCall}
 use Rattle.flow.specs.declared.answer.Totals.{Totals}
 use Rattle.list.specs.Encode.{encode}
 use Rattle.list.specs.Items.{Proper, items, parse, itemsIn, Listed}
@@ -61,7 +61,7 @@ judge-items-requires c κs = listed c
 -- and they are accepted
 told-so :
     (c : tie.After-known-told4) → judgeItems (itemsIn (list-of (c .before .before .before .before .before .before))) ≡ accepted (c .before .totals .given .0 .0)
-told-so c = sym (c .before .before .before .judge-items .ensures) ∙ ap verdict (c .before .totals .given .1)
+told-so c = sym (c .before .before .before .judge-items .ensures) ∙ ap answerVerdict (c .before .totals .given .1)
 
 proper-so : (c : tie.After-known-told4) → All Proper (itemsIn (list-of (c .before .before .before .before .before .before)))
 proper-so c = let list = list-of (c .before .before .before .before .before .before) in items-exact list (itemsIn list) .0 (fitting (c .before .before .before .before) .said) .1
@@ -93,7 +93,7 @@ returns-4 c =
     let e = c .before .before .before .before .before in
     let told = e .before .before in
     let list = list-of told in
-    let wrong : judgeItems (itemsIn list) ≡ refused (c .before .before .refusal .given .0 .0) = sym (c .before .before .before .before .judge-items .ensures) ∙ ap verdict (c .before .before .refusal .given .1) in
+    let wrong : judgeItems (itemsIn list) ≡ refused (c .before .before .refusal .given .0 .0) = sym (c .before .before .before .before .judge-items .ensures) ∙ ap answerVerdict (c .before .before .refusal .given .1) in
     write-refuses list (out-of told) (c .refused4 .result) _ (fitting-judged list (length (out-of told)) (itemsIn list) (fitting e) ∙ wrong) (c .refused4 .ensures)
 
 returns-5 : tie.Need-returns-5

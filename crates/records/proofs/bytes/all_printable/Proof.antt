@@ -1,4 +1,4 @@
--- `records::all_printable` meets its contract: the bytes so far, and what is left behind them. Assumes nothing.
+-- `records::all_printable` meets its contract: the bytes so far, and what is left after them. Assumes nothing.
 use Prim.Native.Nat.{_+_, _-_, _≤_}
 use mathlib.Core.Bool.{Bool, _&&_, and-true, and-assoc}
 use mathlib.Core.Path.{_≡_, refl, sym, _∙_, ap}

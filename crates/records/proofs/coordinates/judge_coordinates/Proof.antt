@@ -1,16 +1,16 @@
--- `records::judge_coordinates` meets its contract: each return is the first check that fails, and `past-p` is the place behind the checks of position p. Assumes nothing.
+-- `records::judge_coordinates` meets its contract: each return is the first check that fails, and `past-p` is the place after the checks of position p. Assumes nothing.
 use mathlib.Core.Bool.{not, _||_}
 use mathlib.Core.List.{_++_}
 use mathlib.Core.Path.{refl, sym, _∙_, ap, ap₂}
 use borrow.Author.Needs.{needs}
 use borrow.Author.Tests.{not-true, not-false}
-use Rattle.fields.specs.Answer.{numberAnswer}
+use Rattle.fields.specs.FieldVerdict.{numberVerdict}
 use Rattle.records.specs.Checks.{numberChecks, coordinatesChecks}
 use Rattle.records.specs.Context.{headerOf}
-use Rattle.records.specs.Finding.{right}
-use Rattle.records.specs.declared.kind.Kind.the-variants.{R16}
+use Rattle.records.specs.RecordVerdict.{right}
+use Rattle.records.specs.declared.kind.RecordKind.the-variants.{R16}
 use Rattle.records.proofs.FirstFault.{Reached, enter, pass, pass-row, stop, done}
-use Rattle.records.proofs.Rows.{digits-both, stop-digits}
+use Rattle.records.proofs.FieldTests.{digits-both, stop-digits}
 use Rattle.records.proofs.coordinates.judge_coordinates.Statement.{statement}
 use Rattle.records.proofs.coordinates.judge_coordinates.Tie as tie
 
@@ -18,10 +18,10 @@ abbrev entered : tie.After-shared-slice-known → Reached
 entered c = enter (numberChecks (c .before .args .n) (c .before .args .rec .now) ++ coordinatesChecks (headerOf (c .before .args .header .now) .abi) (c .before .args .rec .now)) (right R16 0)
 
 returns : tie.Need-returns
-returns c = stop-digits (entered (c .before .before .before .before .before)) _ 4 _ _ refl (sym (c .before .before .before .digits-equal-to .ensures) ∙ ap numberAnswer (c .before .number .given .1))
+returns c = stop-digits (entered (c .before .before .before .before .before)) _ 4 _ _ refl (sym (c .before .before .before .digits-equal-to .ensures) ∙ ap numberVerdict (c .before .number .given .1))
 
 abbrev past-4 : tie.After-enum-told → Reached
-past-4 c = pass-row (entered (c .before .before .before .before)) (digits-both _ _ _ (sym (c .before .before .digits-equal-to .ensures) ∙ ap numberAnswer (c .enum-told .given .1)))
+past-4 c = pass-row (entered (c .before .before .before .before)) (digits-both _ _ _ (sym (c .before .before .digits-equal-to .ensures) ∙ ap numberVerdict (c .enum-told .given .1)))
 
 returns-2 : tie.Need-returns-2
 returns-2 c = stop (past-4 (c .before .before .before .before .before .before)) (sym (c .before .either .ensures ∙ ap₂ _||_ (c .before .before .before .before .same .ensures) (c .before .before .same2 .ensures)) ∙ not-true _ (c .if1 .taken))
@@ -42,16 +42,16 @@ abbrev past-15 : tie.Else3 → Reached
 past-15 c = pass (past-13 (c .before .before)) (ap not (sym (c .before .blank .ensures) ∙ c .if3 .left))
 
 returns-5 : tie.Need-returns-5
-returns-5 c = stop-digits (past-15 (c .before .before .before .before)) _ 16 _ _ refl (sym (c .before .before .before .equal-to-abi .ensures) ∙ ap numberAnswer (c .before .number2 .given .1))
+returns-5 c = stop-digits (past-15 (c .before .before .before .before)) _ 16 _ _ refl (sym (c .before .before .before .equal-to-abi .ensures) ∙ ap numberVerdict (c .before .number2 .given .1))
 
 abbrev past-16 : tie.After-enum-told2 → Reached
-past-16 c = pass-row (past-15 (c .before .before .before)) (digits-both _ _ _ (sym (c .before .before .equal-to-abi .ensures) ∙ ap numberAnswer (c .enum-told2 .given .1)))
+past-16 c = pass-row (past-15 (c .before .before .before)) (digits-both _ _ _ (sym (c .before .before .equal-to-abi .ensures) ∙ ap numberVerdict (c .enum-told2 .given .1)))
 
 returns-6 : tie.Need-returns-6
-returns-6 c = stop-digits (past-16 (c .before .before .before .before)) _ 21 _ _ refl (sym (c .before .before .before .above-zero .ensures) ∙ ap numberAnswer (c .before .number3 .given .1))
+returns-6 c = stop-digits (past-16 (c .before .before .before .before)) _ 21 _ _ refl (sym (c .before .before .before .above-zero .ensures) ∙ ap numberVerdict (c .before .number3 .given .1))
 
 abbrev past-21 : tie.After-enum-told3 → Reached
-past-21 c = pass-row (past-16 (c .before .before .before)) (digits-both _ _ _ (sym (c .before .before .above-zero .ensures) ∙ ap numberAnswer (c .enum-told3 .given .1)))
+past-21 c = pass-row (past-16 (c .before .before .before)) (digits-both _ _ _ (sym (c .before .before .above-zero .ensures) ∙ ap numberVerdict (c .enum-told3 .given .1)))
 
 returns-7 : tie.Need-returns-7
 returns-7 c = stop (past-21 (c .before .before)) (ap not (sym (c .before .blank2 .ensures) ∙ c .if4 .taken))

@@ -1,14 +1,14 @@
--- `records::judge_header` meets its contract: each return is the first check that fails, and `past-p` is the place behind the checks of position p. Assumes nothing.
+-- `records::judge_header` meets its contract: each return is the first check that fails, and `past-p` is the place after the checks of position p. Assumes nothing.
 use mathlib.Core.Bool.{not, _||_}
 use mathlib.Core.Path.{refl, sym, _∙_, ap, ap₂}
 use borrow.Author.Needs.{needs}
 use borrow.Author.Tests.{not-true, not-false}
-use Rattle.fields.specs.Answer.{dateAnswer}
+use Rattle.fields.specs.FieldVerdict.{dateVerdict}
 use Rattle.records.specs.Checks.{headerChecks}
-use Rattle.records.specs.Finding.{right}
-use Rattle.records.specs.declared.kind.Kind.the-variants.{Im}
+use Rattle.records.specs.RecordVerdict.{right}
+use Rattle.records.specs.declared.kind.RecordKind.the-variants.{Im}
 use Rattle.records.proofs.FirstFault.{Reached, enter, pass, pass-row, stop, done}
-use Rattle.records.proofs.Rows.{date-both, stop-date}
+use Rattle.records.proofs.FieldTests.{date-both, stop-date}
 use Rattle.records.proofs.header.judge_header.Statement.{statement}
 use Rattle.records.proofs.header.judge_header.Tie as tie
 
@@ -28,10 +28,10 @@ abbrev past-9 : tie.Else2 → Reached
 past-9 c = pass (past-4 (c .before .before)) (sym (c .before .digits .ensures) ∙ not-false _ (c .if2 .left))
 
 returns-3 : tie.Need-returns-3
-returns-3 c = stop-date (past-9 (c .before .before .before .before)) _ 14 refl (sym (c .before .before .before .date .ensures) ∙ ap dateAnswer (c .before .number .given .1))
+returns-3 c = stop-date (past-9 (c .before .before .before .before)) _ 14 refl (sym (c .before .before .before .date .ensures) ∙ ap dateVerdict (c .before .number .given .1))
 
 abbrev past-14 : tie.After-enum-told → Reached
-past-14 c = pass-row (past-9 (c .before .before .before)) (date-both _ (sym (c .before .before .date .ensures) ∙ ap dateAnswer (c .enum-told .given .1)))
+past-14 c = pass-row (past-9 (c .before .before .before)) (date-both _ (sym (c .before .before .date .ensures) ∙ ap dateVerdict (c .enum-told .given .1)))
 
 returns-4 : tie.Need-returns-4
 returns-4 c = stop (past-14 (c .before .before)) (ap not (sym (c .before .blank2 .ensures) ∙ c .if3 .taken))

@@ -3,13 +3,13 @@ use mathlib.Core.Path.{_∙_}
 use borrow.Author.Needs.{needs}
 use borrow.Author.Tests.{ne-eqb}
 use Rattle.records.specs.Checks.{checks}
-use Rattle.records.specs.Judge.{judge}
+use Rattle.records.specs.Judge.{judgeAs}
 use Rattle.records.proofs.ByKind.{of-kind}
 use Rattle.records.proofs.record.judge.Statement.{statement}
 use Rattle.records.proofs.record.judge.Tie as tie
 
 returns : tie.Need-returns
-unfolding judge
+unfolding judgeAs
 returns c = rw (ne-eqb _ 120 (c .if1 .taken))
 
 returns-2 : tie.Need-returns-2

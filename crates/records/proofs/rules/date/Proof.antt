@@ -2,7 +2,7 @@
 use mathlib.Core.Path.{_∙_, ap}
 use borrow.Author.Needs.{needs}
 use Rattle.fields.specs.Date.{dateField}
-use Rattle.records.proofs.Rows.{field-date}
+use Rattle.records.proofs.FieldTests.{field-date}
 use Rattle.records.proofs.rules.date.Statement.{statement}
 use Rattle.records.proofs.rules.date.Tie as tie
 

@@ -2,7 +2,7 @@
 use mathlib.Core.Path.{_∙_, ap}
 use borrow.Author.Needs.{needs}
 use Rattle.fields.specs.Digits.{digitField}
-use Rattle.records.proofs.Rows.{field-digits}
+use Rattle.records.proofs.FieldTests.{field-digits}
 use Rattle.records.proofs.rules.number_at.Statement.{statement}
 use Rattle.records.proofs.rules.number_at.Tie as tie
 

@@ -1,15 +1,15 @@
--- `records::judge_trailer` meets its contract: each return is the first check that fails, and `past-p` is the place behind the checks of position p. Assumes nothing.
+-- `records::judge_trailer` meets its contract: each return is the first check that fails, and `past-p` is the place after the checks of position p. Assumes nothing.
 use mathlib.Core.Path.{refl, sym, _∙_, ap}
 use native.Mathlib.Omega.{arith}
 use borrow.Author.Needs.{needs}
 use borrow.Author.Tests.{not-true, not-false}
-use Rattle.fields.specs.Answer.{numberAnswer}
+use Rattle.fields.specs.FieldVerdict.{numberVerdict}
 use Rattle.records.specs.Checks.{trailerChecks}
 use Rattle.records.specs.Context.{headerOf}
-use Rattle.records.specs.Finding.{right}
-use Rattle.records.specs.declared.kind.Kind.the-variants.{Ef}
+use Rattle.records.specs.RecordVerdict.{right}
+use Rattle.records.specs.declared.kind.RecordKind.the-variants.{Ef}
 use Rattle.records.proofs.FirstFault.{Reached, enter, pass, pass-row, stop, done}
-use Rattle.records.proofs.Rows.{fits, digits-both, stop-digits}
+use Rattle.records.proofs.FieldTests.{fits, digits-both, stop-digits}
 use Rattle.records.proofs.trailer.judge_trailer.Statement.{statement}
 use Rattle.records.proofs.trailer.judge_trailer.Tie as tie
 
@@ -41,31 +41,31 @@ abbrev past-20 : tie.Else4 → Reached
 past-20 c = pass (past-14 (c .before .before)) (sym (c .before .as-in-header4 .ensures) ∙ not-false _ (c .if4 .left))
 
 returns-5 : tie.Need-returns-5
-returns-5 c = stop-digits (past-20 (c .before .before .before .before)) _ 46 _ _ refl (sym (c .before .before .before .digits-equal-to .ensures) ∙ ap numberAnswer (c .before .number .given .1))
+returns-5 c = stop-digits (past-20 (c .before .before .before .before)) _ 46 _ _ refl (sym (c .before .before .before .digits-equal-to .ensures) ∙ ap numberVerdict (c .before .number .given .1))
 
 abbrev past-46 : tie.After-enum-told → Reached
-past-46 c = pass-row (past-20 (c .before .before .before)) (digits-both _ _ _ (sym (c .before .before .digits-equal-to .ensures) ∙ ap numberAnswer (c .enum-told .given .1)))
+past-46 c = pass-row (past-20 (c .before .before .before)) (digits-both _ _ _ (sym (c .before .before .digits-equal-to .ensures) ∙ ap numberVerdict (c .enum-told .given .1)))
 
 returns-6 : tie.Need-returns-6
-returns-6 c = stop-digits (past-46 (c .before .before .before .before)) _ 53 _ _ refl (sym (c .before .before .before .digits-equal-to2 .ensures) ∙ ap numberAnswer (c .before .number2 .given .1))
+returns-6 c = stop-digits (past-46 (c .before .before .before .before)) _ 53 _ _ refl (sym (c .before .before .before .digits-equal-to2 .ensures) ∙ ap numberVerdict (c .before .number2 .given .1))
 
 abbrev past-53 : tie.After-enum-told2 → Reached
-past-53 c = pass-row (past-46 (c .before .before .before)) (digits-both _ _ _ (sym (c .before .before .digits-equal-to2 .ensures) ∙ ap numberAnswer (c .enum-told2 .given .1)))
+past-53 c = pass-row (past-46 (c .before .before .before)) (digits-both _ _ _ (sym (c .before .before .digits-equal-to2 .ensures) ∙ ap numberVerdict (c .enum-told2 .given .1)))
 
 returns-7 : tie.Need-returns-7
-returns-7 c = stop-digits (past-53 (c .before .before .before .before)) _ 68 _ _ refl (sym (c .before .before .before .digits-equal-to3 .ensures) ∙ ap numberAnswer (c .before .number3 .given .1))
+returns-7 c = stop-digits (past-53 (c .before .before .before .before)) _ 68 _ _ refl (sym (c .before .before .before .digits-equal-to3 .ensures) ∙ ap numberVerdict (c .before .number3 .given .1))
 
 digits-equal-to-requires-4 : tie.Need-digits-equal-to-requires-4
 digits-equal-to-requires-4 c κs = fits 83 89 _ (c .before .before .before .before .before .before .before .before .before .before .before .before .before .before .before .before .before .before .before .pre) (omega arith) (omega arith) (omega arith) (omega arith)
 
 abbrev past-68 : tie.After-enum-told3 → Reached
-past-68 c = pass-row (past-53 (c .before .before .before)) (digits-both _ _ _ (sym (c .before .before .digits-equal-to3 .ensures) ∙ ap numberAnswer (c .enum-told3 .given .1)))
+past-68 c = pass-row (past-53 (c .before .before .before)) (digits-both _ _ _ (sym (c .before .before .digits-equal-to3 .ensures) ∙ ap numberVerdict (c .enum-told3 .given .1)))
 
 returns-8 : tie.Need-returns-8
-returns-8 c = stop-digits (past-68 (c .before .before .before .before)) _ 83 _ _ refl (sym (c .before .before .before .digits-equal-to4 .ensures) ∙ ap numberAnswer (c .before .number4 .given .1))
+returns-8 c = stop-digits (past-68 (c .before .before .before .before)) _ 83 _ _ refl (sym (c .before .before .before .digits-equal-to4 .ensures) ∙ ap numberVerdict (c .before .number4 .given .1))
 
 abbrev past-83 : tie.After-enum-told4 → Reached
-past-83 c = pass-row (past-68 (c .before .before .before)) (digits-both _ _ _ (sym (c .before .before .digits-equal-to4 .ensures) ∙ ap numberAnswer (c .enum-told4 .given .1)))
+past-83 c = pass-row (past-68 (c .before .before .before)) (digits-both _ _ _ (sym (c .before .before .digits-equal-to4 .ensures) ∙ ap numberVerdict (c .enum-told4 .given .1)))
 
 returns-9 : tie.Need-returns-9
 returns-9 c = stop (past-83 (c .before .before)) (sym (c .before .as-in-header5 .ensures) ∙ not-true _ (c .if5 .taken))

@@ -2,9 +2,9 @@
 use mathlib.Core.Path.{_≡_, sym, _∙_, ap}
 use borrow.Author.Needs.{needs}
 use Rattle.records.specs.Bytes.{badByte}
-use Rattle.records.specs.Finding.{refused}
+use Rattle.records.specs.RecordVerdict.{refused}
 use Rattle.flow.specs.Order.{permitted, among}
-use Rattle.flow.specs.declared.order.Found.the-variants.{Of, Missing}
+use Rattle.flow.specs.declared.order.TypeFound.the-variants.{Of, Missing}
 use Rattle.flow.proofs.Places.{other-length, bad-byte, no-type, of-type}
 use Rattle.flow.proofs.walk.Walk.judge.Statement.{statement}
 use Rattle.flow.proofs.walk.Walk.judge.Tie as tie
@@ -22,7 +22,7 @@ returns-3 c =
     let kind = c .before .before .before .kind .given .0 .0 in
     let printable : badByte rec ≡ 0 = sym (c .before .before .before .before .before .before .before .before .bad-byte .ensures) ∙ c .before .before .before .before .before .before .before .if2 .left in
     let found : among (permitted (w .place .due)) rec ≡ Of kind = sym (c .before .before .before .before .before .kind-due .ensures) ∙ c .before .before .before .kind .given .1 in
-    c .judge .ensures ∙ rw (c .before .counted .ensures) (sym (of-type _ w _ _ rec (c .before .before .before .before .before .before .before .before .before .if1 .left) kind printable found))
+    c .judge .ensures ∙ rw (c .before .dispositions-with .ensures) (sym (of-type _ w _ _ rec (c .before .before .before .before .before .before .before .before .before .if1 .left) kind printable found))
 
 returns-4 : tie.Need-returns-4
 returns-4 c =

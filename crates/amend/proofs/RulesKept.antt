@@ -1,0 +1,196 @@
+-- A record of a disposition with another number, a 14 with another amount, and a trailer with other counts keep their rules. Assumes
+-- nothing.
+use Prim.Native.Nat.{ℕ, suc, _+_, _^_, _≤_, _<_}
+use mathlib.Core.List.{List, List·Memᴰ}
+use mathlib.Core.Logic.{_⊎_, inl, inr}
+use mathlib.Core.Path.{_≡_, sym, _∙_, ap, subst}
+use native.Mathlib.Omega.{arith}
+use lib.ListN.{length, getD}
+use Rattle.sequences.specs.Part.{part, put}
+use Rattle.sequences.specs.Text.{text}
+use Rattle.sequences.proofs.Part.{put-length, part-put, part-put-before, part-put-after, part-getD, all-put}
+use Rattle.fields.specs.Amount.{mostAmount}
+use Rattle.fields.specs.Digits.{digits, number}
+use Rattle.fields.proofs.Decimal.{written-length}
+use Rattle.records.specs.Amount.{amountIn}
+use Rattle.records.specs.Context.{Header}
+use Rattle.records.specs.Field.{field}
+use Rattle.records.specs.Limits.{centsLimit, countLimit}
+use Rattle.records.specs.declared.kind.RecordKind.{RecordKind}
+use Rattle.records.specs.declared.kind.RecordKind.the-variants.{Im, R14, R16, R20, R30, R40, R50, R59, R51, R70, Ef}
+use Rattle.flow.specs.declared.answer.Totals.{Totals}
+use Rattle.grammar.specs.Rules.{Digits, Blank, Present, Date, Says, Formed, DispositionRules, CoordinatesRules, BesideNumber, MemberRules, TrailerRules}
+use Rattle.grammar.proofs.Rules.{says-written, digits-printable}
+use Rattle.amend.specs.Withdraw.{renumbered, recounted}
+
+-- the digits of a number written over a record
+module _ (a w v : ℕ) (rec : List ℕ) (whole : length rec ≡ 120) (fits : a + w ≤ 120) where
+  within : a + length (digits w v) ≤ length rec
+  within = omega (arith, written-length w v)
+
+  pub over-length : length (put a (digits w v) rec) ≡ 120
+  over-length = put-length a (digits w v) rec within ∙ whole
+
+  -- they stand there, and a part that lies outside them stays
+  pub over-says : v < 10 ^ w → Says v (part a w (put a (digits w v) rec))
+  over-says small =
+      let stands : part a w (put a (digits w v) rec) ≡ digits w v = ap (λ (n : ℕ). part a n (put a (digits w v) rec)) (sym (written-length w v)) ∙ part-put a (digits w v) rec within in
+      subst (Says v) (sym stands) (says-written w v small)
+
+  pub over-kept : (b n : ℕ) → (b + n ≤ a) ⊎ (a + w ≤ b) → part b n (put a (digits w v) rec) ≡ part b n rec
+  over-kept b n (inl h) = part-put-before a (digits w v) rec within b n h
+  over-kept b n (inr h) = part-put-after a (digits w v) rec within b n (omega (arith, written-length w v))
+
+  -- after its type
+  pub over-formed : (k : RecordKind) → 3 ≤ a → v < 10 ^ w → Formed k rec → Formed k (put a (digits w v) rec)
+  over-formed k later small formed =
+      record {
+        whole = over-length;
+        printable = all-put _ a (digits w v) rec (digits-printable (digits w v) (says-written w v small .0)) (formed .printable);
+        type = over-kept 1 2 (inl later) ∙ formed .type;
+      }
+
+-- another record that has the same parts where a rule looks
+abbrev Same : (ℕ → ℕ → Type 0) → List ℕ → List ℕ → Type 0
+Same Where rec other = (a n : ℕ) → Where a n → part a n other ≡ part a n rec
+
+byte-same : (i : ℕ) (rec other : List ℕ) → part i 1 other ≡ part i 1 rec → getD other i 0 ≡ getD rec i 0
+byte-same i rec other e =
+    let here : i + 0 ≡ i = omega arith in
+    let at : (l : List ℕ) → getD (part i 1 l) 0 0 ≡ getD l i 0 = λ l. part-getD i 1 l 0 (omega arith) ∙ ap (λ (j : ℕ). getD l j 0) here in
+    sym (at other) ∙ ap (λ (l : List ℕ). getD l 0 0) e ∙ at rec
+
+-- after the number, and outside the amount
+abbrev BesideAmount : ℕ → ℕ → Type 0
+BesideAmount a n = (10 ≤ a) × ((a + n ≤ 33) ⊎ (46 ≤ a))
+
+module _ (abi rec other : List ℕ) where
+  disposition-same : Same BesideAmount rec other → Digits (amountIn other) → DispositionRules abi rec → DispositionRules abi other
+  disposition-same same amount r =
+      let front : (a n : ℕ) → 10 ≤ a → a + n ≤ 33 → part a n other ≡ part a n rec = λ a n h l. same a n (h, inl l) in
+      let back : (a n : ℕ) → 46 ≤ a → part a n other ≡ part a n rec = λ a n h. same a n (omega arith, inr h) in
+      record {
+        payable = subst Date (sym (front 22 6 (omega arith) (omega arith))) (r .payable);
+        causale-code = front 28 5 (omega arith) (omega arith) ∙ r .causale-code;
+        amount = amount;
+        sign-code = back 46 1 (omega arith) ∙ r .sign-code;
+        bank = (subst Digits (sym (back 47 5 (omega arith))) (r .bank .0), back 47 5 (omega arith) ∙ r .bank .1);
+        branch = subst (λ (bs : List ℕ). Blank bs ⊎ Digits bs) (sym (back 52 5 (omega arith))) (r .branch);
+        code-type = subst (λ (b : ℕ). List·Memᴰ b (text " 1234569")) (sym (byte-same 96 rec other (back 96 1 (omega arith)))) (r .code-type);
+        currency-code = back 119 1 (omega arith) ∙ r .currency-code;
+      }
+
+  module _ (same : (a n : ℕ) → 10 ≤ a → part a n other ≡ part a n rec) where
+    coordinates-same : CoordinatesRules abi rec → CoordinatesRules abi other
+    coordinates-same r =
+        record {
+          country = subst (λ (bs : List ℕ). (bs ≡ text "IT") ⊎ (bs ≡ text "SM")) (sym (same 10 2 (omega arith))) (r .country);
+          check-digits = subst Digits (sym (same 12 2 (omega arith))) (r .check-digits);
+          cin = subst Present (sym (same 14 1 (omega arith))) (r .cin);
+          bank = (subst Digits (sym (same 15 5 (omega arith))) (r .bank .0), same 15 5 (omega arith) ∙ r .bank .1);
+          branch = subst (λ (bs : List ℕ). Digits bs × (1 ≤ number bs)) (sym (same 20 5 (omega arith))) (r .branch);
+          account = subst Present (sym (same 25 12 (omega arith))) (r .account);
+        }
+
+    -- what a record keeps beside its number
+    beside-same : (k : RecordKind) → BesideNumber k abi rec → BesideNumber k abi other
+    beside-same Im r = r
+    beside-same R14 r = disposition-same (λ a n h. same a n (h .0)) (subst Digits (sym (same 33 13 (omega arith))) (r .amount)) r
+    beside-same R16 r = coordinates-same r
+    beside-same R20 r = subst Present (sym (same 10 24 (omega arith))) r
+    beside-same R30 r = subst Present (sym (same 10 30 (omega arith))) r
+    beside-same R40 r = tt
+    beside-same R50 r = tt
+    beside-same R59 r = subst Present (sym (same 10 55 (omega arith))) r
+    beside-same R51 r = tt
+    beside-same R70 r = subst (λ (b : ℕ). List·Memᴰ b (text " PB")) (sym (byte-same 93 rec other (same 93 1 (omega arith)))) r
+    beside-same Ef r = r
+
+-- a record of disposition i, with the number j
+module _ (k : RecordKind) (abi : List ℕ) (i j : ℕ) (rec : List ℕ) (formed : Formed k rec) (small : j < countLimit) where
+  pub renumbered-formed : Formed k (renumbered j rec)
+  renumbered-formed = over-formed 3 7 j rec (formed .whole) (omega arith) k (omega arith) small formed
+
+  pub renumbered-rules : MemberRules k abi i rec → MemberRules k abi j (renumbered j rec)
+  renumbered-rules r =
+      record {
+        number-said = over-says 3 7 j rec (formed .whole) (omega arith) small;
+        others = beside-same abi rec (renumbered j rec) (λ a n h. over-kept 3 7 j rec (formed .whole) (omega arith) a n (inr h)) k (r .others);
+      }
+
+-- a 14 with another amount
+abbrev pub repricedRecord : ℕ → List ℕ → List ℕ
+repricedRecord new rec = put 33 (digits 13 new) rec
+
+module _ (abi : List ℕ) (i new : ℕ) (rec : List ℕ) (formed : Formed R14 rec) (small : new < suc mostAmount) where
+  kept : (b n : ℕ) → (b + n ≤ 33) ⊎ (46 ≤ b) → part b n (repricedRecord new rec) ≡ part b n rec
+  kept = over-kept 33 13 new rec (formed .whole) (omega arith)
+
+  pub repriced-formed : Formed R14 (repricedRecord new rec)
+  repriced-formed = over-formed 33 13 new rec (formed .whole) (omega arith) R14 (omega arith) small formed
+
+  pub repriced-says : Says new (amountIn (repricedRecord new rec))
+  repriced-says = over-says 33 13 new rec (formed .whole) (omega arith) small
+
+  pub repriced-code : field 92 96 (repricedRecord new rec) ≡ field 92 96 rec
+  repriced-code = kept 91 5 (inr (omega arith))
+
+  pub repriced-rules : MemberRules R14 abi i rec → MemberRules R14 abi i (repricedRecord new rec)
+  repriced-rules r =
+      record {
+        number-said = subst (Says i) (sym (kept 3 7 (inl (omega arith)))) (r .number-said);
+        others = disposition-same abi rec (repricedRecord new rec) (λ a n h. kept a n (h .1)) (repriced-says .0) (r .others);
+      }
+
+-- a trailer with other totals
+pub recounted-length : (t : Totals) (rec : List ℕ) → length rec ≡ 120 → length (recounted t rec) ≡ 120
+recounted-length t rec whole =
+    let one = over-length 45 7 (t .dispositions) rec whole (omega arith) in
+    let two = over-length 52 15 (t .cents) (put 45 (digits 7 (t .dispositions)) rec) one (omega arith) in
+    over-length 82 7 (t .records) (put 52 (digits 15 (t .cents)) (put 45 (digits 7 (t .dispositions)) rec)) two (omega arith)
+
+module _ (t : Totals) (rec : List ℕ) (formed : Formed Ef rec) (few : t .dispositions < countLimit) (small : t .cents < centsLimit) (short : t .records < countLimit) where
+  abbrev one : List ℕ
+  one = put 45 (digits 7 (t .dispositions)) rec
+
+  abbrev two : List ℕ
+  two = put 52 (digits 15 (t .cents)) one
+
+  formed-one : Formed Ef one
+  formed-one = over-formed 45 7 (t .dispositions) rec (formed .whole) (omega arith) Ef (omega arith) few formed
+
+  formed-two : Formed Ef two
+  formed-two = over-formed 52 15 (t .cents) one (formed-one .whole) (omega arith) Ef (omega arith) small formed-one
+
+  pub recounted-formed : Formed Ef (recounted t rec)
+  recounted-formed = over-formed 82 7 (t .records) two (formed-two .whole) (omega arith) Ef (omega arith) short formed-two
+
+  kept-one : (b w : ℕ) → (b + w ≤ 45) ⊎ (52 ≤ b) → part b w one ≡ part b w rec
+  kept-one = over-kept 45 7 (t .dispositions) rec (formed .whole) (omega arith)
+
+  kept-two : (b w : ℕ) → (b + w ≤ 52) ⊎ (67 ≤ b) → part b w two ≡ part b w one
+  kept-two = over-kept 52 15 (t .cents) one (formed-one .whole) (omega arith)
+
+  kept-three : (b w : ℕ) → (b + w ≤ 82) ⊎ (89 ≤ b) → part b w (recounted t rec) ≡ part b w two
+  kept-three = over-kept 82 7 (t .records) two (formed-two .whole) (omega arith)
+
+  -- what stands before them, between the second and the third, and after them
+  pub kept-front : (b w : ℕ) → b + w ≤ 45 → part b w (recounted t rec) ≡ part b w rec
+  kept-front b w h = kept-three b w (inl (omega arith)) ∙ kept-two b w (inl (omega arith)) ∙ kept-one b w (inl h)
+
+  pub kept-between : (b w : ℕ) → 67 ≤ b → (b + w ≤ 82) ⊎ (89 ≤ b) → part b w (recounted t rec) ≡ part b w rec
+  kept-between b w h o = kept-three b w o ∙ kept-two b w (inr h) ∙ kept-one b w (inr (omega arith))
+
+  pub recounted-rules : (h : Header) {t₀ : Totals} → TrailerRules h t₀ rec → TrailerRules h t (recounted t rec)
+  recounted-rules h r =
+      record {
+        mittente = kept-front 3 5 (omega arith) ∙ r .mittente;
+        ricevente = kept-front 8 5 (omega arith) ∙ r .ricevente;
+        created = kept-front 13 6 (omega arith) ∙ r .created;
+        name = kept-front 19 20 (omega arith) ∙ r .name;
+        dispositions-said = subst (Says (t .dispositions)) (sym (kept-three 45 7 (inl (omega arith)) ∙ kept-two 45 7 (inl (omega arith)))) (over-says 45 7 (t .dispositions) rec (formed .whole) (omega arith) few);
+        cents-said = subst (Says (t .cents)) (sym (kept-three 52 15 (inl (omega arith)))) (over-says 52 15 (t .cents) one (formed-one .whole) (omega arith) small);
+        zeros = subst (Says 0) (sym (kept-between 67 15 (omega arith) (inl (omega arith)))) (r .zeros);
+        records-said = over-says 82 7 (t .records) two (formed-two .whole) (omega arith) short;
+        currency-code = kept-between 113 1 (omega arith) (inr (omega arith)) ∙ r .currency-code;
+      }

@@ -1,0 +1,97 @@
+-- The laws of what is returned. Assumes nothing.
+use Prim.Native.Nat.{ℕ}
+use mathlib.Core.List.{List}
+use mathlib.Core.Path.{_≡_, refl, ap}
+use native.Mathlib.Omega.{arith}
+use lib.ListN.{length, getD}
+use Rattle.fields.specs.FieldVerdict.{FieldVerdict}
+use Rattle.fields.specs.FieldVerdict.{accepted as FieldVerdict·accepted, refused as FieldVerdict·refused}
+use Rattle.flow.specs.Output.{output}
+use Rattle.flow.specs.Verdict.{Verdict, accepted, refused, refusal}
+use Rattle.flow.specs.declared.answer.Refusal.{Refusal}
+use Rattle.flow.specs.declared.answer.Totals.{Totals}
+use Rattle.flow.specs.declared.location.Location.{Location}
+use Rattle.list.specs.Encode.{encode}
+use Rattle.list.specs.Items.{itemsIn}
+use Rattle.list.specs.ReadBack.{listOf, judgeRoom, readBack}
+use Rattle.list.specs.Write.{judgeList, write}
+use Rattle.amend.specs.Amended.{Amended}
+use Rattle.amend.specs.Change.{change}
+use Rattle.amend.specs.Withdraw.{withdraw}
+use Rattle.amend.proofs.Answered.{refused-untouched}
+use Rattle.capi.specs.Laws.{RefusedLeaves, ReturnedTells}
+use Rattle.capi.specs.Returned.{Returned, returnedThree, ofNumber, ofRefusal, ofVerdict, ofFound, ofOutput}
+
+-- an output is written where the call is accepted
+output-alone : (v : Verdict Totals) (bytes out : List ℕ) → ofOutput (output v bytes out) .status ≡ 0 → output v bytes out .bytes ≡ out
+output-alone (accepted t) bytes out e = absurd (omega arith)
+output-alone (refused x) bytes out h = refl
+
+written-alone : (list out : List ℕ) → ofOutput (write list out) .status ≡ 0 → write list out .bytes ≡ out
+unfolding write
+written-alone list out = output-alone (judgeList list (length out)) (encode (itemsIn list)) out
+
+read-back-alone : (f out : List ℕ) → ofOutput (readBack f out) .status ≡ 0 → readBack f out .bytes ≡ out
+unfolding readBack
+read-back-alone f out = output-alone (judgeRoom f (length out)) (listOf f) out
+
+-- what is returned with the status 0 is a refusal
+amended-alone : (f : List ℕ) (a : Amended) (l : ℕ) → ((x : Refusal) → a .answer ≡ refused x → a .bytes ≡ f) → ofVerdict (a .answer) l .status ≡ 0 → a .bytes ≡ f
+amended-alone f a l alone = by (a .answer) refl
+  where
+    by : (v : Verdict Totals) → a .answer ≡ v → ofVerdict v l .status ≡ 0 → a .bytes ≡ f
+    by (accepted t) e h = absurd (omega arith)
+    by (refused x) told h = alone x told
+
+pub refused-leaves : RefusedLeaves
+refused-leaves = (
+  written-alone,
+  read-back-alone,
+  λ f k new. amended-alone f (change f k new) 0 (λ x told. refused-untouched f k x .0 new told .0),
+  λ f k. amended-alone f (withdraw f k) (withdraw f k .size) (λ x told. refused-untouched f k x .1 told .0),
+)
+
+-- the i-th entry
+abbrev entry : ℕ → Returned → ℕ
+entry i r = getD (r .entries) i 0
+
+-- what two calls that return the same have in common
+module _ {s a b c l s′ a′ b′ c′ l′ : ℕ} (e : returnedThree s a b c l ≡ returnedThree s′ a′ b′ c′ l′) where
+  status : s ≡ s′
+  status = ap (λ (r : Returned). r .status) e
+
+  first : a ≡ a′
+  first = ap (entry 0) e
+
+  second : b ≡ b′
+  second = ap (entry 1) e
+
+  third : c ≡ c′
+  third = ap (entry 2) e
+
+  fourth : l ≡ l′
+  fourth = ap (entry 3) e
+
+refusals : (x y : Refusal) (l m : ℕ) → ofRefusal x l ≡ ofRefusal y m → x ≡ y
+refusals x y l m e = λ i. refusal (first e i) (second e i) (third e i)
+
+verdicts : (v u : Verdict Totals) (l m : ℕ) → ofVerdict v l ≡ ofVerdict u m → (v ≡ u) × (l ≡ m)
+verdicts (accepted t) (accepted u) l m e = (λ i. accepted (record { dispositions = first e i; cents = second e i; records = third e i }), fourth e)
+verdicts (accepted t) (refused y) l m e = absurd (omega (arith, status e))
+verdicts (refused x) (accepted u) l m e = absurd (omega (arith, status e))
+verdicts (refused x) (refused y) l m e = (ap refused (refusals x y l m e), fourth e)
+
+places : (v u : Verdict Location) → ofFound v ≡ ofFound u → v ≡ u
+places (accepted s) (accepted r) e = λ i. accepted (record { first = first e i; records = second e i; cents = third e i })
+places (accepted s) (refused y) e = absurd (omega (arith, status e))
+places (refused x) (accepted s) e = absurd (omega (arith, status e))
+places (refused x) (refused y) e = ap refused (refusals x y 0 0 e)
+
+numbers : (v u : FieldVerdict ℕ) → ofNumber v ≡ ofNumber u → v ≡ u
+numbers (FieldVerdict·accepted v) (FieldVerdict·accepted u) e = ap FieldVerdict·accepted (first e)
+numbers (FieldVerdict·accepted v) (FieldVerdict·refused f) e = absurd (omega (arith, status e))
+numbers (FieldVerdict·refused f) (FieldVerdict·accepted v) e = absurd (omega (arith, status e))
+numbers (FieldVerdict·refused f) (FieldVerdict·refused g) e = ap FieldVerdict·refused (first e)
+
+pub returned-tells : ReturnedTells
+returned-tells = (verdicts, places, numbers)

@@ -1,0 +1,63 @@
+-- The walk over a flow, a record at a time: what is found of a record at its place, and the state after it. The counts here are exact;
+-- the code's stop where the trailer's digits end. Assumes nothing.
+use Prim.Native.Nat.{ℕ, _+_, min}
+use mathlib.Core.Bool.{cond, _&&_}
+use mathlib.Core.List.{List}
+use lib.Dec.{eqb}
+use lib.ListN.{length}
+use Rattle.records.specs.Bytes.{badByte}
+use Rattle.records.specs.Checks.{isPresent}
+use Rattle.records.specs.Context.{Header, context}
+use Rattle.records.specs.Field.{field}
+use Rattle.records.specs.RecordVerdict.{RecordVerdict, refused}
+use Rattle.records.specs.Judge.{judgeAs}
+use Rattle.records.specs.Kinds.{opens, opened}
+use Rattle.records.specs.Limits.{countLimit, centsLimit}
+use Rattle.records.specs.declared.judged.Counts.{Counts}
+use Rattle.records.specs.declared.kind.RecordKind.{RecordKind}
+use Rattle.flow.specs.Order.{permitted, placeDue, placeAfter, among}
+use Rattle.flow.specs.declared.order.Due.the-variants.{OnlyIm}
+use Rattle.flow.specs.declared.order.TypeFound.{TypeFound}
+use Rattle.flow.specs.declared.order.TypeFound.the-variants.{Of, Missing}
+use Rattle.flow.specs.declared.walk.Walk.{Walk}
+
+abbrev pub start : Walk
+start = record { place = placeDue OnlyIm; dispositions = 0; cents = 0 }
+
+-- the dispositions up to and with a record of the kind
+abbrev pub dispositionsWith : Walk → RecordKind → ℕ
+dispositionsWith w k = w .dispositions + opened k
+
+-- the state after a right record of the kind that asks for c cents
+abbrev pub step : Walk → RecordKind → ℕ → Walk
+step w k c = record { place = placeAfter (w .place .further) k; dispositions = dispositionsWith w k; cents = w .cents + c }
+
+-- of two values the one that goes with the latest company code present: `new` with the code of a record of the kind, `old` with the one before
+abbrev pub latestBy : {A : Type 0} → RecordKind → List ℕ → A → A → A
+latestBy k code old new = cond (opens k && isPresent code) new old
+
+-- the latest company code itself, after a record of the kind that has the code; and after the record
+abbrev pub latestOf : RecordKind → List ℕ → List ℕ → List ℕ
+latestOf k company code = latestBy k code company code
+
+abbrev pub latest : RecordKind → List ℕ → List ℕ → List ℕ
+latest k company rec = latestOf k company (field 92 96 rec)
+
+abbrev pub countsAt : Walk → ℕ → RecordKind → Counts
+countsAt w n k = record { dispositions = dispositionsWith w k; cents = w .cents; records = n }
+
+-- number 3 where no permitted type stands at 2-3, else what the rules of its kind find
+unfoldable pub judgeTyped : Header → Walk → List ℕ → ℕ → List ℕ → TypeFound → RecordVerdict
+judgeTyped header w company n rec Missing = refused 3 2
+judgeTyped header w company n rec (Of k) = judgeAs k (context header company (countsAt w n k)) rec
+
+-- the n-th record of a flow, in the order of document 01: 2 at its lowest byte, then 3, then its kind's checks
+unfoldable pub judgeRecord : Header → Walk → List ℕ → ℕ → List ℕ → RecordVerdict
+judgeRecord header w company n rec =
+    cond (eqb (length rec) 120)
+    (cond (eqb (badByte rec) 0) (judgeTyped header w company n rec (among (permitted (w .place .due)) rec)) (refused 2 (badByte rec)))
+    (refused 1 0)
+
+-- the code's counts stop one above what the trailer's digits hold, where no record can tell them from the exact ones
+abbrev pub saturated : Walk → Walk
+saturated w = record { place = w .place; dispositions = min (w .dispositions) countLimit; cents = min (w .cents) centsLimit }

@@ -1,0 +1,125 @@
+//! What the safe bindings add to the calls compared, on generated flows.
+
+use oracle::find::find;
+use oracle::generate::{disposition_number, draft, flow_to_amend, Draft, Size};
+use oracle::record::{field_mut, record_type, Record};
+use oracle::rng::Rng;
+
+const SEED: u64 = 1;
+
+/// A right flow. Every second has texts that look like records.
+fn right_flow(index: u64) -> Vec<u8> {
+    let mut rng = Rng::for_case(SEED, index);
+    let size = match index {
+        0..20 => Size::Program,
+        20..40 => Size::Limit,
+        40..80 => Size::AllTypes,
+        _ => Size::any(&mut rng, 1_000),
+    };
+    let mut draft = draft(&mut rng, size);
+    if index.is_multiple_of(2) {
+        disguise(&mut rng, &mut draft);
+    }
+    draft.flow()
+}
+
+/// Fills all that may hold any text with openings and trailers, which at these
+/// places are none.
+fn disguise(rng: &mut Rng, draft: &mut Draft) {
+    let text = rng.pick(&[&b"14"[..], b" 14", b"EF", b" EF", b"140000001", b"1414EF"]);
+    let mut letters = text.iter().cycle().skip(rng.index(text.len()));
+    for record in draft.dispositions.iter_mut().flatten() {
+        for &(first, last) in free(record) {
+            for byte in field_mut(record, first, last) {
+                *byte = *letters.next().expect("a cycle has no end");
+            }
+        }
+    }
+}
+
+/// The positions of which document 01 asks no more than text.
+fn free(record: &Record) -> &'static [(usize, usize)] {
+    match &record_type(record) {
+        b"14" => &[(1, 1), (11, 22), (58, 91), (98, 119)],
+        b"16" => &[(1, 1), (26, 120)],
+        b"70" => &[(1, 1), (11, 93), (95, 120)],
+        _ => &[(1, 1), (11, 120)],
+    }
+}
+
+/// Each disposition is the one that both sides find.
+#[test]
+fn the_dispositions_are_those_found() {
+    let mut lengths = [0; 13];
+    for index in 0..10_000 {
+        let flow = right_flow(index);
+        let given = mav::dispositions(&flow).expect("a right flow");
+        assert_eq!(Ok(given.accepted()), mav::read(&flow));
+        let count = given.len() as u64;
+        assert_eq!(count, given.accepted().dispositions);
+        assert_eq!(given.clone().count() as u64, count);
+        for (k, given) in (1..=count).zip(given) {
+            assert_eq!(Ok(given), mav::find(&flow, k), "flow {index}");
+            let second = find(&flow, k).expect("found by the library");
+            assert_eq!(given.number, k);
+            assert_eq!(
+                (given.first_record, given.records, given.cents),
+                (second.first, second.records, second.cents)
+            );
+            assert_eq!(given.part, &flow[second.bytes]);
+            lengths[given.records as usize] += 1;
+        }
+    }
+    // Every number of records that a disposition can have.
+    assert!(lengths[7..].iter().all(|&count| count > 100), "{lengths:?}");
+}
+
+/// A flow that is damaged is refused as by reading, and one that is not gives
+/// all of its bytes but header and trailer.
+#[test]
+fn damaged_flows_give_their_refusal() {
+    let mut refused = 0;
+    for index in 0..20_000 {
+        let flow = flow_to_amend(&mut Rng::for_case(SEED, index));
+        match mav::dispositions(&flow) {
+            Err(refusal) => {
+                assert_eq!(mav::read(&flow), Err(refusal));
+                refused += 1;
+            }
+            Ok(given) => {
+                assert_eq!(mav::read(&flow), Ok(given.accepted()));
+                let parts: Vec<&[u8]> = given.map(|given| given.part).collect();
+                assert_eq!(parts.concat(), flow[120..flow.len() - 120]);
+            }
+        }
+    }
+    assert!((2_000..8_000).contains(&refused), "{refused}");
+}
+
+/// A vector is left with what stands in a slice before the blanks.
+#[test]
+fn a_vector_is_shortened_to_the_flow_left() {
+    let mut withdrawn = 0;
+    for index in 0..20_000 {
+        let mut rng = Rng::for_case(SEED, index);
+        let before = flow_to_amend(&mut rng);
+        let k = disposition_number(&mut rng, 3);
+        let (mut flow, mut memory) = (before.clone(), before.clone());
+        let told = mav::withdraw(&mut flow, k);
+        match mav::withdraw_in_place(&mut memory, k) {
+            Err(refusal) => {
+                assert_eq!(told, Err(refusal));
+                assert_eq!(flow, before);
+            }
+            Ok(left) => {
+                assert_eq!(told, Ok(left.accepted));
+                assert_eq!(mav::read(&flow), told);
+                let (front, blanks) = memory.split_at(left.length);
+                assert_eq!(flow, front);
+                assert!(!blanks.is_empty() && blanks.iter().all(|&byte| byte == b' '));
+                withdrawn += 1;
+            }
+        }
+    }
+    assert!(withdrawn > 5_000, "{withdrawn}");
+}
