@@ -1,20 +1,26 @@
 # Every name in backticks in the documents is defined in the tree. The paths of all files come on
 # standard input:
 #
-#     find .. | awk -f .ci/names.awk - docs/TRACE.md docs/EXCLUSIONS.md
+#     find .. | awk -f .ci/names.awk - docs/TRACE.md docs/EXCLUSIONS.md docs/DECISIONS.md docs/READING.md
 #
 # A name is a module, a definition, a record's field or a constructor of .antt files, an item, a field or a
 # case of Rattle or Rust, a function of .ci/run, the label of a must-fail edit, a vector of the field rules, a program, a file or a
 # folder. A qualified name is one of the module, type or crate that it gives. Of an expression each word
-# is looked for; a single letter is a variable or a kind of vector.
+# is looked for; a single letter is a variable or a kind of vector. Blocks between fences are passed over.
 
 BEGIN {
     # fragments of code
-    exempt("&[u8]|[b' '; 120]|&flow[120 * i..120 * i + 120]|calls : List Call|requires")
+    exempt("&[u8]|[b' '; 120]|&flow[120 * i..120 * i + 120]|calls : List Call|requires|&flow[a..e]|&mut rec[..]")
+    exempt("Judged::Refused(number, position)|Judged::Refused(ABSENT, 20)|pub use module::name|unsafe|return|specs/")
+    # signs of the statements
+    exempt("×|⊎|¬|↔|P → Q|(x : A) → P|(x : A) × P|∷|++|cond b x y|r .name|λ r.|now (rec .entry)|.exit|ℕ")
     # words of a command line, and what programs print
-    exempt("cargo test|--find|--help|too long for this program|reads")
-    # patterns, each for several tests or files
-    exempt(".rs|NAME.before|.._killed_before_any_call|any_call_of_.._failing")
+    exempt("cargo test|--find|--help|too long for this program|reads|refused 1 record 0 position 0|rt|rt must-fail|RT_JOBS")
+    exempt("rt dev records|rt must-fail records|rt dev NAME|rt check|bash .ci/run|450|450,00|450.00|1.450,00|450,5|1.234,50")
+    # of the kit, of the operating system
+    exempt("read_full|flock")
+    # patterns, each for several tests, files or definitions
+    exempt(".rs|NAME.before|.before|.list|.._killed_before_any_call|any_call_of_.._failing|xVerdict|XDetermined")
 }
 
 FILENAME == "-" {
@@ -36,7 +42,8 @@ FILENAME == "-" {
     next
 }
 
-{
+/^```/ { fenced = !fenced; next }
+!fenced {
     n = split($0, part, "`")
     for (i = 2; i <= n; i += 2) {
         if (part[i] in defined) continue
