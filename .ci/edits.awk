@@ -1,4 +1,4 @@
-# Each must-fail edit was refused for a fact of its own. Behind `rt ci`:
+# Each must-fail edit was refused for a fact of its own. After `rt ci`:
 #
 #     awk -f .ci/edits.awk crates/*/must-fail/*.edit
 #
@@ -67,7 +67,7 @@ function judge_file(   i, k, own, meant, error, found, named) {
         }
     }
     for (i = 1; i <= edits; i++) {
-        if (!own[i]) fault(label[i], "there is no edit behind the label")
+        if (!own[i]) fault(label[i], "there is no edit after the label")
         if ((place[i] == "") != (meant[i] > 0)) fault(label[i], "an edit of src/ alone, and no other, names its function")
         if ((crate, label[i]) in seen) fault(label[i], "the label stands twice, also in " seen[crate, label[i]] ".edit")
         seen[crate, label[i]] = file

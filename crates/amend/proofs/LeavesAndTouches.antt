@@ -123,8 +123,8 @@ change-touches f k new t s read found = go (change f k new) (change-case f k new
   where
     go : (x : Amended) → ChangeCase f k new x → AmountOnly f (x .bytes) (t .records) (s .first)
     go x (refuses fault) = record { sizes = refl; bytes = λ i u v. refl }
-    go x (changes {v = g} foundWithTotalsVerdict small fits) =
-        let both = find-reads f k foundWithTotalsVerdict in
+    go x (changes {v = g} there small fits) =
+        let both = find-reads f k there in
         let count = ap (λ (u : Totals). u .records) (accepted-same (sym (both .0) ∙ read)) in
         let place = ap (λ (u : Location). u .first) (accepted-same (sym (both .1) ∙ found)) in
         let within = found-within f k (both .1) in
@@ -278,13 +278,13 @@ withdraw-touches f k t left s read found same = go (withdraw f k) (withdraw-case
   where
     go : (x : Amended) → WithdrawCase f k x → x .answer ≡ accepted left → Moved f (flowLeft x) (t .records) (s .first) (s .records) × (left .records ≡ t .records - s .records)
     go x (refuses fault) same = absurd (accepted-not-refused same)
-    go x (withdraws {v = g} foundWithTotalsVerdict some) same =
-        let both = find-reads f k foundWithTotalsVerdict in
+    go x (withdraws {v = g} there some) same =
+        let both = find-reads f k there in
         let count = ap (λ (u : Totals). u .records) (accepted-same (sym (both .0) ∙ read)) in
         let place = accepted-same (sym (both .1) ∙ found) in
         let told = ap (λ (u : Totals). u .records) (accepted-same same) in
-        let own = sym (withdrawn-front f k g foundWithTotalsVerdict some) in (
-          subst (λ (A : Type 0). A) (λ i. Moved f (own i) (count i) (place i .first) (place i .records)) (moved (found-facts f k foundWithTotalsVerdict)),
+        let own = sym (withdrawn-front f k g there some) in (
+          subst (λ (A : Type 0). A) (λ i. Moved f (own i) (count i) (place i .first) (place i .records)) (moved (found-facts f k there)),
           sym told ∙ (λ i. count i - place i .records),
         )
 

@@ -19,7 +19,7 @@ use Rattle.records.specs.Limits.{centsLimit, countLimit}
 use Rattle.records.specs.declared.kind.RecordKind.{RecordKind}
 use Rattle.records.specs.declared.kind.RecordKind.the-variants.{Im, R14, R16, R20, R30, R40, R50, R59, R51, R70, Ef}
 use Rattle.flow.specs.declared.answer.Totals.{Totals}
-use Rattle.grammar.specs.Rules.{Digits, Blank, Present, Date, Says, Formed, DispositionRules, CoordinatesRules, BesideNumber, MemberRules, TrailerRules}
+use Rattle.grammar.specs.Rules.{Digits, Blank, Present, CalendarDay, Says, Formed, DispositionRules, CoordinatesRules, BesideNumber, MemberRules, TrailerRules}
 use Rattle.grammar.proofs.Rules.{says-written, digits-printable}
 use Rattle.amend.specs.Withdraw.{renumbered, recounted}
 
@@ -70,7 +70,7 @@ module _ (abi rec other : List ℕ) where
       let front : (a n : ℕ) → 10 ≤ a → a + n ≤ 33 → part a n other ≡ part a n rec = λ a n h l. same a n (h, inl l) in
       let back : (a n : ℕ) → 46 ≤ a → part a n other ≡ part a n rec = λ a n h. same a n (omega arith, inr h) in
       record {
-        payable = subst Date (sym (front 22 6 (omega arith) (omega arith))) (r .payable);
+        payable = subst CalendarDay (sym (front 22 6 (omega arith) (omega arith))) (r .payable);
         causale-code = front 28 5 (omega arith) (omega arith) ∙ r .causale-code;
         amount = amount;
         sign-code = back 46 1 (omega arith) ∙ r .sign-code;

@@ -56,7 +56,7 @@ RefusedUntouched =
 abbrev pub flowLeft : Amended → List ℕ
 flowLeft a = take (a .size) (a .bytes)
 
--- an accepted amendment answers with the totals of the flow left, which the reader accepts; after it the memory is blank
+-- an accepted amendment answers with the totals of the flow left, which the reader accepts; after that flow the memory is blank
 pub record LeavesAccepted (f : List ℕ) (a : Amended) (t : Totals) : Type 0 where
   pub read : judge (flowLeft a) ≡ accepted t
   pub within : a .size ≤ length f

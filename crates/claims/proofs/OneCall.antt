@@ -246,9 +246,9 @@ module _ (f : List ℕ) (t : Totals) (read : judge f ≡ accepted t) where
 amends :
     (call : Call) (f : List ℕ) (a : Amended) {v : WithTotals} → findWithTotals f (numberOf call) ≡ accepted v
     → (judge f ≡ accepted (v .totals) → find f (numberOf call) ≡ accepted (v .location) → TouchesOnly call f a v) → Amends call f a
-amends call f a {v} foundWithTotalsVerdict touches =
-    let both = find-reads f (numberOf call) foundWithTotalsVerdict in
-    record { withTotals = v; read = both .0; found = both .1; touches = touches (both .0) (both .1) }
+amends call f a {v} there touches =
+    let both = find-reads f (numberOf call) there in
+    record { known = v; read = both .0; found = both .1; touches = touches (both .0) (both .1) }
 
 -- which bytes a call touches
 pub call-touched : (call : Call) (f : List ℕ) → Touched call f (amend call f)
@@ -257,7 +257,7 @@ call-touched (change-of k new) f =
   where
     go : {t : Totals} (x : Amended) → ChangeCase f k new x → x .answer ≡ accepted t → Amends (change-of k new) f (change f k new)
     go x (refuses fault) same = absurd (accepted-not-refused same)
-    go x (changes foundWithTotalsVerdict small fits) same = amends (change-of k new) f _ foundWithTotalsVerdict (λ read found. change-touches f k new _ _ read found)
+    go x (changes there small fits) same = amends (change-of k new) f _ there (λ read found. change-touches f k new _ _ read found)
 call-touched (withdrawal-of k) f =
     record { only = λ t same. go (withdraw f k) (withdraw-case f k) same same; none = λ x same. refused-untouched f k x .1 same }
   where
@@ -265,4 +265,4 @@ call-touched (withdrawal-of k) f =
         {t : Totals} (x : Amended) → WithdrawCase f k x → x .answer ≡ accepted t → withdraw f k .answer ≡ accepted t
         → Amends (withdrawal-of k) f (withdraw f k)
     go x (refuses fault) same own = absurd (accepted-not-refused same)
-    go x (withdraws foundWithTotalsVerdict some) same own = amends (withdrawal-of k) f _ foundWithTotalsVerdict (λ read found. withdraw-touches f k _ _ _ read found own .0)
+    go x (withdraws there some) same own = amends (withdrawal-of k) f _ there (λ read found. withdraw-touches f k _ _ _ read found own .0)

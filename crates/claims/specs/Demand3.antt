@@ -49,10 +49,10 @@ numberOf (withdrawal-of k) = k
 
 -- an accepted call: the flow that it was lent is accepted, disposition k stands in it, and no position but these differs
 pub record Amends (call : Call) (f : List ℕ) (a : Amended) : Type 0 where
-  pub withTotals : WithTotals
-  pub read : judge f ≡ accepted (withTotals .totals)
-  pub found : find f (numberOf call) ≡ accepted (withTotals .location)
-  pub touches : TouchesOnly call f a withTotals
+  pub known : WithTotals
+  pub read : judge f ≡ accepted (known .totals)
+  pub found : find f (numberOf call) ≡ accepted (known .location)
+  pub touches : TouchesOnly call f a known
 
 -- "each accepted call touches only the positions document 01 names for it; each refused one touches none"
 pub record Touched (call : Call) (f : List ℕ) (a : Amended) : Type 0 where

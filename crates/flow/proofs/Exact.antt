@@ -38,8 +38,8 @@ on-from-limit : (a m l : ℕ) → min (min a l + m) l ≡ min (a + m) l
 on-from-limit a m l = omega arith
 
 -- the counts of a state that has stopped
-stopped-counts : (w : Walk) (n : ℕ) (k : RecordKind) → saturatedCounts (countsAt (saturated w) n k) ≡ saturatedCounts (countsAt w n k)
-stopped-counts w n k =
+saturated-counts : (w : Walk) (n : ℕ) (k : RecordKind) → saturatedCounts (countsAt (saturated w) n k) ≡ saturatedCounts (countsAt w n k)
+saturated-counts w n k =
     let count = on-from-limit (w .dispositions) (opened k) countLimit in
     let cents : min (min (w .cents) centsLimit) centsLimit ≡ min (w .cents) centsLimit = omega arith in
     λ i. record { dispositions = count i; cents = cents i; records = n }
@@ -49,14 +49,14 @@ module _ (header : Header) (w : Walk) (company : List ℕ) (n : ℕ) (rec : List
   typed-alike : (x : TypeFound) → judgeTyped header (saturated w) company n rec x ≡ judgeTyped header w company n rec x
   unfolding judgeTyped
   typed-alike Missing = refl
-  typed-alike (Of k) = counts-alike header company k (countsAt (saturated w) n k) (countsAt w n k) rec (stopped-counts w n k)
+  typed-alike (Of k) = counts-alike header company k (countsAt (saturated w) n k) (countsAt w n k) rec (saturated-counts w n k)
 
   pub record-alike : judgeRecord header (saturated w) company n rec ≡ judgeRecord header w company n rec
   unfolding judgeRecord
   record-alike = ap (λ (x : RecordVerdict). cond (eqb (length rec) 120) (cond (eqb (badByte rec) 0) x (refused 2 (badByte rec))) (refused 1 0)) (typed-alike (among (permitted (w .place .due)) rec))
 
-pub stopped-step : (w : Walk) (k : RecordKind) (c : ℕ) → saturated (step (saturated w) k c) ≡ saturated (step w k c)
-stopped-step w k c =
+pub saturated-step : (w : Walk) (k : RecordKind) (c : ℕ) → saturated (step (saturated w) k c) ≡ saturated (step w k c)
+saturated-step w k c =
     let count = on-from-limit (w .dispositions) (opened k) countLimit in
     let cents = on-from-limit (w .cents) c centsLimit in
     λ i. record { place = placeAfter (w .place .further) k; dispositions = count i; cents = cents i }

@@ -47,12 +47,12 @@ inside-found {due} {known} rec {r} d inside e = subst (λ (x : Due). Inside x re
     by Missing e = tt
     by (Of k) e = (inside, sym e)
 
--- a record that was seen to be right is right at its place
+-- a record that passes the quick test is right at its place
 right-at-place :
     (header : Header) (w : Walk) (company : List ℕ) (n : ℕ) (before rec : List ℕ) (k : RecordKind) → length rec ≡ 120 → NumberBefore w before
     → Inside (w .place .due) rec (Of k) → passesQuickTest k (field 4 10 before) rec ≡ true → judgeRecord header w company n rec ≡ right k 0
-right-at-place header w company n before rec k whole numbered inside seen =
-    let told = quick-test-right k (field 4 10 before) rec seen in
+right-at-place header w company n before rec k whole numbered inside passes =
+    let told = quick-test-right k (field 4 10 before) rec passes in
     let known = numbered (inside .0) in
     let value = known .1 in
     let none : opened k ≡ 0 = rw (told .1) in
@@ -87,10 +87,10 @@ numbered-next header w company n rec k c whole found inside =
     (held .0, eqb-true (number (field 4 10 rec)) (min (dispositionsWith w k) countLimit) (held .1))
 
 -- also where the counts have stopped
-pub numbered-stopped :
+pub numbered-saturated :
     (header : Header) (w : Walk) (company : List ℕ) (n : ℕ) (rec : List ℕ) (k : RecordKind) (c : ℕ) → length rec ≡ 120
     → judgeRecord header w company n rec ≡ right k c → NumberBefore (saturated (step w k c)) rec
-numbered-stopped header w company n rec k c whole found inside =
+numbered-saturated header w company n rec k c whole found inside =
     let held = numbered-next header w company n rec k c whole found inside in
     let value = held .1 in
     (held .0, omega arith)
@@ -101,9 +101,9 @@ pass-one :
     → NumberBefore (atPlace w p) before → Inside (p .due) rec (Of k) → passesQuickTest k (field 4 10 before) rec ≡ true
     → walkFrom end header (atPlace w p) company i (rec ∷ recs) ≡ walkFrom end header (atPlace w (placeAfter (p .further) k)) company (suc i) recs
 unfolding walkFrom
-pass-one end header company w i before rec recs p k whole numbered inside seen =
-    let found = right-at-place header (atPlace w p) company (suc i) before rec k whole numbered inside seen in
-    let opens-no = quick-test-right k (field 4 10 before) rec seen .1 in
+pass-one end header company w i before rec recs p k whole numbered inside passes =
+    let found = right-at-place header (atPlace w p) company (suc i) before rec k whole numbered inside passes in
+    let opens-no = quick-test-right k (field 4 10 before) rec passes .1 in
     let none : opened k ≡ 0 = rw opens-no in
     let count : dispositionsWith w k ≡ w .dispositions = omega arith in
     let cents : w .cents + 0 ≡ w .cents = omega arith in
@@ -123,8 +123,8 @@ still-due p k inside stays = due-after (isDue (permitted (placeAfter (p .further
     due-after false e = absurd (true≢false (sym (ap closes (last-kind (p .further) k e)) ∙ stays))
 
 -- what has stopped stays
-pub stopped-twice : (w : Walk) → saturated (saturated w) ≡ saturated w
-stopped-twice w =
+pub saturated-twice : (w : Walk) → saturated (saturated w) ≡ saturated w
+saturated-twice w =
     let count : min (min (w .dispositions) countLimit) countLimit ≡ min (w .dispositions) countLimit = omega arith in
     let sum : min (min (w .cents) centsLimit) centsLimit ≡ min (w .cents) centsLimit = omega arith in
     λ i. record { place = w .place; dispositions = count i; cents = sum i }
@@ -138,7 +138,7 @@ next-place w k none stays =
     let cents : min (w .cents + 0) centsLimit ≡ w .cents = omega arith in
     λ i. record { place = placeAfter (w .place .further) k; dispositions = dispositions i; cents = cents i }
 
--- the loop over records that are seen to be right: those up to index i were passed over, and the number due at i is known
+-- the loop over records that pass the quick test: those up to index i were passed over, and the number due at i is known
 pub record Passing (f : List ℕ) (from : ℕ) (w : Walk) (i : ℕ) (here : Walk) : Type 0 where
   pub some : 1 ≤ from
   pub stays : saturated w ≡ w
@@ -164,11 +164,11 @@ counts-stay {here = here} so-far =
 pub pass-next :
     (f : List ℕ) {from : ℕ} {w : Walk} (i : ℕ) (here : Walk) (k : RecordKind) → Passing f from w i here → i < length f / 120 → Inside (here .place .due) (recordAt i f) (Of k)
     → passesQuickTest k (field 4 10 (recordAt (i - 1) f)) (recordAt i f) ≡ true → Passing f from w (suc i) (saturated (step here k 0))
-pass-next f {from} {w} i here k so-far more inside seen =
+pass-next f {from} {w} i here k so-far more inside passes =
     let passed = so-far .passed in
     let on = passed .on in
     let q = here .place in
-    let told = quick-test-right k (field 4 10 (recordAt (i - 1) f)) (recordAt i f) seen in
+    let told = quick-test-right k (field 4 10 (recordAt (i - 1) f)) (recordAt i f) passes in
     let none : opened k ≡ 0 = rw (told .1) in
     let moved = next-place here k none (counts-stay so-far) in
     let back : suc i - 1 ≡ i = omega arith in
@@ -181,7 +181,7 @@ pass-next f {from} {w} i here k so-far more inside seen =
         counts = moved ∙ ap (λ (v : Walk). atPlace v (placeAfter (q .further) k)) (passed .counts);
         due = still-due q k (inside .0) (told .2) ∙ passed .due;
         left = λ end header company v numbered. passed .left end header company v numbered ∙ ap (walkFrom end header (atPlace v q) company i) (cut-next (length f / 120) i f more)
-            ∙ pass-one end header company v i (recordAt (i - 1) f) (recordAt i f) (recordsFrom (suc i) f) q k (record-whole f i more) (so-far .known v numbered) inside seen;
+            ∙ pass-one end header company v i (recordAt (i - 1) f) (recordAt i f) (recordsFrom (suc i) f) q k (record-whole f i more) (so-far .known v numbered) inside passes;
       };
       known = λ v numbered goes-on. rw (back, told .3) (so-far .known v numbered (inside .0));
     }

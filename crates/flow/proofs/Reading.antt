@@ -15,7 +15,7 @@ use Rattle.flow.specs.Walking.{start, step, latest, judgeRecord, saturat
 use Rattle.flow.specs.Verdict.{Verdict, refused, refusal}
 use Rattle.flow.specs.declared.answer.Totals.{Totals}
 use Rattle.flow.specs.declared.walk.Walk.{Walk}
-use Rattle.flow.proofs.Exact.{record-alike, stopped-step, exact-at-end}
+use Rattle.flow.proofs.Exact.{record-alike, saturated-step, exact-at-end}
 
 -- after i right records of all, with the rest to come: the state w is the exact one, stopped, and is exact where nothing is due; it has
 -- counted no more dispositions than records
@@ -56,7 +56,7 @@ module _
         let few = r .few in
         record {
           exact = step (r .exact) k c;
-          stops = ap (λ (v : Walk). saturated (step v k c)) (r .stops) ∙ stopped-step (r .exact) k c;
+          stops = ap (λ (v : Walk). saturated (step v k c)) (r .stops) ∙ saturated-step (r .exact) k c;
           final = exact-at-end header (r .exact) company (suc i) rec k c found;
           few = omega (arith, one-at-most k);
           left = r .left ∙ rw (next, found);

@@ -1,6 +1,6 @@
 // The fast path of the reader. Most records are right, and of seven records six stand after the 14 of
-// their disposition and have little to keep. A loop of its own passes over those that the record rules
-// see to be right by a few tests; where that does not settle it, the plain path decides: `Walk::judge`.
+// their disposition and have little to keep. A loop of its own passes over those that pass the quick test
+// of the record rules; where that does not settle it, the plain path decides: `Walk::judge`.
 // So no refusal comes from here.
 ghost use Prim.Native.Nat.{_/_, _≤_};
 ghost use mathlib.Core.Path.{_≡_};
@@ -22,7 +22,7 @@ pub(crate) struct Passed {
     pub index: usize,
 }
 
-// Passes over the records from index `from` on, up to the first that is not seen to be right. The
+// Passes over the records from index `from` on, up to the first that fails the quick test. The
 // record before them is right.
 pub(crate) fn pass_over(flow: &[u8], from: usize, walk: Walk) -> Passed
     requires { ⌜ 1 ≤ from ⌝ }

@@ -22,7 +22,7 @@ use Rattle.flow.specs.ExactTotals.{openingCount, amountSum}
 use Rattle.flow.specs.declared.order.Due.the-variants.{OnlyIm}
 use Rattle.flow.specs.declared.order.Place.{Place}
 use Rattle.flow.proofs.Cut.{Whole}
-use Rattle.grammar.specs.Fault.{HaveKinds, MayFollow, contextAfter, RightAfter, EachRight, Fault, FaultAfter, bad-byte, wrong-type, broken}
+use Rattle.grammar.specs.Fault.{HaveKinds, MayFollow, contextAfter, RightRecord, EachRight, Fault, FaultAfter, bad-byte, wrong-type, broken}
 use Rattle.grammar.specs.Grammar.{Typed, kindsOf, recordsIn}
 use Rattle.grammar.specs.Shape.{InOrder}
 use Rattle.grammar.proofs.AtPlace.{asks, May, RightAt, FaultAt, right-judged, fault-judged}
@@ -94,7 +94,7 @@ module _ (f : List ℕ) (rs : List Typed) (walked : FromStart f rs) where
       let records : suc (0 + length rs) ≡ suc (length (recordsIn rs)) = omega (arith, length-map rs (λ (r : Typed). r .bytes)) in
       λ i. record { header = headerOf (take 120 f); company = counts .2 i; counts = record { dispositions = dispositions i; cents = cents i; records = records i } }
 
-  pub right-after : (k : RecordKind) (rec : List ℕ) → RightNext f rs k rec → RightAfter f (recordsIn rs) rec
+  pub right-after : (k : RecordKind) (rec : List ℕ) → RightNext f rs k rec → RightRecord f (recordsIn rs) rec
   right-after k rec r =
       record {
         kind = k;
@@ -104,7 +104,7 @@ module _ (f : List ℕ) (rs : List Typed) (walked : FromStart f rs) where
         keeps = subst (λ (ctx : Context). Hold (checks k ctx rec)) (context-after k) (r .keeps);
       }
 
-  pub right-next : (rec : List ℕ) → length rec ≡ 120 → (r : RightAfter f (recordsIn rs) rec) → RightNext f rs (r .kind) rec
+  pub right-next : (rec : List ℕ) → length rec ≡ 120 → (r : RightRecord f (recordsIn rs) rec) → RightNext f rs (r .kind) rec
   right-next rec whole r =
       record {
         may = follows-may (r .kind) (r .permitted);
@@ -142,12 +142,12 @@ walked-of f recs whole each = go whole each (outcome (headerOf (take 120 f)) sta
 pub each-of : (f : List ℕ) (rs : List Typed) → FromStart f rs → EachRight f (recordsIn rs)
 each-of f rs walked before rec after e = go (map-split (λ (r : Typed). r .bytes) rs before (rec ∷ after) e)
   where
-    here : (xs ys : List Typed) → FromStart f (xs ++ ys) → recordsIn xs ≡ before → recordsIn ys ≡ rec ∷ after → RightAfter f before rec
+    here : (xs ys : List Typed) → FromStart f (xs ++ ys) → recordsIn xs ≡ before → recordsIn ys ≡ rec ∷ after → RightRecord f before rec
     here xs [] w front back = absurd (nil≢cons back)
     here xs (y ∷ ys) w front back =
         let parts = walked-append (headerOf (take 120 f)) start [] 0 xs (y ∷ ys) .0 w in
         let r = right-after f xs (parts .0) (y .kind) (y .bytes) (parts .1 .0) in
-        subst (λ (l : List (List ℕ)). RightAfter f l rec) front (subst (λ (l : List ℕ). RightAfter f (recordsIn xs) l) (head-eq-of-cons-eq back) r)
+        subst (λ (l : List (List ℕ)). RightRecord f l rec) front (subst (λ (l : List ℕ). RightRecord f (recordsIn xs) l) (head-eq-of-cons-eq back) r)
 
-    go : (xs ys : List Typed) × (rs ≡ xs ++ ys) × (recordsIn xs ≡ before) × (recordsIn ys ≡ rec ∷ after) → RightAfter f before rec
+    go : (xs ys : List Typed) × (rs ≡ xs ++ ys) × (recordsIn xs ≡ before) × (recordsIn ys ≡ rec ∷ after) → RightRecord f before rec
     go s = here (s .0) (s .1) (subst (FromStart f) (s .2) walked) (s .3) (s .4)

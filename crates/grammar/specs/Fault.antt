@@ -41,17 +41,17 @@ contextAfter f before k =
     context (headerOf (take 120 f)) (latestCode [] before)
     (record { dispositions = openingCount before + cond (opens k) 1 0; cents = amountSum before; records = suc (length before) })
 
--- the record is right after the records `before` of the flow f
-pub record RightAfter (f : List ℕ) (before : List (List ℕ)) (rec : List ℕ) : Type 0 where
+-- the record keeps its rules where the records `before` of the flow f stand before it
+pub record RightRecord (f : List ℕ) (before : List (List ℕ)) (rec : List ℕ) : Type 0 where
   pub kind : RecordKind
   pub printable : All Printable rec
   pub type : field 2 3 rec ≡ typeOf kind
   pub permitted : MayFollow before kind
   pub keeps : Hold (checks kind (contextAfter f before kind) rec)
 
--- each of the records, from the front of the flow f, is right after those before it
+-- so does each of the records, from the front of the flow f
 abbrev pub EachRight : List ℕ → List (List ℕ) → Type 0
-EachRight f recs = (before : List (List ℕ)) (rec : List ℕ) (after : List (List ℕ)) → recs ≡ before ++ (rec ∷ after) → RightAfter f before rec
+EachRight f recs = (before : List (List ℕ)) (rec : List ℕ) (after : List (List ℕ)) → recs ≡ before ++ (rec ∷ after) → RightRecord f before rec
 
 -- a fault of a record, by number and position, where the kinds that may stand there are given, and what their checks are asked with:
 -- each excludes those before it

@@ -31,8 +31,8 @@ abbrev pub Present : List ℕ → Type 0
 Present bs = ¬ Blank bs
 
 -- GGMMAA, a true calendar day
-abbrev pub Date : List ℕ → Type 0
-Date bs = Digits bs × Gregorian (dayOf bs)
+abbrev pub CalendarDay : List ℕ → Type 0
+CalendarDay bs = Digits bs × Gregorian (dayOf bs)
 
 -- a digit field that says v
 abbrev pub Says : ℕ → List ℕ → Type 0
@@ -51,14 +51,14 @@ pub record Formed (k : RecordKind) (rec : List ℕ) : Type 0 where
 pub record HeaderRules (rec : List ℕ) : Type 0 where
   pub mittente : Present (field 4 8 rec)
   pub ricevente : Digits (field 9 13 rec)
-  pub created : Date (field 14 19 rec)
+  pub created : CalendarDay (field 14 19 rec)
   pub name : Present (field 20 39 rec)
   pub qualifier : Blank (field 105 111 rec) ⊎ ((field 105 105 rec ≡ text "1") × (field 106 106 rec ≡ text "$") × Digits (field 107 111 rec))
   pub currency-code : field 114 114 rec ≡ currency
 
 -- row 14 but for its number and its company code
 pub record DispositionRules (abi rec : List ℕ) : Type 0 where
-  pub payable : Date (field 23 28 rec)
+  pub payable : CalendarDay (field 23 28 rec)
   pub causale-code : field 29 33 rec ≡ causale
   pub amount : Digits (amountIn rec)
   pub sign-code : field 47 47 rec ≡ sign

@@ -11,7 +11,7 @@ use Rattle.list.specs.declared.table.ItemKind.the-variants.{Z}
 use Rattle.list.specs.declared.table.Row.the-variants.{Of, Missing}
 
 module _ (p : ItemKind → Bool) where
-  -- what is left after i decides as the whole does
+  -- what is left from i on decides as the whole does
   abbrev pub Decides : ℕ → Type 0
   Decides i = firstRow p rows ≡ firstRow p (drop i rows)
 

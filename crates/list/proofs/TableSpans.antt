@@ -88,7 +88,7 @@ span-within k i h =
     let counted : i < length (fourOf (carried k)) = rw four-count h in
     subst (λ (s : Span). Within s) (span-at k i h) (all-getD Within (fourOf (carried k)) i (1 to 0) counted (four-within k))
 
--- the spans that are left after i: this one and then the others, and none after the fourth
+-- the spans that are left from i on: this one and then the others, and none after the fourth
 pub four-next : (k : ItemKind) (i : ℕ) → i < 4 → drop i (fourOf (carried k)) ≡ spanAt (boundsOf k) i ∷ drop (i + 1) (fourOf (carried k))
 four-next k i h =
     let counted : i < length (fourOf (carried k)) = rw four-count h in

@@ -80,7 +80,7 @@ trailerPlaced copied t =
 unfoldable pub encodeTrailer : List ℕ → Totals → List ℕ
 encodeTrailer header t = fill (trailerPlaced (copiedIn header) t) blanks
 
--- the body of the header meant after an item
+-- the body of the header meant by what comes after an item: its own where it is an H
 abbrev pub headerAfter : List ℕ → Item → List ℕ
 headerAfter header it = cond (heads (recordKind it)) (it .body) header
 

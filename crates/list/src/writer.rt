@@ -92,7 +92,7 @@ fn first_record(list: &[u8]) -> [u8; 120]
 {
     let kind = kind_of(list[0]);
     let body = &list[1..1 + body_length(kind)];
-    encode_item(kind, counted(0, kind), &list[0..0], body)
+    encode_item(kind, dispositions_with(0, kind), &list[0..0], body)
 }
 
 // Each record in turn, built and judged, with the flow's header.
@@ -112,7 +112,7 @@ fn judge_records(list: &[u8], im: &[u8]) -> Answer
         let kind = kind_of(list[at]);
         let end = at + 1 + body_length(kind);
         let body = &list[at + 1..end];
-        dispositions = counted(dispositions, kind);
+        dispositions = dispositions_with(dispositions, kind);
         let rec = encode_item(kind, dispositions, header, body);
         n += 1;
         match walk.judge(&rec, n, im, company) {
@@ -138,7 +138,7 @@ fn judge_records(list: &[u8], im: &[u8]) -> Answer
 }
 
 // The dispositions up to and with an item of the kind.
-fn counted(dispositions: u64, kind: ItemKind) -> u64
+fn dispositions_with(dispositions: u64, kind: ItemKind) -> u64
     requires { ⌜ dispositions < countLimit ⌝ }
     ensures { λ r. ⌜ r ≡ dispositions + opened (recordOf kind) ⌝ }
 {
@@ -148,7 +148,7 @@ fn counted(dispositions: u64, kind: ItemKind) -> u64
     dispositions
 }
 
-// The body of the latest H after an item.
+// The body of the header meant by what comes after an item: its own where it is an H.
 fn header_after<'a>(header: &'a [u8], body: &'a [u8], kind: ItemKind) -> &'a [u8]
     ensures { λ r. ⌜ now r ≡ cond (heads (recordOf kind)) (now (body .entry)) (now (header .entry)) ⌝ }
 {
@@ -191,7 +191,7 @@ fn store_items(list: &[u8], out: &mut [u8], totals: Totals)
         let kind = kind_of(list[at]);
         let end = at + 1 + body_length(kind);
         let body = &list[at + 1..end];
-        dispositions = counted(dispositions, kind);
+        dispositions = dispositions_with(dispositions, kind);
         let rec = encode_item(kind, dispositions, header, body);
         place(out, 120 * n + 1, &rec);
         let meant = header_after(header, body, kind);

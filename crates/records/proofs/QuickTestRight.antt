@@ -1,4 +1,4 @@
--- A record that is seen to be right is right. Assumes nothing.
+-- A record that passes the quick test is right. Assumes nothing.
 use Prim.Native.Nat.{ℕ, _+_, _-_}
 use mathlib.Core.Bool.{true, false, not, and-eq-true-iff, true≢false}
 use mathlib.Core.List.{List, _++_}
@@ -34,7 +34,7 @@ present more rec kept =
     let blank : isBlank (field 11 (34 + more) rec) ≡ false = ap isBlank parts ∙ every-append isBlankByte (part 10 24 rec) (part (10 + 24) more rec) ∙ rw (not-true (isBlank (field 11 34 rec)) kept) in
     ap not blank
 
--- a kind that is seen to keep its checks opens no disposition, and does not close the flow
+-- a kind with quick checks opens no disposition, and does not close the flow
 within : (k : RecordKind) (rec : List ℕ) → quickChecks k rec ≡ true → (opens k ≡ false) × (closes k ≡ false)
 within Im rec e = absurd (true≢false (sym e))
 within R14 rec e = absurd (true≢false (sym e))
@@ -66,8 +66,8 @@ checks-hold R70 ctx rec e d n = (d, (n, (e, tt)))
 checks-hold Ef ctx rec e d n = absurd (true≢false (sym e))
 
 pub quick-test-right : QuickTestRight
-quick-test-right k digits rec seen =
-    let sized = and-eq-true-iff (eqb (length rec) 120) _ .0 seen in
+quick-test-right k digits rec passes =
+    let sized = and-eq-true-iff (eqb (length rec) 120) _ .0 passes in
     let kept = and-eq-true-iff (quickChecks k rec) _ .0 (sized .1) in
     let last = and-eq-true-iff (isEqual (field 4 10 rec) digits) (eqb (badByte rec) 0) .0 (kept .1) in
     let whole = eqb-true (length rec) 120 (sized .0) in

@@ -75,7 +75,7 @@ TrailerExact =
 abbrev pub JudgedDetermined : Type 0
 JudgedDetermined = (r s : Judged) → judgedVerdict r ≡ judgedVerdict s → r ≡ s
 
--- a record that is seen to be right is one inside a disposition, has the number handed in, and is right and asks for nothing where that is
+-- a record that passes the quick test is one inside a disposition, has the number handed in, and is right and asks for nothing where that is
 -- digits and the one due
 abbrev pub QuickTestRight : Type 0
 QuickTestRight =

@@ -1,4 +1,4 @@
--- A record that a few tests show to be right, after a right record of its disposition. Not every right record is seen to be one; `judge`
+-- A record that a few tests show to be right, after a right record of its disposition. Not every right record passes; `judgeAs`
 -- decides of the others. Assumes nothing.
 use Prim.Native.Nat.{ℕ}
 use mathlib.Core.Bool.{Bool, true, false, _&&_}

@@ -1,6 +1,6 @@
 // The rules of one M.Av. record of 120 bytes (document 01, table of checks): its type, its fields by
-// position, `judge`, which gives its first fault, and `passes_quick_test`, which sees by a few tests that most
-// records have none.
+// position, `judge`, which gives its first fault, and `passes_quick_test`, which sees by a few tests that
+// most records have none.
 //
 // A record is judged by its own bytes. What a rule needs from elsewhere in the flow, the header,
 // the company code so far and the counts so far, is handed in as slices and numbers. No

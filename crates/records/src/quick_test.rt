@@ -10,8 +10,8 @@ use crate::rules::blank;
 use crate::rules::listed;
 use crate::rules::same;
 
-// Whether the record is seen to be a right one of the kind, where `number` are 4-10 of a right record
-// before it in its disposition. Where this says no, `judge` decides. The test of every byte is the
+// Whether a few tests show the record to be a right one of the kind, where `number` are 4-10 of a right
+// record before it in its disposition. Where this says no, `judge` decides. The test of every byte is the
 // longest, and comes last.
 pub fn passes_quick_test(rec: &[u8], kind: RecordKind, number: &[u8]) -> bool
     ensures { λ r. ⌜ r ≡ passesQuickTest kind (now (number .entry)) (now (rec .entry)) ⌝ }

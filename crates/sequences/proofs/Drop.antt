@@ -1,4 +1,4 @@
--- What is left of a list after an index, as a loop that counts `i + 1` has it. Assumes nothing.
+-- What is left of a list from an index on, as a loop that counts `i + 1` has it. Assumes nothing.
 use mathlib.Core.Path.{_≡_}
 use mathlib.Core.List.{List, _∷_}
 use Prim.Native.Nat.{ℕ, suc, _+_, _<_}

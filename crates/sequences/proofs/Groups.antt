@@ -64,7 +64,7 @@ module _ {A : Type 0} (p : A → Bool) where
   pub start-next : (xs : List A) (k : ℕ) → k < length (groups p xs) → groupStart xs (suc k) ≡ groupStart xs k + length (getD (groups p xs) k [])
   start-next xs k h = rw (flatten-next (groups p xs) k h, length-append) (omega arith)
 
-  -- and no group ends after the list
+  -- and no group ends beyond the list
   pub start-within : (xs : List A) (k : ℕ) → groupStart xs k ≤ length xs
   start-within xs k =
       let whole = simp length-append at (ap length (lead-groups xs)) in

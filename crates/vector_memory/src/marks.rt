@@ -25,7 +25,7 @@ pub fn mark(out: &mut [u8], at: usize)
 }
 
 // The first index from `at` on whose byte is not its mark; the length where each is, or `at` where that
-// is after the length.
+// is above the length.
 pub fn changed(out: &[u8], at: usize) -> usize
     ensures { λ r. ⌜ r ≡ changedFrom at (drop at (now (out .entry))) ⌝ }
     ensures { λ r. ⌜ (at ≤ r) × (r ≤ max at (length (now (out .entry)))) ⌝ }

@@ -150,7 +150,7 @@ fn printable(byte: u8) -> char {
 }
 
 /// The records of a flow, the items of a list, or the whole of a field. What
-/// is left behind whole ones is the last row.
+/// is left after whole ones is the last row.
 pub fn rows(kind: Kind, bytes: &[u8]) -> Vec<&[u8]> {
     if kind != Kind::List {
         return bytes.chunks(RECORD_LEN).collect();

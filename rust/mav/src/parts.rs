@@ -2,7 +2,7 @@
 
 use std::iter::FusedIterator;
 
-use crate::answer::{Accepted, Refusal};
+use crate::answer::{foreign, Accepted, Refusal};
 use crate::fields::amount;
 use crate::flow::{read, Disposition};
 use crate::limits::RECORD_LENGTH;
@@ -83,7 +83,9 @@ impl<'a> Iterator for Dispositions<'a> {
             number: self.given + 1,
             first_record: self.first_record,
             records: part.len() as u64,
-            cents: amount(&opening[33..46]).ok()?,
+            cents: amount(&opening[33..46]).unwrap_or_else(|refusal| {
+                foreign("refusal of an amount that was accepted,", refusal.number())
+            }),
             part: part.as_flattened(),
         };
         self.given += 1;

@@ -1,4 +1,4 @@
--- `vector_lines::decimal` meets its contract. The number so far and what is left after `at` decide as the whole does. Assumes nothing.
+-- `vector_lines::decimal` meets its contract. The number so far and what is left from `at` on decide as the whole does. Assumes nothing.
 use Prim.Native.Nat.{_-_, _≤_}
 use mathlib.Core.Path.{_≡_, refl, sym, _∙_}
 use native.Mathlib.Omega.{arith}

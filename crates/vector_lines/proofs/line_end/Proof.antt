@@ -1,4 +1,4 @@
--- `vector_lines::line_end` meets its contract. What is left after `end` decides as the whole does. Assumes nothing.
+-- `vector_lines::line_end` meets its contract. What is left from `end` on decides as the whole does. Assumes nothing.
 use Prim.Native.Nat.{_-_, _≤_}
 use mathlib.Core.Path.{_≡_, refl, sym, _∙_}
 use native.Mathlib.Omega.{arith}

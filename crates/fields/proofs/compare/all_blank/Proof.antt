@@ -1,4 +1,4 @@
--- `fields::all_blank` meets its contract. What is left after i decides as the whole does. Assumes nothing.
+-- `fields::all_blank` meets its contract. What is left from i on decides as the whole does. Assumes nothing.
 use Prim.Native.Nat.{_-_, _≤_}
 use mathlib.Core.Path.{_≡_, refl, sym, _∙_}
 use native.Mathlib.Omega.{arith}

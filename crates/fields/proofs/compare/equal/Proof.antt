@@ -1,4 +1,4 @@
--- `fields::equal` meets its contract. What is left after i decides as the whole does. Assumes nothing.
+-- `fields::equal` meets its contract. What is left from i on decides as the whole does. Assumes nothing.
 use Prim.Native.Nat.{_+_, _-_, _≤_}
 use mathlib.Core.Path.{_≡_, refl, sym, _∙_, ap}
 use mathlib.Core.Bool.{Bool, true, false, _&&_}

@@ -1,4 +1,4 @@
--- `fields::read_digits` meets its contract. What is left after i, read after value, decides as the whole field does. Assumes nothing.
+-- `fields::read_digits` meets its contract. What is left from i on, read after value, decides as the whole field does. Assumes nothing.
 use Prim.Native.Nat.{ℕ, _+_, _*_, _-_, _^_, _≤_, _<_}
 use mathlib.Core.Path.{_≡_, sym, _∙_}
 use mathlib.Core.Bool.{cond}

@@ -1,4 +1,4 @@
--- `flow::pass_over` meets its contract: after each record that was seen, what is left decides as it did. Assumes nothing.
+-- `flow::pass_over` meets its contract: after each record that was passed over, what is left decides as it did. Assumes nothing.
 use Prim.Native.Nat.{ℕ, _-_, _/_}
 use mathlib.Core.Bool.{true}
 use mathlib.Core.List.{List}
@@ -31,11 +31,11 @@ abbrev flow-of : tie.At-loop Inv-loop μ-loop → List ℕ
 flow-of at = at .before .before .args .flow .now
 
 -- what is known of a record that was passed over
-seen-of :
+passed-test :
     (c : tie.Else1 Inv-loop μ-loop) → let at = c .before .before .before .before .before .before .before .before .before .before .before in let i = at .loop .i in
     let kind = c .before .before .before .before .kind .given .0 .0 in
     Inside (at .loop .here .place .due) (recordAt i (flow-of at)) (Of kind) × (passesQuickTest kind (field 4 10 (recordAt (i - 1) (flow-of at))) (recordAt i (flow-of at)) ≡ true)
-seen-of c =
+passed-test c =
     let found = c .before .before .before .before in
     let asked = found .before .before in
     let at = asked .before .before .before .before .before in
@@ -52,14 +52,14 @@ pass-requires c κs =
     let at = c .before .before .before .before .before .before .before .before .before .before .before in
     let i = at .loop .i in
     let kind = c .before .before .before .before .kind .given .0 .0 in
-    (quick-test-right kind (field 4 10 (recordAt (i - 1) (flow-of at))) (recordAt i (flow-of at)) (seen-of c .1) .1, (refl, counts-stay (at .loop .inv)))
+    (quick-test-right kind (field 4 10 (recordAt (i - 1) (flow-of at))) (recordAt i (flow-of at)) (passed-test c .1) .1, (refl, counts-stay (at .loop .inv)))
 
 loop-again : tie.Need-loop-again Inv-loop μ-loop
 loop-again c =
     let within = c .before .before .before .before .before .before .before .before .before .before .before in
     let at = within .before in
-    let seen = seen-of (c .before) in
-    rw (c .pass .ensures, add-one) (pass-next (flow-of at) (at .loop .i) (at .loop .here) _ (at .loop .inv) (within .loop-test .taken) (seen .0) (seen .1))
+    let passes = passed-test (c .before) in
+    rw (c .pass .ensures, add-one) (pass-next (flow-of at) (at .loop .i) (at .loop .here) _ (at .loop .inv) (within .loop-test .taken) (passes .0) (passes .1))
 
 returns : tie.Need-returns Inv-loop μ-loop
 returns c = c .before .loop .inv .passed

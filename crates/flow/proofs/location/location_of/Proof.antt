@@ -1,4 +1,4 @@
--- `flow::locate` meets its contract. Assumes nothing.
+-- `flow::location_of` meets its contract. Assumes nothing.
 use Prim.Native.Nat.{ℕ, suc, _+_, _-_}
 use mathlib.Core.List.{List, []}
 use mathlib.Core.Path.{_≡_, sym, _∙_, ap}

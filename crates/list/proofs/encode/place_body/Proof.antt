@@ -1,4 +1,4 @@
--- `list::place_body` meets its contract. The spans that are left after i, with the body that is left, make the same of the record as all of
+-- `list::place_body` meets its contract. The spans that are left from i on, with the body that is left, make the same of the record as all of
 -- them did at first. Assumes nothing.
 use Prim.Native.Nat.{ℕ, _+_, _-_, _*_, _≤_}
 use mathlib.Core.List.{List, [], _∷_}

@@ -1,4 +1,4 @@
--- `list::row_in` meets its contract. What is left after i decides as the whole does. Assumes nothing.
+-- `list::row_in` meets its contract. What is left from i on decides as the whole does. Assumes nothing.
 use Prim.Native.Nat.{ℕ, _-_}
 use mathlib.Core.Bool.{Bool, true, false}
 use mathlib.Core.List.{List}

@@ -38,7 +38,7 @@ returns c =
     let list = first .before .before .before .before .args .list .now in
     let kind = first .before .kind-of .result in
     let width : 1 + first .body-length .result - 1 ≡ bodyLength kind = omega (arith, first .body-length .ensures) in
-    c .encode-item .ensures ∙ (λ i. encodeItem (c .before .before .counted .ensures i) [] (item kind (part 1 (width i) list))) ∙ sym (first-record list kind (next first))
+    c .encode-item .ensures ∙ (λ i. encodeItem (c .before .before .dispositions-with .ensures i) [] (item kind (part 1 (width i) list))) ∙ sym (first-record list kind (next first))
 
 pub first-record-spec : {M : Type 1} → statement M
 first-record-spec =

@@ -74,8 +74,8 @@ few-so a =
     let j = a .loop .inv .2 in
     (j .few, omega (arith, a .loop .inv .1, j .count))
 
-counted-requires : tie.Need-counted-requires Inv-loop μ-loop
-counted-requires c κs = omega (arith, few-so (c .before .before .before .before .before) .0, few-so (c .before .before .before .before .before) .1)
+dispositions-with-requires : tie.Need-dispositions-with-requires Inv-loop μ-loop
+dispositions-with-requires c κs = omega (arith, few-so (c .before .before .before .before .before) .0, few-so (c .before .before .before .before .before) .1)
 
 encode-item-requires : tie.Need-encode-item-requires Inv-loop μ-loop
 encode-item-requires c κs = turn-so (c .before .before) .body-sized
@@ -87,7 +87,7 @@ add-n c = omega (arith, few-so (c .before .before .before .before .before .befor
 built : (c : tie.After-encode-item Inv-loop μ-loop) → let l = c .before .before .before .before .before .before .before in let k = c .before .before .before .before .kind-of .result in c .encode-item .result ≡ encodeItem (l .loop .dispositions + opened (recordOf k)) (l .loop .header .now) (itemAt (list-of l) (l .loop .at) k)
 built c =
     let l = c .before .before .before .before .before .before .before in
-    turn-record (turn-so (c .before .before .before)) (l .loop .dispositions) (c .before .counted .result) (l .loop .header .now) (c .encode-item .result) (c .before .counted .ensures) (c .encode-item .ensures)
+    turn-record (turn-so (c .before .before .before)) (l .loop .dispositions) (c .before .dispositions-with .result) (l .loop .header .now) (c .encode-item .result) (c .before .dispositions-with .ensures) (c .encode-item .ensures)
 
 found :
     (c : tie.After-judge Inv-loop μ-loop) → let l = c .before .before .before .before .before .before .before .before .before in let k = c .before .before .before .before .before .before .kind-of .result in
@@ -118,7 +118,7 @@ loop-again c =
     let told = found (c .before .before .before .before .before .before .before .before) ∙ ap judgedVerdict (c .before .before .before .before .before .before .right .given .1) in
     let on = judging-on (l .loop .inv .2) (c .before .before .before .before .before .before .before .before .before .before .before .before .before .before .before .before .loop-test .taken) k (b .before .kind-of .ensures) _ _ told in
     let end : i + 1 + bodyLength k ≡ i + 1 + b .body-length .result = omega (arith, t .size-so) in
-    let number : l .loop .dispositions + opened (recordOf k) ≡ c .before .before .before .before .before .before .before .before .before .before .before .counted .result = sym (c .before .before .before .before .before .before .before .before .before .before .before .counted .ensures) in
+    let number : l .loop .dispositions + opened (recordOf k) ≡ c .before .before .before .before .before .before .before .before .before .before .before .dispositions-with .result = sym (c .before .before .before .before .before .before .before .before .before .before .before .dispositions-with .ensures) in
     let meant : cond (heads (recordOf k)) (itemAt list i k .body) (l .loop .header .now) ≡ c .header-after .result .now = sym (c .header-after .ensures ∙ ap (λ (body : List ℕ). cond (heads (recordOf k)) body (l .loop .header .now)) (t .body-so)) in
     let company : latestOf (recordOf k) (l .loop .company .now) (carriedAt D (92 to 96) (itemAt list i k .body)) ≡ c .before .before .latest-company .result .now =
     sym (c .before .before .latest-company .ensures .0 ∙ ap₂ (λ (m : RecordKind) (code : List ℕ). latestOf m (l .loop .company .now) code) (c .before .before .before .record-of .ensures) (c .before .before .before .before .field .ensures .0 ∙ ap (field 37 41) (t .body-so))) in
@@ -153,7 +153,7 @@ judge-records-spec =
     sub-body
     part-body-start
     part-body-end
-    counted-requires
+    dispositions-with-requires
     encode-item-requires
     add-n
     (search needs)

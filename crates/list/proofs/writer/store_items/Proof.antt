@@ -69,8 +69,8 @@ few-so a =
     let s = a .loop .inv .3 in
     (s .few, omega (arith, a .loop .inv .1, s .count))
 
-counted-requires : tie.Need-counted-requires Inv-loop μ-loop
-counted-requires c κs = omega (arith, few-so (c .before .before .before .before .before) .0, few-so (c .before .before .before .before .before) .1)
+dispositions-with-requires : tie.Need-dispositions-with-requires Inv-loop μ-loop
+dispositions-with-requires c κs = omega (arith, few-so (c .before .before .before .before .before) .0, few-so (c .before .before .before .before .before) .1)
 
 encode-item-requires : tie.Need-encode-item-requires Inv-loop μ-loop
 encode-item-requires c κs = turn-so (c .before .before) .body-sized
@@ -88,7 +88,7 @@ record-of a k = encodeItem (a .loop .dispositions + opened (recordOf k)) (a .loo
 built : (c : tie.After-encode-item Inv-loop μ-loop) → c .encode-item .result ≡ record-of (c .before .before .before .before .before .before .before) (c .before .before .before .before .kind-of .result)
 built c =
     let l = c .before .before .before .before .before .before .before in
-    turn-record (turn-so (c .before .before .before)) (l .loop .dispositions) (c .before .counted .result) (l .loop .header .now) (c .encode-item .result) (c .before .counted .ensures) (c .encode-item .ensures)
+    turn-record (turn-so (c .before .before .before)) (l .loop .dispositions) (c .before .dispositions-with .result) (l .loop .header .now) (c .encode-item .result) (c .before .dispositions-with .ensures) (c .encode-item .ensures)
 
 sized : (c : tie.After-encode-item Inv-loop μ-loop) → length (c .encode-item .result) ≡ 120
 sized c =
@@ -121,7 +121,7 @@ loop-again c =
     let t = turn-so b in
     let k = b .before .kind-of .result in
     let end : i + 1 + bodyLength k ≡ i + 1 + b .body-length .result = omega (arith, t .size-so) in
-    let number : l .loop .dispositions + opened (recordOf k) ≡ c .before .before .before .before .before .before .before .counted .result = sym (c .before .before .before .before .before .before .before .counted .ensures) in
+    let number : l .loop .dispositions + opened (recordOf k) ≡ c .before .before .before .before .before .before .before .dispositions-with .result = sym (c .before .before .before .before .before .before .before .dispositions-with .ensures) in
     let meant : cond (heads (recordOf k)) (itemAt list i k .body) (l .loop .header .now) ≡ c .header-after .result .now = sym (c .header-after .ensures ∙ ap (λ (body : List ℕ). cond (heads (recordOf k)) body (l .loop .header .now)) (t .body-so)) in
     let index : 120 * l .loop .n + 1 - 1 ≡ 120 * l .loop .n = omega arith in
     let stored : c .before .before .before .place .last .0 ≡ put (120 * l .loop .n) (record-of l k) (l .loop .out) = c .before .before .before .place .ensures ∙ (λ j. put (index j) (built (c .before .before .before .before .before .before) j) (l .loop .out)) in
@@ -183,7 +183,7 @@ store-items-spec =
     sub-body
     part-body-start
     part-body-end
-    counted-requires
+    dispositions-with-requires
     encode-item-requires
     mul-place
     add-place

@@ -1,4 +1,4 @@
--- `records::first_bad` meets its contract. What is left after i decides as the whole does. Assumes nothing.
+-- `records::first_bad` meets its contract. What is left from i on decides as the whole does. Assumes nothing.
 use Prim.Native.Nat.{ℕ, _+_, _-_, _≤_}
 use mathlib.Core.Bool.{true, false, cond}
 use mathlib.Core.Path.{_≡_, refl, sym, _∙_}

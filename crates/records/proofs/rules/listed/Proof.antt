@@ -1,4 +1,4 @@
--- `records::listed` meets its contract. What is left after i decides as the whole does. Assumes nothing.
+-- `records::listed` meets its contract. What is left from i on decides as the whole does. Assumes nothing.
 use Prim.Native.Nat.{ℕ, _+_, _-_, _≤_}
 use mathlib.Core.Bool.{_||_}
 use mathlib.Core.Path.{_≡_, refl, sym, _∙_}

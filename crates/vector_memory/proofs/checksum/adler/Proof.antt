@@ -1,4 +1,4 @@
--- `vector_memory::checksum::adler` meets its contract: both sums stay below the modulus, and with what is left after i they decide as the whole does. Assumes nothing.
+-- `vector_memory::checksum::adler` meets its contract: both sums stay below the modulus, and with what is left from i on they decide as the whole does. Assumes nothing.
 use Prim.Native.Nat.{_-_, _≤_, _<_}
 use mathlib.Core.Path.{_≡_, refl, sym, _∙_}
 use native.Mathlib.Omega.{arith}

@@ -1,4 +1,4 @@
--- `vector_memory::marks::changed` meets its contract: what is left after i decides as the whole does. Assumes nothing.
+-- `vector_memory::marks::changed` meets its contract: what is left from i on decides as the whole does. Assumes nothing.
 use Prim.Native.Nat.{_-_, _≤_, max}
 use mathlib.Core.Path.{_≡_, refl, sym, _∙_}
 use native.Mathlib.Omega.{arith}

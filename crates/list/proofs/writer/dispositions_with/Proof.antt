@@ -1,12 +1,12 @@
--- `list::counted` meets its contract. Assumes nothing.
+-- `list::dispositions_with` meets its contract. Assumes nothing.
 use mathlib.Core.Bool.{true, false}
 use mathlib.Core.Path.{_≡_, sym, _∙_, ap}
 use native.Mathlib.Omega.{arith}
 use borrow.Author.Needs.{needs}
 use Rattle.records.specs.Kinds.{opens}
 use Rattle.list.specs.Table.{recordOf}
-use Rattle.list.proofs.writer.counted.Statement.{statement}
-use Rattle.list.proofs.writer.counted.Tie as tie
+use Rattle.list.proofs.writer.dispositions_with.Statement.{statement}
+use Rattle.list.proofs.writer.dispositions_with.Tie as tie
 
 returns : tie.Need-returns
 returns c =
@@ -18,5 +18,5 @@ returns-2 c =
     let none : opens (recordOf (c .before .before .before .args .kind)) ≡ false = sym (c .before .opens .ensures ∙ ap opens (c .before .before .record-of .ensures)) ∙ c .if1 .left in
     rw none (omega arith)
 
-pub counted-spec : {M : Type 1} → statement M
-counted-spec = tie.close (tie.spec (search needs) (search needs) (search needs) returns returns-2)
+pub dispositions-with-spec : {M : Type 1} → statement M
+dispositions-with-spec = tie.close (tie.spec (search needs) (search needs) (search needs) returns returns-2)
