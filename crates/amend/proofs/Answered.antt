@@ -19,7 +19,7 @@ use Rattle.flow.specs.declared.answer.Totals.{Totals}
 use Rattle.flow.specs.declared.location.Location.{Location}
 use Rattle.flow.specs.declared.location.WithTotals.{WithTotals}
 use Rattle.flow.proofs.Accepted.{accepted-not-refused, accepted-same, refused-same}
-use Rattle.flow.proofs.Dispositions.{find-refused, find-so, found-stands}
+use Rattle.flow.proofs.Dispositions.{find-refused, find-so, found-has}
 use Rattle.flow.proofs.FindWithTotals.{read-found, not-found}
 use Rattle.flow.proofs.FindWithTotals.{not-read as unread-so}
 use Rattle.grammar.specs.Grammar.{dispositionAmount, Grammar}
@@ -27,6 +27,7 @@ use Rattle.amend.specs.Amended.{Amended, unchanged, whereFound}
 use Rattle.amend.specs.Change.{totalsChanged, changed, changeAt, change}
 use Rattle.amend.specs.Laws.{ChangeFault, not-read, no-disposition, amount-too-large, total-too-large, ChangeRefused, WithdrawFault, only-one, WithdrawRefused, Untouched, RefusedUntouched}
 use Rattle.amend.specs.Withdraw.{totalsLeft, recordsLeft, withdrawn, withdrawAt, withdraw}
+use Rattle.amend.proofs.Unchanged.{change-found, withdraw-found}
 use Rattle.amend.proofs.Neighbours.{Neighbours, restOf, withdrawn-left, changedOf, changed-left}
 use Rattle.amend.proofs.PartsLeft.{leftWith, rest-count, rest-cents, rest-records, rest-right, changed-count, changed-cents, changed-records, changed-right}
 
@@ -34,7 +35,7 @@ use Rattle.amend.proofs.PartsLeft.{leftWith, rest-count, rest-cents, re
 pub data FindCase (f : List ℕ) (k : ℕ) : Verdict WithTotals → Type 0 where
   unread : {x : Refusal} → judge f ≡ refused x → FindCase f k (refused x)
   none : {t : Totals} → judge f ≡ accepted t → ¬ IsNumber k (t .dispositions) → FindCase f k (refused (ofCall 15))
-  stands : {v : WithTotals} → judge f ≡ accepted (v .totals) → find f k ≡ accepted (v .location) → IsNumber k (v .totals .dispositions) → FindCase f k (accepted v)
+  is-there : {v : WithTotals} → judge f ≡ accepted (v .totals) → find f k ≡ accepted (v .location) → IsNumber k (v .totals .dispositions) → FindCase f k (accepted v)
 
 pub find-case : (f : List ℕ) (k : ℕ) → FindCase f k (findWithTotals f k)
 find-case f k = by (judge f) (find f k) refl refl
@@ -42,9 +43,9 @@ find-case f k = by (judge f) (find f k) refl refl
     by : (v : Verdict Totals) (l : Verdict Location) → judge f ≡ v → find f k ≡ l → FindCase f k (findWithTotals f k)
     by (refused x) l wrong found = subst (FindCase f k) (sym (unread-so f k wrong)) (unread wrong)
     by (accepted t) (accepted place) read found =
-        let s = found-stands f k found .0 in
+        let s = found-has f k found .0 in
         let within : k ≤ t .dispositions = subst (λ (u : Totals). k ≤ u .dispositions) (accepted-same (sym (s .read) ∙ read)) (s .within) in
-        subst (FindCase f k) (sym (read-found f k read found)) (stands read found (s .some, within))
+        subst (FindCase f k) (sym (read-found f k read found)) (is-there read found (s .some, within))
     by (accepted t) (refused x) read found = told (find-refused f k x .0 found)
       where
         told : (judge f ≡ refused x) ⊎ ((t : Totals) × (judge f ≡ accepted t) × ¬ IsNumber k (t .dispositions) × (x ≡ ofCall 15)) → FindCase f k (findWithTotals f k)
@@ -81,7 +82,7 @@ change-case f k new = by (findWithTotals f k) (find-case f k)
     by : (l : Verdict WithTotals) → FindCase f k l → ChangeCase f k new (whereFound l (λ (v : WithTotals). changeAt v new f) f)
     by l (unread wrong) = refuses (not-read _ wrong)
     by l (none read absent) = refuses (no-disposition _ read absent)
-    by l (stands read found numbers) = made read found numbers
+    by l (is-there read found numbers) = made read found numbers
 
 -- a withdrawal likewise
 abbrev pub withdrawnBy : ℕ → WithTotals → List ℕ → Amended
@@ -109,7 +110,7 @@ withdraw-case f k = by (findWithTotals f k) (find-case f k)
     by : (l : Verdict WithTotals) → FindCase f k l → WithdrawCase f k (whereFound l (λ (v : WithTotals). withdrawAt k v f) f)
     by l (unread wrong) = refuses (not-read _ wrong)
     by l (none read absent) = refuses (no-disposition _ read absent)
-    by l (stands read found numbers) = made read found numbers
+    by l (is-there read found numbers) = made read found numbers
 
 -- what is found in a flow that has no such disposition, and of one that has
 module _ (f : List ℕ) (k : ℕ) {t : Totals} (read : judge f ≡ accepted t) where
@@ -133,7 +134,7 @@ change-refused f k new x = (said (change f k new) (change-case f k new), tested)
     said a (changes found small fits) same = absurd (accepted-not-refused (sym same))
 
     answers : {l : Verdict WithTotals} → findWithTotals f k ≡ l → change f k new .answer ≡ whereFound l (λ (v : WithTotals). changeAt v new f) f .answer
-    answers = ap (λ (l : Verdict WithTotals). whereFound l (λ (v : WithTotals). changeAt v new f) f .answer)
+    answers e = ap (λ (a : Amended). a .answer) (change-found f k e new)
 
     tested : {x : Refusal} → ChangeFault f k new x → change f k new .answer ≡ refused x
     tested (not-read x wrong) = answers (unread-so f k wrong)
@@ -156,7 +157,7 @@ withdraw-refused f k x = (said (withdraw f k) (withdraw-case f k), tested)
     said a (withdraws found some) same = absurd (accepted-not-refused (sym same))
 
     answers : {l : Verdict WithTotals} → findWithTotals f k ≡ l → withdraw f k .answer ≡ whereFound l (λ (v : WithTotals). withdrawAt k v f) f .answer
-    answers = ap (λ (l : Verdict WithTotals). whereFound l (λ (v : WithTotals). withdrawAt k v f) f .answer)
+    answers e = ap (λ (a : Amended). a .answer) (withdraw-found f k e)
 
     tested : {x : Refusal} → WithdrawFault f k x → withdraw f k .answer ≡ refused x
     tested (not-read x wrong) = answers (unread-so f k wrong)

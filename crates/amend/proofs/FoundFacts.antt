@@ -10,7 +10,7 @@ use Rattle.flow.specs.Judge.{judge}
 use Rattle.flow.specs.Verdict.{accepted}
 use Rattle.flow.specs.declared.location.Location.{Location}
 use Rattle.flow.specs.declared.location.WithTotals.{WithTotals}
-use Rattle.flow.proofs.Dispositions.{dispositions-counted, found-stands, found-within}
+use Rattle.flow.proofs.Dispositions.{dispositions-counted, found-has, found-within}
 use Rattle.flow.proofs.FindWithTotals.{find-reads}
 use Rattle.amend.proofs.Neighbours.{neighbours-so, size-so}
 use Rattle.amend.proofs.PartsLeft.{below, count-split, cents-split}
@@ -35,7 +35,7 @@ pub record FoundFacts (f : List ℕ) (k : ℕ) (v : WithTotals) : Type 0 where
 pub found-facts : (f : List ℕ) (k : ℕ) {v : WithTotals} → findWithTotals f k ≡ accepted v → FoundFacts f k v
 found-facts f k {v} e =
     let both = find-reads f k e in
-    let told = found-stands f k (both .1) .1 in
+    let told = found-has f k (both .1) .1 in
     let bounds = found-within f k (both .1) in
     let w = neighbours-so f k e in
     let below = below f (v .totals) (w .grammar) (w .pre) (w .this) (w .post) (w .split) in

@@ -25,13 +25,13 @@ use Rattle.flow.specs.declared.location.Location.{Location}
 use Rattle.flow.specs.declared.location.WithTotals.{WithTotals}
 use Rattle.flow.proofs.Accepted.{accepted-same, accepted-exact}
 use Rattle.flow.proofs.Cut.{Whole, cut-count, cut-at, flatten-length}
-use Rattle.flow.proofs.Dispositions.{found-stands}
+use Rattle.flow.proofs.Dispositions.{found-has}
 use Rattle.flow.proofs.FindWithTotals.{find-reads}
 use Rattle.grammar.specs.Grammar.{Typed, Parts, recordsIn, dispositionAmount, bytesOf, dispositionCount, RightDisposition, Grammar}
 use Rattle.grammar.specs.Rules.{Says}
 use Rattle.grammar.proofs.Dispositions.{Opened, opened-by, opened-so}
 use Rattle.grammar.proofs.Grammar.{grammar-exact, grammar-records, grammar-whole}
-use Rattle.grammar.proofs.Parts.{between, dispositions-exact, stands-so}
+use Rattle.grammar.proofs.Parts.{between, dispositions-exact, find-known}
 use Rattle.grammar.proofs.Rules.{says-digits}
 use Rattle.amend.specs.Withdraw.{totalsLeft, recounted, without, numberedFrom, recordsLeft}
 use Rattle.amend.specs.Change.{totalsChanged}
@@ -58,7 +58,7 @@ neighbours-so f k {v} e =
     let t = v .totals in
     let g = grammar-exact f t .0 (both .0) in
     let ds = g .parts .dispositions in
-    let s = found-stands f k (both .1) .0 in
+    let s = found-has f k (both .1) .0 in
     let some = s .some in
     let within = s .within in
     let counted : dispositionCount (g .parts) ≡ t .dispositions = ap (λ (u : Totals). u .dispositions) (g .totals) in
@@ -72,7 +72,7 @@ neighbours-so f k {v} e =
     let mapped : length (map recordsIn (take (k - 1) ds)) ≡ k - 1 = length-map (take (k - 1) ds) recordsIn ∙ length-pre in
     let front : take (k - 1) (dispositionsIn f) ≡ map recordsIn (take (k - 1) ds) = ap (take (k - 1)) found ∙ take-at (map recordsIn (take (k - 1) ds)) _ (k - 1) mapped in
     let own : getD (dispositionsIn f) (k - 1) [] ≡ recordsIn (getD ds (k - 1) []) = ap (λ (l : List (List (List ℕ))). getD l (k - 1) []) exact ∙ List·getD-map recordsIn ds (k - 1) [] in
-    let told = accepted-same (sym (both .1) ∙ ap (find f) (sym on) ∙ stands-so f t (both .0) (k - 1) (omega arith)) in
+    let told = accepted-same (sym (both .1) ∙ ap (find f) (sym on) ∙ find-known f t (both .0) (k - 1) (omega arith)) in
     record {
       grammar = g;
       pre = take (k - 1) ds;

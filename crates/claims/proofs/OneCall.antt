@@ -30,7 +30,7 @@ use Rattle.amend.specs.Change.{totalsChanged, change}
 use Rattle.amend.specs.Laws.{ChangeFault, not-read, no-disposition, amount-too-large, total-too-large, WithdrawFault, only-one}
 use Rattle.amend.specs.Withdraw.{totalsLeft, withdraw}
 use Rattle.amend.proofs.Neighbours.{Neighbours, neighbours-so, restOf, changedOf}
-use Rattle.amend.proofs.Answered.{changedBy, ChangeCase, change-case, changes, withdrawnBy, WithdrawCase, withdraw-case, withdraws, refuses, changed-grammar, withdrawn-grammar, refused-untouched, find-case, FindCase, stands, unread, none}
+use Rattle.amend.proofs.Answered.{changedBy, ChangeCase, change-case, changes, withdrawnBy, WithdrawCase, withdraw-case, withdraws, refuses, changed-grammar, withdrawn-grammar, refused-untouched, find-case, FindCase, is-there, unread, none}
 use Rattle.amend.proofs.LeavesAndTouches.{change-touches, withdraw-touches, changedFlow, changed-read, changed-size, changed-whole, withdrawnFlow, withdrawn-read, withdrawn-length, withdrawn-size, withdrawn-front}
 use Rattle.amend.proofs.PartsLeft.{typedFrom, retold, here, after, changed-cents, changed-numbered}
 use Rattle.claims.specs.Demand3.{TouchesOnly, numberOf, Amends, Touched}
@@ -123,7 +123,7 @@ module _ (f : List ℕ) (t : Totals) (read : judge f ≡ accepted t) where
       go : (l : Verdict WithTotals) → FindCase f k l → l ≡ accepted v → IsNumber k (t .dispositions)
       go l (unread wrong) e = absurd (accepted-not-refused e)
       go l (none other absent) e = absurd (accepted-not-refused e)
-      go l (stands other place numbers) e = numbers-same k other .0 numbers
+      go l (is-there other place numbers) e = numbers-same k other .0 numbers
 
   -- another amount on the ledger, and in the flow
   module _ (k new : ℕ) (v : WithTotals) (found : findWithTotals f k ≡ accepted v) (small : new ≤ mostAmount) where

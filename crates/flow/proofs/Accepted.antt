@@ -46,11 +46,11 @@ refused-same e = cc
 
 -- after the last record of an accepted flow nothing is due, and the answer is the state's
 pub ended-so : (w : Walk) (i : ℕ) {t : Totals} → ended w i ≡ accepted t → (isDue (permitted (w .place .due)) ≡ false) × (walkTotals w i ≡ t)
-ended-so w i {t} = walkFrom (isDue (permitted (w .place .due)))
+ended-so w i {t} = go (isDue (permitted (w .place .due)))
   where
-    walkFrom : (b : Bool) → cond b (refused (refusal 4 (suc i) 0)) (accepted (walkTotals w i)) ≡ accepted t → (b ≡ false) × (walkTotals w i ≡ t)
-    walkFrom true e = absurd (accepted-not-refused e)
-    walkFrom false e = (refl, accepted-same e)
+    go : (b : Bool) → cond b (refused (refusal 4 (suc i) 0)) (accepted (walkTotals w i)) ≡ accepted t → (b ≡ false) × (walkTotals w i ≡ t)
+    go true e = absurd (accepted-not-refused e)
+    go false e = (refl, accepted-same e)
 
 -- what a right record adds to the counts, by its type alone
 adds :

@@ -218,8 +218,8 @@ module _ (f : List ℕ) (k : ℕ) (s : HasDisposition f k) where
       let one : k + 1 - 1 ≡ suc (k - 1) = omega arith in
       rw one (omega (arith, start-next isOpening (untilTrailer f) (k - 1) counted))
 
-  pub disposition-stands : Disposition f (startOf (dispositionsIn f) k) (getD (dispositionsIn f) (k - 1) [])
-  disposition-stands =
+  pub disposition-at : Disposition f (startOf (dispositionsIn f) k) (getD (dispositionsIn f) (k - 1) [])
+  disposition-at =
       let at = startOf (dispositionsIn f) k in
       let records = getD (dispositionsIn f) (k - 1) [] in
       let group : Group isOpening (untilTrailer f) [] (k - 1) at = subst (Group isOpening (untilTrailer f) [] (k - 1)) starts (group-at isOpening (untilTrailer f) [] (k - 1) counted) in
@@ -238,8 +238,8 @@ module _ (f : List ℕ) (k : ℕ) (s : HasDisposition f k) where
       }
 
 -- a number from 1 up to the count stands in the flow
-pub stands : (f : List ℕ) (k : ℕ) {t : Totals} → judge f ≡ accepted t → (leb 1 k && leb k (t .dispositions)) ≡ true → HasDisposition f k
-stands f k {t} e test =
+pub has-disposition : (f : List ℕ) (k : ℕ) {t : Totals} → judge f ≡ accepted t → (leb 1 k && leb k (t .dispositions)) ≡ true → HasDisposition f k
+has-disposition f k {t} e test =
     let both = and-eq-true-iff (leb 1 k) (leb k (t .dispositions)) .0 test in
     record { totals = t; read = e; some = leb-true 1 k (both .0); within = leb-true k (t .dispositions) (both .1) }
 
@@ -259,7 +259,7 @@ unfolding find
 asked-so f k = by (judge f) refl
   where
     test : {t : Totals} → judge f ≡ accepted t → (b : Bool) → (leb 1 k && leb k (t .dispositions)) ≡ b → Asked f k (cond b (accepted (locationOf (dispositionsIn f) k)) (refused (ofCall 15)))
-    test e true holds = there (stands f k e holds)
+    test e true holds = there (has-disposition f k e holds)
     test {t} e false fails = not-there e (λ h. true≢false (sym (and-eq-true-iff (leb 1 k) (leb k (t .dispositions)) .1 (le-leb 1 k (h .0), le-leb k (t .dispositions) (h .1))) ∙ fails))
 
     by : (v : Verdict Totals) → judge f ≡ v → Asked f k (andThen v (λ (t : Totals). cond (leb 1 k && leb k (t .dispositions)) (accepted (locationOf (dispositionsIn f) k)) (refused (ofCall 15))))
@@ -292,19 +292,19 @@ found-determined (Refused x) (At s) e = absurd (accepted-not-refused e)
 found-determined (Refused x) (Refused y) e = ap Refused (refused-same e)
 
 -- what was found stands where it was found
-pub found-stands : (f : List ℕ) (k : ℕ) {s : Location} → find f k ≡ accepted s → HasDisposition f k × (s ≡ locationOf (dispositionsIn f) k)
-found-stands f k {s} e = walkFrom (find f k) e (asked-so f k)
+pub found-has : (f : List ℕ) (k : ℕ) {s : Location} → find f k ≡ accepted s → HasDisposition f k × (s ≡ locationOf (dispositionsIn f) k)
+found-has f k {s} e = go (find f k) e (asked-so f k)
   where
-    walkFrom : (l : Verdict Location) → l ≡ accepted s → Asked f k l → HasDisposition f k × (s ≡ locationOf (dispositionsIn f) k)
-    walkFrom l e (not-read y) = absurd (accepted-not-refused e)
-    walkFrom l e (not-there y none) = absurd (accepted-not-refused e)
-    walkFrom l e (there s) = (s, accepted-same (sym e))
+    go : (l : Verdict Location) → l ≡ accepted s → Asked f k l → HasDisposition f k × (s ≡ locationOf (dispositionsIn f) k)
+    go l e (not-read y) = absurd (accepted-not-refused e)
+    go l e (not-there y none) = absurd (accepted-not-refused e)
+    go l e (there s) = (s, accepted-same (sym e))
 
 -- and within the flow, before the trailer
 pub found-within : (f : List ℕ) (k : ℕ) {s : Location} → find f k ≡ accepted s → (1 ≤ s .first) × (120 * (s .first - 1 + s .records) + 120 ≤ length f)
 found-within f k e =
-    let found = found-stands f k e in
-    let within = disposition-stands f k (found .0) .within in
+    let found = found-has f k e in
+    let within = disposition-at f k (found .0) .within in
     rw (found .1) (omega arith, omega arith)
 
 pub part-placed : PartPlaced

@@ -45,7 +45,7 @@ startOf ds k = suc (length (flatten (take (k - 1) ds)))
 abbrev pub IsNumber : ℕ → ℕ → Type 0
 IsNumber k d = (1 ≤ k) × (k ≤ d)
 
--- the k-th of them
+-- where the k-th of them is
 abbrev pub locationOf : List (List (List ℕ)) → ℕ → Location
 locationOf ds k =
     let d = getD ds (k - 1) [] in

@@ -101,11 +101,11 @@ fault-found f x = by-length (isLength (length f)) refl
 
 -- from the fault to the refusal
 due-refused : (w : Walk) (n : ℕ) → ¬ (isDue (permitted (w .place .due)) ≡ false) → ended w n ≡ refused (refusal 4 (suc n) 0)
-due-refused w n due = walkFrom (isDue (permitted (w .place .due))) refl
+due-refused w n due = go (isDue (permitted (w .place .due))) refl
   where
-    walkFrom : (b : Bool) → isDue (permitted (w .place .due)) ≡ b → cond b (refused (refusal 4 (suc n) 0)) (accepted (walkTotals w n)) ≡ refused (refusal 4 (suc n) 0)
-    walkFrom true e = refl
-    walkFrom false e = absurd (due e)
+    go : (b : Bool) → isDue (permitted (w .place .due)) ≡ b → cond b (refused (refusal 4 (suc n) 0)) (accepted (walkTotals w n)) ≡ refused (refusal 4 (suc n) 0)
+    go true e = refl
+    go false e = absurd (due e)
 
 fault-refused : (f : List ℕ) (x : Refusal) → FirstFault f x → judge f ≡ refused x
 fault-refused f x (wrong-length wrong) = length-refused f 0 0 .1 (refl, refl, wrong)

@@ -33,7 +33,7 @@ use Rattle.flow.specs.declared.answer.Totals.{Totals}
 use Rattle.flow.specs.declared.location.Location.{Location}
 use Rattle.flow.proofs.Accepted.{accepted-exact}
 use Rattle.flow.proofs.Cut.{Whole, flatten-length, part-joined}
-use Rattle.flow.proofs.Dispositions.{dispositions-counted, disposition-stands, find-so, found-stands}
+use Rattle.flow.proofs.Dispositions.{dispositions-counted, disposition-at, find-so, found-has}
 use Rattle.grammar.specs.Grammar.{Typed, kindsOf, recordsIn, opening, RightDisposition, RightDispositions, Grammar}
 use Rattle.grammar.specs.Laws.{DispositionsExact, centsAt, firstAt, endAt, PartsExact, PlacesExact, OpeningExact, PartEmpty}
 use Rattle.grammar.specs.Rules.{Digits, Says, Formed, MemberRules}
@@ -92,9 +92,9 @@ module _ (f : List ℕ) (t : Totals) (e : judge f ≡ accepted t) where
   g : Grammar f t
   g = grammar-exact f t .0 e
 
-  pub stands-so : (k : ℕ) → k < t .dispositions
+  pub find-known : (k : ℕ) → k < t .dispositions
       → find f (suc k) ≡ accepted (record { first = suc (suc (length (flatten (take k (dispositionsIn f))))); records = length (getD (dispositionsIn f) k []); cents = number (amountIn (getD (getD (dispositionsIn f) k []) 0 [])) })
-  stands-so k h =
+  find-known k h =
       let one : suc k - 1 ≡ k = omega arith in
       find-so f k e h ∙ rw one
 
@@ -127,7 +127,7 @@ module _ (f : List ℕ) (t : Totals) (e : judge f ≡ accepted t) where
       let joined : f ≡ flatten (xs ++ (here ++ zs)) = sym bytes-so ∙ ap flatten all in
       let first : suc (suc (length (flatten (take k found)))) - 1 ≡ length xs = omega arith in
       let bytes = ap (λ (m : ℕ). part (120 * m) (120 * length here) f) first ∙ ap (part (120 * length xs) (120 * length here)) joined ∙ part-joined xs here zs front within in
-      (within, ap (λ (l : Verdict Location). bytesAt l f) (stands-so k h) ∙ bytes)
+      (within, ap (λ (l : Verdict Location). bytesAt l f) (find-known k h) ∙ bytes)
 
   -- the flow has the header, their records and the trailer
   size-so : length f ≡ 120 * (2 + length (flatten (dispositionsIn f)))
@@ -152,21 +152,21 @@ module _ (f : List ℕ) (t : Totals) (e : judge f ≡ accepted t) where
   sum-so : sum (map (λ (k : ℕ). centsAt (find f k)) (upTo (t .dispositions))) ≡ t .cents
   sum-so =
       let found = dispositionsIn f in
-      let numbered = by-number (λ (k : ℕ). centsAt (find f k)) (λ (x : List (List ℕ)). number (amountIn (getD x 0 []))) found [] (λ k h. ap centsAt (stands-so k (omega (arith, count-so)))) in
+      let numbered = by-number (λ (k : ℕ). centsAt (find f k)) (λ (x : List (List ℕ)). number (amountIn (getD x 0 []))) found [] (λ k h. ap centsAt (find-known k (omega (arith, count-so)))) in
       ap (λ (m : ℕ). sum (map (λ (k : ℕ). centsAt (find f k)) (upTo m))) (sym count-so) ∙ ap sum numbered
       ∙ ap (λ (l : List (List (List ℕ))). sum (map (λ (x : List (List ℕ)). number (amountIn (getD x 0 []))) l)) (dispositions-exact f t g)
       ∙ ap sum (map-map (λ (x : List (List ℕ)). number (amountIn (getD x 0 []))) recordsIn (g .parts .dispositions)) ∙ ap (λ (u : Totals). u .cents) (g .totals)
 
   -- where each starts and ends, in records
   first-so : (k : ℕ) → k < t .dispositions → firstAt (find f (suc k)) ≡ 2 + length (flatten (take k (dispositionsIn f)))
-  first-so k h = ap firstAt (stands-so k h) ∙ omega arith
+  first-so k h = ap firstAt (find-known k h) ∙ omega arith
 
   end-so : (k : ℕ) → k < t .dispositions → endAt (find f (suc k)) ≡ 2 + length (flatten (take (suc k) (dispositionsIn f)))
   end-so k h =
       let found = dispositionsIn f in
       let next = ap (λ (l : List (List ℕ)). length l) (flatten-next found k (omega (arith, count-so))) in
       let join = length-append (flatten (take k found)) (getD found k []) in
-      ap endAt (stands-so k h) ∙ omega arith
+      ap endAt (find-known k h) ∙ omega arith
 
   places-so : (firstAt (find f 1) ≡ 2) × ((k : ℕ) → 1 ≤ k → k < t .dispositions → firstAt (find f (suc k)) ≡ endAt (find f k)) × (endAt (find f (t .dispositions)) ≡ t .records)
   unfolding flatten
@@ -209,7 +209,7 @@ part-empty f k = (λ none. go none (find f k) refl, λ o. ap (λ (l : Verdict Lo
     go : partOf f k ≡ [] → (l : Verdict Location) → find f k ≡ l → (x : Refusal) × (find f k ≡ refused x)
     go none (refused x) e = (x, e)
     go none (accepted place) e =
-        let s = found-stands f k e .0 in
+        let s = found-has f k e .0 in
         let some = s .some in
         let within = s .within in
         let same : suc (k - 1) ≡ k = omega arith in
@@ -233,7 +233,7 @@ opening-says abi n d r = go d (opened-so d (r .order)) (r .records)
 
 pub opening-exact : OpeningExact
 opening-exact f k place e =
-    let found = found-stands f k e in
+    let found = found-has f k e in
     let s = found .0 in
     let some = s .some in
     let within = s .within in
@@ -245,7 +245,7 @@ opening-exact f k place e =
     let start : startOf (dispositionsIn f) k ≡ place .first - 1 = omega arith in
     let same = dispositions-exact f (s .totals) g in
     let own : getD (getD (dispositionsIn f) (k - 1) []) 0 [] ≡ opening (getD ds (k - 1) []) = ap (λ (l : List (List (List ℕ))). getD (getD l (k - 1) []) 0 []) same ∙ ap (λ (l : List (List ℕ)). getD l 0 []) (List·getD-map recordsIn ds (k - 1) []) in
-    let here : opening (getD ds (k - 1) []) ≡ recordAt (place .first - 1) f = sym own ∙ disposition-stands f k s .opening ∙ ap (λ (m : ℕ). recordAt m f) start in
+    let here : opening (getD ds (k - 1) []) ≡ recordAt (place .first - 1) f = sym own ∙ disposition-at f k s .opening ∙ ap (λ (m : ℕ). recordAt m f) start in
     let one : 1 + (k - 1) ≡ k = omega arith in
     let says = opening-says abi (1 + (k - 1)) (getD ds (k - 1) []) (numbered-at abi 1 ds (k - 1) less (g .right .each)) in
     let amount = ap (λ (r : List ℕ). number (amountIn r)) (sym here ∙ sym own) ∙ sym (ap (λ (x : Location). x .cents) (found .1)) in

@@ -125,11 +125,11 @@ one-on h w code i r right-at (stops rs rec rest m p walked fault) =
 pub outcome : (h : Header) (w : Walk) (code : List ℕ) (i : ℕ) (recs : List (List ℕ)) → Whole recs → Outcome h w code i recs
 outcome h w code i [] whole = all-right [] tt
 outcome h w code i (rec ∷ recs) whole =
-    walkFrom (λ w′ code′. outcome h w′ code′ (suc i) recs (whole .1)) (judgement h w code (suc i) rec (whole .0))
+    go (λ w′ code′. outcome h w′ code′ (suc i) recs (whole .1)) (judgement h w code (suc i) rec (whole .0))
   where
-    walkFrom : ((w′ : Walk) (code′ : List ℕ) → Outcome h w′ code′ (suc i) recs) → Judgement h w code (suc i) rec → Outcome h w code i (rec ∷ recs)
-    walkFrom rest (inl o) = one-on h w code i (record { kind = o .0; bytes = rec }) (o .1) (rest (step w (o .0) (asked (o .0) rec)) (latest (o .0) code rec))
-    walkFrom rest (inr o) =
+    go : ((w′ : Walk) (code′ : List ℕ) → Outcome h w′ code′ (suc i) recs) → Judgement h w code (suc i) rec → Outcome h w code i (rec ∷ recs)
+    go rest (inl o) = one-on h w code i (record { kind = o .0; bytes = rec }) (o .1) (rest (step w (o .0) (asked (o .0) rec)) (latest (o .0) code rec))
+    go rest (inr o) =
         let same : suc i ≡ suc (i + 0) = omega arith in
         stops [] rec recs (o .0) (o .1) tt (subst (λ (n : ℕ). FaultAt h w code n rec (o .0) (o .1)) same (o .2))
 

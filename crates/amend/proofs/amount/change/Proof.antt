@@ -10,27 +10,16 @@ use Rattle.fields.specs.Amount.{mostAmount}
 use Rattle.fields.specs.Digits.{digits}
 use Rattle.records.specs.Limits.{mostCents}
 use Rattle.flow.specs.Find.{foundWithTotalsVerdict, findWithTotals}
-use Rattle.flow.specs.Verdict.{Verdict, accepted, refused}
+use Rattle.flow.specs.Verdict.{accepted, refused}
 use Rattle.flow.specs.declared.answer.Answer.the-variants.{Refused}
-use Rattle.flow.specs.declared.answer.Refusal.{Refusal}
 use Rattle.flow.specs.declared.answer.Totals.{Totals}
 use Rattle.flow.specs.declared.location.WithTotals.{WithTotals}
-use Rattle.amend.specs.Amended.{unchanged, whereFound, writtenInRecord}
-use Rattle.amend.specs.Change.{totalsChanged, changed, changeAt}
-use Rattle.amend.specs.Change.{change as Change·change}
+use Rattle.amend.specs.Amended.{writtenInRecord}
+use Rattle.amend.specs.Change.{totalsChanged, changed}
 use Rattle.amend.proofs.FoundFacts.{FoundFacts, found-facts}
-use Rattle.amend.proofs.Unchanged.{left-unchanged}
+use Rattle.amend.proofs.Unchanged.{change-found, left-unchanged}
 use Rattle.amend.proofs.amount.change.Statement.{statement}
 use Rattle.amend.proofs.amount.change.Tie as tie
-
--- what was found decides
-refused-so : (f : List ℕ) (k new : ℕ) {x : Refusal} → findWithTotals f k ≡ refused x → Change·change f k new ≡ unchanged x f
-unfolding Change·change
-refused-so f k new none = ap (λ (l : Verdict WithTotals). whereFound l (λ (v : WithTotals). changeAt v new f) f) none
-
-change-so : (f : List ℕ) (k new : ℕ) {v : WithTotals} → findWithTotals f k ≡ accepted v → Change·change f k new ≡ changeAt v new f
-unfolding Change·change
-change-so f k new there = ap (λ (l : Verdict WithTotals). whereFound l (λ (v : WithTotals). changeAt v new f) f) there
 
 -- disposition k stands in the flow
 module _ (c : tie.After-known-told2) where
@@ -59,7 +48,7 @@ module _ (c : tie.After-known-told2) where
 returns : tie.Need-returns
 returns c =
     let at = c .before .before in
-    left-unchanged (Refused (c .refusal-of-call .result)) (length (flow at)) (flow at) (ap refused (c .refusal-of-call .ensures)) refl ∙ sym (change-so _ _ _ (there at) ∙ rw (lt-leb (new at) mostAmount (c .before .if1 .taken)))
+    left-unchanged (Refused (c .refusal-of-call .result)) (length (flow at)) (flow at) (ap refused (c .refusal-of-call .ensures)) refl ∙ sym (change-found _ _ (there at) _ ∙ rw (lt-leb (new at) mostAmount (c .before .if1 .taken)))
 
 sub-t15 : tie.Need-sub-t15
 sub-t15 c = known (c .before .before .before .before .before) .share
@@ -71,7 +60,7 @@ returns-2 : tie.Need-returns-2
 returns-2 c =
     let at = c .before .before .before .before .before .before .before .before in
     left-unchanged (Refused (c .refusal-of-call2 .result)) (length (flow at)) (flow at) (ap refused (c .refusal-of-call2 .ensures)) refl
-    ∙ sym (change-so _ _ _ (there at) ∙ rw (le-leb (new at) mostAmount (c .before .before .before .before .before .before .before .if1 .left), lt-leb (made at .cents) mostCents (c .before .if2 .taken)))
+    ∙ sym (change-found _ _ (there at) _ ∙ rw (le-leb (new at) mostAmount (c .before .before .before .before .before .before .before .if1 .left), lt-leb (made at .cents) mostCents (c .before .if2 .taken)))
 
 place-number-requires : tie.Need-place-number-requires
 place-number-requires c κs =
@@ -84,7 +73,7 @@ place-number-requires-2 c κs =
     omega (arith, s .starts, s .ends, s .size)
 
 returns-3 : tie.Need-returns-3
-returns-3 c = sym (refused-so _ _ _ (sym (c .before .before .before .find-with-totals .ensures) ∙ ap foundWithTotalsVerdict (c .before .refusal .given .1)))
+returns-3 c = sym (change-found _ _ (sym (c .before .before .before .find-with-totals .ensures) ∙ ap foundWithTotalsVerdict (c .before .refusal .given .1)) _)
 
 returns-4 : tie.Need-returns-4
 returns-4 c =
@@ -94,7 +83,7 @@ returns-4 c =
     let first = c .before .before .before .before .before .before .place-number .ensures in
     let bytes : c .before .before .place-number2 .last .0 ≡ changed (found at .location .first) (new at) t (flow at) = c .before .before .place-number2 .ensures ∙ ap (writtenInRecord (t .records) 53 (digits 15 (t .cents))) first in
     ap (λ (l : List ℕ). record { answer = accepted t; size = length (flow at); bytes = l }) bytes
-    ∙ sym (change-so _ _ _ (there at) ∙ rw (le-leb (new at) mostAmount (end .before .before .before .before .before .before .if1 .left), le-leb (t .cents) mostCents (end .if2 .left)))
+    ∙ sym (change-found _ _ (there at) _ ∙ rw (le-leb (new at) mostAmount (end .before .before .before .before .before .before .if1 .left), le-leb (t .cents) mostCents (end .if2 .left)))
 
 pub change-spec : {M : Type 1} → statement M
 change-spec =

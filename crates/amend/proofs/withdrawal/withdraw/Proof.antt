@@ -9,26 +9,14 @@ use borrow.Author.Tests.{lt-ltb, le-ltb}
 use Rattle.sequences.specs.Part.{put}
 use Rattle.flow.specs.Records.{cut}
 use Rattle.flow.specs.Find.{foundWithTotalsVerdict, findWithTotals}
-use Rattle.flow.specs.Verdict.{Verdict, accepted, refused}
-use Rattle.flow.specs.declared.answer.Refusal.{Refusal}
+use Rattle.flow.specs.Verdict.{accepted, refused}
 use Rattle.flow.specs.declared.location.WithTotals.{WithTotals}
-use Rattle.amend.specs.Amended.{unchanged, whereFound}
-use Rattle.amend.specs.Withdraw.{renumberedFrom, totalsLeft, withdrawn, withdrawAt}
-use Rattle.amend.specs.Withdraw.{withdraw as Withdraw·withdraw}
+use Rattle.amend.specs.Withdraw.{renumberedFrom, totalsLeft, withdrawn}
 use Rattle.amend.proofs.FoundFacts.{FoundFacts, found-facts}
-use Rattle.amend.proofs.Unchanged.{left-unchanged}
+use Rattle.amend.proofs.Unchanged.{withdraw-found, left-unchanged}
 use Rattle.amend.proofs.Withdrawn.{withdrawn-so}
 use Rattle.amend.proofs.withdrawal.withdraw.Statement.{statement}
 use Rattle.amend.proofs.withdrawal.withdraw.Tie as tie
-
--- what was found decides
-refused-so : (f : List ℕ) (k : ℕ) {x : Refusal} → findWithTotals f k ≡ refused x → Withdraw·withdraw f k ≡ unchanged x f
-unfolding Withdraw·withdraw
-refused-so f k none = ap (λ (l : Verdict WithTotals). whereFound l (λ (v : WithTotals). withdrawAt k v f) f) none
-
-withdraw-so : (f : List ℕ) (k : ℕ) {v : WithTotals} → findWithTotals f k ≡ accepted v → Withdraw·withdraw f k ≡ withdrawAt k v f
-unfolding Withdraw·withdraw
-withdraw-so f k there = ap (λ (l : Verdict WithTotals). whereFound l (λ (v : WithTotals). withdrawAt k v f) f) there
 
 -- disposition k stands in the flow
 module _ (c : tie.After-known-told2) where
@@ -64,7 +52,7 @@ returns : tie.Need-returns
 returns c =
     let at = c .before .before .before .before .before .before in
     left-unchanged (c .refused2 .result .answer) (c .refused2 .result .length) (flow at) (c .refused2 .ensures .0 ∙ ap refused (c .before .refusal-of-call .ensures)) (c .refused2 .ensures .1)
-    ∙ sym (withdraw-so _ _ (there at) ∙ rw (le-ltb 1 (found at .totals .dispositions) (c .before .before .if1 .taken)))
+    ∙ sym (withdraw-found _ _ (there at) ∙ rw (le-ltb 1 (found at .totals .dispositions) (c .before .before .if1 .taken)))
 
 sub-t18 : tie.Need-sub-t18
 sub-t18 c = let s = known (c .before .before .before .before .before .before .before) in omega arith
@@ -111,7 +99,7 @@ mul-t18 c = let s = known (moving (numbering (counting (blanking (c .before .bef
 returns-2 : tie.Need-returns-2
 returns-2 c =
     left-unchanged (c .refused .result .answer) (c .refused .result .length) _ (c .refused .ensures .0) (c .refused .ensures .1)
-    ∙ sym (refused-so _ _ (sym (c .before .before .before .before .find-with-totals .ensures) ∙ ap foundWithTotalsVerdict (c .before .before .refusal .given .1)))
+    ∙ sym (withdraw-found _ _ (sym (c .before .before .before .before .find-with-totals .ensures) ∙ ap foundWithTotalsVerdict (c .before .before .refusal .given .1)))
 
 returns-3 : tie.Need-returns-3
 returns-3 c =
@@ -138,7 +126,7 @@ returns-3 c =
     (last .before .before .before .before .recount .ensures)
     (c .before .before .before .blank .ensures ∙ (λ i. take (120 * kept i) f₃ ++ replicate (length f₃ - 120 * kept i) 32)) in
     ap (λ (l : List ℕ). record { answer = accepted t; size = 120 * t .records; bytes = l }) bytes
-    ∙ sym (withdraw-so _ _ (there at) ∙ rw (lt-ltb 1 (v .totals .dispositions) (first .before .before .before .before .before .before .before .before .if1 .left)))
+    ∙ sym (withdraw-found _ _ (there at) ∙ rw (lt-ltb 1 (v .totals .dispositions) (first .before .before .before .before .before .before .before .before .if1 .left)))
 
 pub withdraw-spec : {M : Type 1} → statement M
 withdraw-spec =

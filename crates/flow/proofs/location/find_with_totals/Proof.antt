@@ -9,7 +9,7 @@ use borrow.Author.Tests.{not-true, not-false}
 use Rattle.flow.specs.Judge.{judge}
 use Rattle.flow.specs.Verdict.{accepted, refused, answerVerdict}
 use Rattle.flow.specs.declared.answer.Totals.{Totals}
-use Rattle.flow.proofs.Dispositions.{stands}
+use Rattle.flow.proofs.Dispositions.{has-disposition}
 use Rattle.flow.proofs.FindWithTotals.{not-read, no-number, numbered}
 use Rattle.flow.proofs.location.find_with_totals.Statement.{statement}
 use Rattle.flow.proofs.location.find_with_totals.Tie as tie
@@ -35,7 +35,7 @@ returns : tie.Need-returns
 returns c = ap refused (c .refusal-of-call .ensures) ∙ sym (no-number _ _ (read (c .before .before)) (tested (c .before .before) ∙ not-true _ (c .before .if1 .taken)))
 
 location-of-requires : tie.Need-location-of-requires
-location-of-requires c κs = stands _ _ (read (c .before)) (tested (c .before) ∙ not-false _ (c .if1 .left))
+location-of-requires c κs = has-disposition _ _ (read (c .before)) (tested (c .before) ∙ not-false _ (c .if1 .left))
 
 returns-2 : tie.Need-returns-2
 returns-2 c = sym (not-read _ _ (sym (c .before .before .before .read .ensures) ∙ ap answerVerdict (c .before .refusal .given .1)))

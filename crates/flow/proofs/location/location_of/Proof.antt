@@ -9,7 +9,7 @@ use borrow.Author.Needs.{needs}
 use Rattle.fields.specs.Digits.{number}
 use Rattle.records.specs.Amount.{amountIn}
 use Rattle.flow.specs.Find.{dispositionsIn, startOf}
-use Rattle.flow.proofs.Dispositions.{Disposition, accepted-length, disposition-stands}
+use Rattle.flow.proofs.Dispositions.{Disposition, accepted-length, disposition-at}
 use Rattle.flow.proofs.Cut.{record-part}
 use Rattle.flow.proofs.location.location_of.Statement.{statement}
 use Rattle.flow.proofs.location.location_of.Tie as tie
@@ -19,7 +19,7 @@ abbrev found : tie.After-start-of → List (List ℕ)
 found c = getD (dispositionsIn (c .before .before .args .flow .now)) (c .before .before .args .k - 1) []
 
 stood : (c : tie.After-start-of) → Disposition (c .before .before .args .flow .now) (c .start-of .result) (found c)
-stood c = rw (c .start-of .ensures) (disposition-stands (c .before .before .args .flow .now) (c .before .before .args .k) (c .before .before .pre))
+stood c = rw (c .start-of .ensures) (disposition-at (c .before .before .args .flow .now) (c .before .before .args .k) (c .before .before .pre))
 
 add-next-opening : tie.Need-add-next-opening
 add-next-opening c = let within = stood c .within in omega arith

@@ -5,7 +5,7 @@ use mathlib.Core.Path.{_≡_, refl, sym, _∙_, ap}
 use native.Mathlib.Omega.{arith}
 use borrow.Author.Needs.{needs}
 use Rattle.flow.specs.Find.{dispositionsIn, startOf, HasDisposition, openingFrom}
-use Rattle.flow.proofs.Dispositions.{accepted-length, disposition-stands, starts-next}
+use Rattle.flow.proofs.Dispositions.{accepted-length, disposition-at, starts-next}
 use Rattle.flow.proofs.location.start_of.Statement.{statement}
 use Rattle.flow.proofs.location.start_of.Tie as tie
 
@@ -20,15 +20,15 @@ unfolding flatten
 loop-holds c = (omega arith, c .before .pre .some, refl)
 
 -- disposition j stands in the flow too
-stands : (c : tie.At-loop Inv-loop μ-loop) → HasDisposition (c .before .before .args .flow .now) (c .loop .j)
-stands c =
+known : (c : tie.At-loop Inv-loop μ-loop) → HasDisposition (c .before .before .args .flow .now) (c .loop .j)
+known c =
     let s = c .before .before .pre in
     let below = s .within in
     record { totals = s .totals; read = s .read; some = c .loop .inv .0; within = omega arith }
 
 add-next-opening : tie.Need-add-next-opening Inv-loop μ-loop
 add-next-opening c =
-    let d = disposition-stands _ _ (stands (c .before)) in
+    let d = disposition-at _ _ (known (c .before)) in
     let within = d .within in
     omega arith
 
@@ -39,8 +39,8 @@ loop-again : tie.Need-loop-again Inv-loop μ-loop
 loop-again c =
     let at = c .before .before in
     let f = at .before .before .args .flow .now in
-    let s = stands at in
-    let on : openingFrom f (at .loop .at + 1) ≡ startOf (dispositionsIn f) (at .loop .j + 1) = ap (λ (i : ℕ). openingFrom f (i + 1)) (at .loop .inv .2) ∙ disposition-stands f (at .loop .j) s .next ∙ sym (starts-next f (at .loop .j) s) in
+    let s = known at in
+    let on : openingFrom f (at .loop .at + 1) ≡ startOf (dispositionsIn f) (at .loop .j + 1) = ap (λ (i : ℕ). openingFrom f (i + 1)) (at .loop .inv .2) ∙ disposition-at f (at .loop .j) s .next ∙ sym (starts-next f (at .loop .j) s) in
     (omega arith, omega arith, c .next-opening .ensures ∙ on)
 
 returns : tie.Need-returns Inv-loop μ-loop
