@@ -9,8 +9,9 @@
 #
 # The checker reports every function, and proves each from the contracts of those that it calls. So edits
 # of different functions share a file, which costs one check. Of each the first error in the function's
-# own Proof.antt has to be a fact that fails; of an edit of specs/ the first error of all. That no edit
-# stands in for another: of several in a file each is a line of its function's body, or a constant that
+# own Proof.antt has to be a fact that fails; of an edit of specs/ the first error of all. A function that
+# the checker proves by itself has no Proof.antt: there the search for what it returns has to fail. That no
+# edit stands in for another: of several in a file each is a line of its function's body, or a constant that
 # this function alone cites. An edit of a contract, which other functions rest on, is alone in its file.
 
 FNR == 1 {
@@ -91,9 +92,10 @@ function judge_file(   i, k, own, meant, error, found, named) {
 function first_error(function_path,   log_file, line, from, error) {
     from = "target/must-fail/" crate "/" file "/"
     log_file = from ".log"
-    if (function_path != "") from = from "proofs/" function_path "/Proof.antt:"
+    if (function_path != "") from = from "proofs/" function_path "/Proof.antt"
     while (error == "" && (getline line < log_file) > 0) {
-        if (line ~ /^[^ ]*: error/ && index(line, from)) error = substr(line, index(line, from))
+        if (!index(line, from)) continue
+        if (line ~ /^[^ ]*: error/ || line ~ /: no proof: .*; `search` does not close `returns/) error = substr(line, index(line, from))
     }
     close(log_file)
     return error

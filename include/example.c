@@ -1,6 +1,6 @@
 /*
- * Reads the flow in the file named by its argument and writes one line: accepted with its three numbers,
- * or refused with number, record and position.
+ * Reads the flow in the file named by its argument and writes one line: accepted with its three numbers
+ * and its kind, or refused with number, record and position.
  *
  *     cc include/example.c target/staticlib/libcapi.a -o example && ./example samples/two-rents.flow
  */
@@ -28,8 +28,9 @@ static uint8_t *read_all(FILE *file, size_t *length) {
 static void judge(const uint8_t *flow, size_t length) {
     uint64_t answer[MAV_ENTRIES] = {0};
     if (mav_read(flow, length, answer))
-        printf("accepted dispositions %" PRIu64 " cents %" PRIu64 " records %" PRIu64 "\n",
-               answer[MAV_DISPOSITIONS], answer[MAV_CENTS], answer[MAV_RECORDS]);
+        printf("accepted dispositions %" PRIu64 " cents %" PRIu64 " records %" PRIu64 " kind %s\n",
+               answer[MAV_DISPOSITIONS], answer[MAV_CENTS], answer[MAV_RECORDS],
+               answer[MAV_KIND] == MAV_KIND_RECALLS ? "recalls" : "requests");
     else
         printf("refused %" PRIu64 " record %" PRIu64 " position %" PRIu64 "\n",
                answer[MAV_NUMBER], answer[MAV_RECORD], answer[MAV_POSITION]);

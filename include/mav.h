@@ -1,7 +1,7 @@
 /*
- * The C interface of the proved M.Av. library: request flows of 120-byte records, by the rules of
- * document 01. Link the archive target/staticlib/libcapi.a, which `rt staticlib capi` writes. It is for
- * x86-64 Linux, and needs nothing but the C library.
+ * The C interface of the proved M.Av. library: flows of 120-byte records, of new requests or of recalls,
+ * by the rules of documents 01 and 02. Link the archive target/staticlib/libcapi.a, which
+ * `rt staticlib capi` writes. It is for x86-64 Linux, and needs nothing but the C library.
  *
  * What a call does. Each function returns 1 where the call is accepted and 0 where it is refused, and
  * writes all eight entries of `answer`. Whatever the bytes and the numbers are, it ends with an answer,
@@ -30,7 +30,7 @@
 extern "C" {
 #endif
 
-/* The entries of an answer. Those that are not named for a call are 0, and the last four always are. */
+/* The entries of an answer. Those that are not named for a call are 0, and the last three always are. */
 enum {
     /* Refused: the number, the record from 1 (for MAV_REFUSED_ITEM the item from 1) and the first
      * position of the field from 1. Record and position are 0 where a refusal has no place. */
@@ -56,7 +56,18 @@ enum {
      * left, the length given where refused. */
     MAV_LENGTH = 3,
 
+    /* Accepted, of a flow that is read, written, listed or amended: its kind, one of those below. */
+    MAV_KIND = 4,
+
     MAV_ENTRIES = 8
+};
+
+/* The kinds of flow. The two may not share one: the first record 14 decides. New requests have causale
+ * 07000 and sign - in every record 14, the total at 53-67 of the trailer, and a list that opens with H;
+ * recalls of requests already sent have 07100, +, 68-82 and Q. */
+enum {
+    MAV_KIND_REQUESTS = 1,
+    MAV_KIND_RECALLS = 2
 };
 
 /* The numbers of a refusal. 19 is not used. */
@@ -80,7 +91,8 @@ enum {
     MAV_REFUSED_TOTAL_TOO_LARGE = 17,       /* the total would be above MAV_MAX_TOTAL */
     MAV_REFUSED_ONLY_DISPOSITION = 18,      /* the only disposition cannot be withdrawn */
     MAV_REFUSED_ITEM = 20,                  /* an item of a list of unknown kind, or cut short */
-    MAV_REFUSED_ROOM = 21                   /* the output is shorter than needed */
+    MAV_REFUSED_ROOM = 21,                  /* the output is shorter than needed */
+    MAV_REFUSED_OTHER_KIND = 22             /* a record 14 of another kind than the first one */
 };
 
 #define MAV_RECORD_LENGTH 120
@@ -97,26 +109,28 @@ uint8_t mav_amount(const uint8_t *field, size_t length, uint64_t answer[MAV_ENTR
 /* Whether six digits, day, month and year, are a date of 2000 to 2099. Refused: 5, 8. */
 uint8_t mav_date(const uint8_t *field, size_t length, uint64_t answer[MAV_ENTRIES]);
 
-/* Judges a flow. Refused: 1 to 14, the first fault in document 01's order. */
+/* Judges a flow. Refused: 1 to 14 or 22, the first fault in the documents' order. */
 uint8_t mav_read(const uint8_t *flow, size_t length, uint64_t answer[MAV_ENTRIES]);
 
 /* Where disposition k stands, counted from 1. Refused: as mav_read, then 15. */
 uint8_t mav_find(const uint8_t *flow, size_t length, uint64_t k, uint64_t answer[MAV_ENTRIES]);
 
 /* Writes the flow that a request list encodes at the front of out, which has 120 * (items + 1) bytes or
- * more, and leaves the rest of out as it was. Refused: 20, 1, 21, then as mav_read by 2, 3, 5 to 8, 10
- * or 11, then 17. The call itself numbers the records and writes the trailer, so that 4, 9 and 12 to 14
- * cannot come. */
+ * more, and leaves the rest of out as it was. A list that opens with H is of requests, one that opens
+ * with Q of recalls. Refused: 20, 1, 21, then as mav_read by 2, 3, 5 to 8, 10 or 11, then 17. The call
+ * itself numbers the records, gives them the kind of their header and writes the trailer, so that 4, 9,
+ * 12 to 14 and 22 cannot come. */
 uint8_t mav_write(const uint8_t *list, size_t length, uint8_t *out, size_t room,
                   uint64_t answer[MAV_ENTRIES]);
 
-/* Writes the request list of a flow at the front of out, and leaves the rest of out as it was. A list is
- * shorter than its flow, so that a room of `length` is always enough. Refused: as mav_read, then 21. */
+/* Writes the request list of a flow at the front of out, and leaves the rest of out as it was. It opens
+ * with H, that of recalls with Q. A list is shorter than its flow, so that a room of `length` is always
+ * enough. Refused: as mav_read, then 21. */
 uint8_t mav_list(const uint8_t *flow, size_t length, uint8_t *out, size_t room,
                  uint64_t answer[MAV_ENTRIES]);
 
-/* Gives disposition k another amount: only 34-46 of its record 14 and 53-67 of the trailer are written.
- * Refused: as mav_read, then 15, 16, 17. */
+/* Gives disposition k another amount: only 34-46 of its record 14 and the total of the trailer are
+ * written, 53-67 of requests and 68-82 of recalls. Refused: as mav_read, then 15, 16, 17. */
 uint8_t mav_change(uint8_t *flow, size_t length, uint64_t k, uint64_t cents,
                    uint64_t answer[MAV_ENTRIES]);
 

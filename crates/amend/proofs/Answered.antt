@@ -28,7 +28,7 @@ use Rattle.amend.specs.Change.{totalsChanged, changed, changeAt, change}
 use Rattle.amend.specs.Laws.{ChangeFault, not-read, no-disposition, amount-too-large, total-too-large, ChangeRefused, WithdrawFault, only-one, WithdrawRefused, Untouched, RefusedUntouched}
 use Rattle.amend.specs.Withdraw.{totalsLeft, recordsLeft, withdrawn, withdrawAt, withdraw}
 use Rattle.amend.proofs.Unchanged.{change-found, withdraw-found}
-use Rattle.amend.proofs.Neighbours.{Neighbours, restOf, withdrawn-left, changedOf, changed-left}
+use Rattle.amend.proofs.Neighbours.{Neighbours, kind-so, restOf, withdrawn-left, changedOf, changed-left}
 use Rattle.amend.proofs.PartsLeft.{leftWith, rest-count, rest-cents, rest-records, rest-right, changed-count, changed-cents, changed-records, changed-right}
 
 -- what finding answers: the flow is not read, or it has no such disposition, or it is there
@@ -185,6 +185,7 @@ changed-grammar f k v new w small fits =
     let g = w .grammar in
     let t = v .totals in
     let total : t .cents - v .location .cents + new ≡ t .cents - dispositionAmount (w .this) + new = ap (λ (x : ℕ). t .cents - x + new) (w .amount) in
+    let kind = kind-so f t g in
     let count = changed-count f t g (w .pre) (w .this) (w .post) (w .split) new small in
     let cents = changed-cents f t g (w .pre) (w .this) (w .post) (w .split) new small ∙ sym total in
     let records = changed-records f t g (w .pre) (w .this) (w .post) (w .split) new small in
@@ -192,7 +193,7 @@ changed-grammar f k v new w small fits =
       parts = leftWith (g .parts) (changedOf f k v w new small);
       bytes = sym (changed-left f k v w new small);
       right = changed-right f t g (w .pre) (w .this) (w .post) (w .split) new small (omega arith);
-      totals = λ i. record { dispositions = count i; cents = cents i; records = records i };
+      totals = λ i. record { kind = kind i; dispositions = count i; cents = cents i; records = records i };
     }
 
 abbrev pub withdrawn-grammar :
@@ -201,6 +202,7 @@ abbrev pub withdrawn-grammar :
 withdrawn-grammar f k v w some =
     let g = w .grammar in
     let t = v .totals in
+    let kind = kind-so f t g in
     let count = rest-count f t g (w .pre) (w .this) (w .post) (w .split) in
     let cents = rest-cents f t g (w .pre) (w .this) (w .post) (w .split) ∙ ap (λ (x : ℕ). t .cents - x) (sym (w .amount)) in
     let records = rest-records f t g (w .pre) (w .this) (w .post) (w .split) ∙ ap (λ (x : ℕ). t .records - x) (sym (w .sized)) in
@@ -208,5 +210,5 @@ withdrawn-grammar f k v w some =
       parts = leftWith (g .parts) (restOf f k v w);
       bytes = sym (withdrawn-left f k v w);
       right = rest-right f t g (w .pre) (w .this) (w .post) (w .split) some;
-      totals = λ i. record { dispositions = count i; cents = cents i; records = records i };
+      totals = λ i. record { kind = kind i; dispositions = count i; cents = cents i; records = records i };
     }

@@ -15,7 +15,8 @@ use Rattle.fields.specs.Amount.{mostAmount}
 use Rattle.fields.specs.Digits.{digits}
 use Rattle.fields.proofs.Decimal.{written-length}
 use Rattle.records.specs.Amount.{amountSpan}
-use Rattle.records.specs.Field.{Span, _to_, firstOf, width, byteAt}
+use Rattle.records.specs.Field.{Span, _to_, firstOf, lastOf, width, byteAt}
+use Rattle.records.specs.FlowKinds.{totalSpan}
 use Rattle.records.specs.Limits.{mostCents}
 use Rattle.flow.specs.Find.{dispositionsIn, findWithTotals}
 use Rattle.flow.specs.Judge.{judge}
@@ -31,12 +32,12 @@ use Rattle.flow.proofs.FindWithTotals.{find-reads}
 use Rattle.grammar.proofs.Grammar.{grammar-exact}
 use Rattle.amend.specs.Amended.{Amended, writtenInRecord}
 use Rattle.amend.specs.Change.{totalsChanged, changed, change}
-use Rattle.amend.specs.Laws.{flowLeft, LeavesAccepted, ChangeLeaves, WithdrawLeaves, Lies, AmountOnly, ChangeTouches, SameBut, Moved, WithdrawTouches, AmendedDetermined}
+use Rattle.amend.specs.Laws.{flowLeft, LeavesAccepted, ChangeLeaves, WithdrawLeaves, Lies, AmountOnly, ChangeTouches, Outside, SameBut, Moved, WithdrawTouches, AmendedDetermined}
 use Rattle.amend.specs.Withdraw.{renumbered, numberedFrom, totalsLeft, recounted, recordsLeft, withdrawn, withdraw}
 use Rattle.amend.proofs.Neighbours.{Neighbours, neighbours-so}
 use Rattle.amend.proofs.Answered.{ChangeCase, change-case, WithdrawCase, withdraw-case, refuses, changes, withdraws, changed-grammar, withdrawn-grammar}
 use Rattle.amend.proofs.RecordsAround.{before, own, after, trailer, records-split, pieces}
-use Rattle.amend.proofs.RulesKept.{over-length, recounted-length}
+use Rattle.amend.proofs.RulesKept.{over-length, total-place, totalFrom, withCount, withTotal, count-length, total-length, recounted-length}
 use Rattle.amend.proofs.FoundFacts.{FoundFacts, found-facts}
 
 -- the flow that a change leaves, and a withdrawal
@@ -107,13 +108,13 @@ withdraw-leaves f k t same = go (withdraw f k) (withdraw-case f k) same
           memory = ap (λ (l : List ℕ). l ++ replicate (length f - 120 * totalsLeft v .records) 32) (sym own);
         }
 
--- digits written over a record of a flow, and any index that does not lie there
+-- digits written over positions of a record of a flow, and any index that does not lie there
 written-elsewhere :
-    (r p w v i : ℕ) (f : List ℕ) → 1 ≤ p → 120 * (r - 1) + (p - 1) + w ≤ length f → ¬ Lies i r (p to (p - 1 + w))
-    → getD (writtenInRecord r p (digits w v) f) i 0 ≡ getD f i 0
-written-elsewhere r p w v i f one fits outside =
+    (r : ℕ) (s : Span) (w v i : ℕ) (f : List ℕ) → lastOf s ≡ firstOf s - 1 + w → 120 * (r - 1) + lastOf s ≤ length f → ¬ Lies i r s
+    → getD (writtenInRecord r (firstOf s) (digits w v) f) i 0 ≡ getD f i 0
+written-elsewhere r s w v i f wide fits outside =
     let size = written-length w v in
-    getD-put-elsewhere (120 * (r - 1) + (p - 1)) (digits w v) f (omega arith) i (λ h. outside (record { starts = h .0; ends = omega (arith, h .1) }))
+    getD-put-elsewhere (120 * (r - 1) + (firstOf s - 1)) (digits w v) f (omega arith) i (λ h. outside (record { starts = h .0; ends = omega (arith, h .1) }))
 
 written-size : (r p w v : ℕ) (f : List ℕ) → 120 * (r - 1) + (p - 1) + w ≤ length f → length (writtenInRecord r p (digits w v) f) ≡ length f
 written-size r p w v f fits = put-length (120 * (r - 1) + (p - 1)) (digits w v) f (omega (arith, written-length w v))
@@ -121,24 +122,26 @@ written-size r p w v f fits = put-length (120 * (r - 1) + (p - 1)) (digits w v) 
 pub change-touches : ChangeTouches
 change-touches f k new t s read found = go (change f k new) (change-case f k new)
   where
-    go : (x : Amended) → ChangeCase f k new x → AmountOnly f (x .bytes) (t .records) (s .first)
+    go : (x : Amended) → ChangeCase f k new x → AmountOnly f (x .bytes) t (s .first)
     go x (refuses fault) = record { sizes = refl; bytes = λ i u v. refl }
     go x (changes {v = g} there small fits) =
         let both = find-reads f k there in
-        let count = ap (λ (u : Totals). u .records) (accepted-same (sym (both .0) ∙ read)) in
+        let same = accepted-same (sym (both .0) ∙ read) in
         let place = ap (λ (u : Location). u .first) (accepted-same (sym (both .1) ∙ found)) in
         let within = found-within f k (both .1) in
         let size = accepted-exact f (g .totals) (both .0) .2 in
         let first = g .location .first in
         let n = g .totals .records in
+        let span = totalSpan (g .totals .kind) in
+        let wide = total-place (g .totals .kind) in
         let total = totalsChanged g new .cents in
         let one = writtenInRecord first (firstOf amountSpan) (digits (width amountSpan) new) f in
         let kept : length one ≡ length f = written-size first (firstOf amountSpan) (width amountSpan) new f (omega arith) in
         record {
-          sizes = written-size n 53 15 total one (omega arith) ∙ kept;
+          sizes = written-size n (firstOf span) 15 total one (omega arith) ∙ kept;
           bytes = λ i u v.
-              written-elsewhere n 53 15 total i one (omega arith) (omega arith) (λ l. v (subst (λ (r : ℕ). Lies i r (53 to 67)) count l))
-              ∙ written-elsewhere first (firstOf amountSpan) (width amountSpan) new i f (omega arith) (omega arith) (λ l. u (subst (λ (r : ℕ). Lies i r amountSpan) place l));
+              written-elsewhere n span 15 total i one (wide .1) (omega arith) (λ l. v (subst (λ (x : Totals). Lies i (x .records) (totalSpan (x .kind))) same l))
+              ∙ written-elsewhere first amountSpan (width amountSpan) new i f refl (omega arith) (λ l. u (subst (λ (r : ℕ). Lies i r amountSpan) place l));
         }
 
 -- a record with digits written over, and any byte that does not lie there
@@ -154,17 +157,20 @@ renumbered-same j rec whole =
       bytes = λ p one o. over-elsewhere 3 7 j rec whole (omega arith) p one (o .0);
     }
 
-recounted-same : (t : Totals) (rec : List ℕ) → length rec ≡ 120 → SameBut ((46 to 52) ∷ (53 to 67) ∷ (83 to 89) ∷ []) (recounted t rec) rec
+-- outside of spans, the first of which is not known by its numbers
+outside-first : (s : Span) (ss : List Span) (p : ℕ) → Outside (s ∷ ss) p → (¬ ((firstOf s ≤ p) × (p ≤ lastOf s))) × Outside ss p
+outside-first (a to e) ss p o = o
+
+recounted-same : (t : Totals) (rec : List ℕ) → length rec ≡ 120 → SameBut ((46 to 52) ∷ totalSpan (t .kind) ∷ (83 to 89) ∷ []) (recounted t rec) rec
 recounted-same t rec whole =
-    let one = put 45 (digits 7 (t .dispositions)) rec in
-    let two = put 52 (digits 15 (t .cents)) one in
-    let size-one : length one ≡ 120 = over-length 45 7 (t .dispositions) rec whole (omega arith) in
-    let size-two : length two ≡ 120 = over-length 52 15 (t .cents) one size-one (omega arith) in
+    let span = totalSpan (t .kind) in
+    let place = total-place (t .kind) in
     record {
       sizes = recounted-length t rec whole ∙ sym whole;
       bytes = λ p some o.
-          over-elsewhere 82 7 (t .records) two size-two (omega arith) p some (o .1 .1 .0)
-          ∙ over-elsewhere 52 15 (t .cents) one size-one (omega arith) p some (o .1 .0)
+          let others = outside-first span ((83 to 89) ∷ []) p (o .1) in
+          over-elsewhere 82 7 (t .records) (withTotal t rec) (total-length t rec whole) (omega arith) p some (others .1 .0)
+          ∙ over-elsewhere (totalFrom (t .kind)) 15 (t .cents) (withCount t rec) (count-length t rec whole) (omega arith) p some (λ h. let low = h .0 in let high = h .1 in others .0 (omega arith, omega arith))
           ∙ over-elsewhere 45 7 (t .dispositions) rec whole (omega arith) p some (o .0);
     }
 
@@ -250,7 +256,7 @@ module _ {f : List ℕ} {k : ℕ} {v : WithTotals} (s : FoundFacts f k v) where
       let size = flatten-length now now-whole in
       ap (λ (l : List (List ℕ)). recordAt i (flatten l)) now-so ∙ sym (cut-at (length (flatten now) / 120) i (flatten now) (omega arith)) ∙ ap (λ (l : List (List ℕ)). getD l i []) (joined-records now now-whole)
 
-  moved : Moved f (flatten (recordsLeft f k n (totalsLeft v))) n first m
+  moved : Moved f (flatten (recordsLeft f k n (totalsLeft v))) (v .totals) first m
   moved =
       let told = counts in
       let R = SameBut ((4 to 10) ∷ []) in
@@ -270,22 +276,22 @@ module _ {f : List ℕ} {k : ℕ} {v : WithTotals} (s : FoundFacts f k v) where
         trailer =
             let here : n - m - 1 ≡ length (before s) + length renewed = omega arith in
             let new = now-at (n - m - 1) (omega arith) ∙ ap (λ (i : ℕ). getD now i []) here ∙ getD-append-add (before s) back (length renewed) [] ∙ getD-append-seam renewed recount [] [] in
-            subst (λ (rec : List ℕ). SameBut ((46 to 52) ∷ (53 to 67) ∷ (83 to 89) ∷ []) rec (trailer s)) (sym new) (recounted-same (totalsLeft v) (trailer s) (pieces s .3));
+            subst (λ (rec : List ℕ). SameBut ((46 to 52) ∷ totalSpan (v .totals .kind) ∷ (83 to 89) ∷ []) rec (trailer s)) (sym new) (recounted-same (totalsLeft v) (trailer s) (pieces s .3));
       }
 
 pub withdraw-touches : WithdrawTouches
 withdraw-touches f k t left s read found same = go (withdraw f k) (withdraw-case f k) same
   where
-    go : (x : Amended) → WithdrawCase f k x → x .answer ≡ accepted left → Moved f (flowLeft x) (t .records) (s .first) (s .records) × (left .records ≡ t .records - s .records)
+    go : (x : Amended) → WithdrawCase f k x → x .answer ≡ accepted left → Moved f (flowLeft x) t (s .first) (s .records) × (left .records ≡ t .records - s .records)
     go x (refuses fault) same = absurd (accepted-not-refused same)
     go x (withdraws {v = g} there some) same =
         let both = find-reads f k there in
-        let count = ap (λ (u : Totals). u .records) (accepted-same (sym (both .0) ∙ read)) in
+        let all = accepted-same (sym (both .0) ∙ read) in
         let place = accepted-same (sym (both .1) ∙ found) in
         let told = ap (λ (u : Totals). u .records) (accepted-same same) in
         let own = sym (withdrawn-front f k g there some) in (
-          subst (λ (A : Type 0). A) (λ i. Moved f (own i) (count i) (place i .first) (place i .records)) (moved (found-facts f k there)),
-          sym told ∙ (λ i. count i - place i .records),
+          subst (λ (A : Type 0). A) (λ i. Moved f (own i) (all i) (place i .first) (place i .records)) (moved (found-facts f k there)),
+          sym told ∙ (λ i. all i .records - place i .records),
         )
 
 pub amended-determined : AmendedDetermined

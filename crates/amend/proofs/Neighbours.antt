@@ -36,7 +36,7 @@ use Rattle.grammar.proofs.Rules.{says-digits}
 use Rattle.amend.specs.Withdraw.{totalsLeft, recounted, without, numberedFrom, recordsLeft}
 use Rattle.amend.specs.Change.{totalsChanged}
 use Rattle.amend.specs.Change.{changed as Change·changed}
-use Rattle.amend.proofs.RulesKept.{repricedRecord}
+use Rattle.amend.proofs.RulesKept.{repricedRecord, total-place, totalFrom}
 use Rattle.amend.proofs.PartsLeft.{amounts, sizes, totalsWith, leftWith, left-bytes, typedFrom, typed-records, retold, here, rest, rest-count, rest-cents, rest-records, changed, changed-count, changed-cents, changed-records}
 
 -- disposition k of an accepted flow, between those before it and those after it
@@ -97,6 +97,9 @@ module _ (f : List ℕ) (t : Totals) (g : Grammar f t) where
   pub size-so : t .records * 120 ≡ length f
   size-so = accepted-exact f t (grammar-exact f t .1 g) .2
 
+  pub kind-so : g .parts .kind ≡ t .kind
+  kind-so = ap (λ (u : Totals). u .kind) (g .totals)
+
   count-so : length records ≡ t .records
   count-so = omega (arith, ap (λ (l : List (List ℕ)). length l) (sym (between f t g)), cut-count (length f / 120) f, size-so)
 
@@ -149,10 +152,11 @@ module _ (f : List ℕ) (k : ℕ) (v : WithTotals) (w : Neighbours f k v) where
       let this = w .this in
       let post = w .post in
       let t = v .totals in
+      let kind = sym (kind-so f (v .totals) g) in
       let count : t .dispositions - 1 ≡ length restOf = sym (rest-count f (v .totals) g pre this post (w .split)) in
       let cents : t .cents - v .location .cents ≡ amounts restOf = ap (λ (x : ℕ). t .cents - x) (w .amount) ∙ sym (rest-cents f (v .totals) g pre this post (w .split)) in
       let records : t .records - v .location .records ≡ 2 + sizes restOf = ap (λ (x : ℕ). t .records - x) (w .sized) ∙ sym (rest-records f (v .totals) g pre this post (w .split)) in
-      (λ i. flatten ((header-at f (v .totals) g i ∷ flatten (without-so i)) ++ (recounted (record { dispositions = count i; cents = cents i; records = records i }) (trailer-at f (v .totals) g i) ∷ [])))
+      (λ i. flatten ((header-at f (v .totals) g i ∷ flatten (without-so i)) ++ (recounted (record { kind = kind i; dispositions = count i; cents = cents i; records = records i }) (trailer-at f (v .totals) g i) ∷ [])))
       ∙ sym (left-bytes (leftWith p restOf))
 
 -- a trailer that says the counts of other totals gets no other bytes than the sum
@@ -163,15 +167,18 @@ module _ (t : Totals) (rec : List ℕ) (whole : length rec ≡ 120) where
       let stands : part i w bs ≡ digits w v = says-digits w v (part i w bs) (part-length i w bs (omega arith)) says in
       ap (λ (l : List ℕ). put i l bs) (sym stands) ∙ put-part i w bs (omega arith)
 
-  only-total : Says (t .dispositions) (field 46 52 rec) → Says (t .records) (field 83 89 rec) → recounted t rec ≡ put 52 (digits 15 (t .cents)) rec
+  only-total : Says (t .dispositions) (field 46 52 rec) → Says (t .records) (field 83 89 rec) → recounted t rec ≡ put (totalFrom (t .kind)) (digits 15 (t .cents)) rec
   only-total count records =
+      let at = totalFrom (t .kind) in
       let total = t .cents in
-      let fits : 52 + length (digits 15 total) ≤ length rec = omega (arith, written-length 15 total) in
+      let place = total-place (t .kind) in
+      let size : length (digits 15 total) ≡ 15 = written-length 15 total in
+      let fits : at + length (digits 15 total) ≤ length rec = omega arith in
       let one : put 45 (digits 7 (t .dispositions)) rec ≡ rec = told 45 (t .dispositions) 7 rec whole (omega arith) count in
-      let kept : part 82 7 (put 52 (digits 15 total) rec) ≡ part 82 7 rec = part-put-after 52 (digits 15 total) rec fits 82 7 (omega (arith, written-length 15 total)) in
-      let size : length (put 52 (digits 15 total) rec) ≡ 120 = put-length 52 (digits 15 total) rec fits ∙ whole in
-      ap (λ (l : List ℕ). put 82 (digits 7 (t .records)) (put 52 (digits 15 total) l)) one
-      ∙ told 82 (t .records) 7 (put 52 (digits 15 total) rec) size (omega arith) (subst (Says (t .records)) (sym kept) records)
+      let kept : part 82 7 (put at (digits 15 total) rec) ≡ part 82 7 rec = part-put-after at (digits 15 total) rec fits 82 7 (omega arith) in
+      let whole-still : length (put at (digits 15 total) rec) ≡ 120 = put-length at (digits 15 total) rec fits ∙ whole in
+      ap (λ (l : List ℕ). put 82 (digits 7 (t .records)) (put at (digits 15 total) l)) one
+      ∙ told 82 (t .records) 7 (put at (digits 15 total) rec) whole-still (omega arith) (subst (Says (t .records)) (sym kept) records)
 
 -- bytes written over the second and the last of four lists joined
 two-written :
@@ -206,7 +213,7 @@ around p pre rs post rec last =
 
 around-so :
     (p : Parts) (pre : List (List Typed)) (r : Typed) (rs : List Typed) (post : List (List Typed)) (last : List ℕ)
-    → bytesOf (record { header = p .header; dispositions = pre ++ ((r ∷ rs) ∷ post); trailer = last }) ≡ around p pre rs post (r .bytes) last
+    → bytesOf (record { kind = p .kind; header = p .header; dispositions = pre ++ ((r ∷ rs) ∷ post); trailer = last }) ≡ around p pre rs post (r .bytes) last
 unfolding flatten
 around-so p pre r rs post last =
     let bytes : List Typed → List ℕ = λ d. flatten (recordsIn d) in
@@ -242,12 +249,13 @@ module _ (f : List ℕ) (k : ℕ) (v : WithTotals) (w : Neighbours f k v) (new :
           let pre = w .pre in
           let post = w .post in
           let T = p .trailer in
+          let at = totalFrom (t .kind) in
           let R = r .bytes in
           let bytes : List Typed → List ℕ = λ d. flatten (recordsIn d) in
           let H = p .header ++ flatten (map bytes pre) in
           let M = flatten (recordsIn rs) ++ flatten (map bytes post) in
           let split = w .split ∙ ap (λ (y : List Typed). pre ++ (y ∷ post)) e in
-          let joined : f ≡ H ++ (R ++ (M ++ T)) = sym (own .bytes) ∙ (λ i. bytesOf (record { header = p .header; dispositions = split i; trailer = T })) ∙ around-so p pre r rs post T in
+          let joined : f ≡ H ++ (R ++ (M ++ T)) = sym (own .bytes) ∙ (λ i. bytesOf (record { kind = p .kind; header = p .header; dispositions = split i; trailer = T })) ∙ around-so p pre r rs post T in
           let right = here f (v .totals) own pre (w .this) post (w .split) in
           let opened : length R ≡ 120 = subst (λ (y : List Typed). RightDisposition (headerOf (p .header) .abi) (1 + length pre) y) e right .records .0 .0 .whole in
           let closes : length T ≡ 120 = own .right .trailer-formed .whole in
@@ -260,11 +268,12 @@ module _ (f : List ℕ) (k : ℕ) (v : WithTotals) (w : Neighbours f k v) (new :
           let rules = own .right .trailer-rules in
           let said-count : Says (t .dispositions) (field 46 52 T) = subst (λ (u : Totals). Says (u .dispositions) (field 46 52 T)) (own .totals) (rules .dispositions-said) in
           let said-records : Says (t .records) (field 83 89 T) = subst (λ (u : Totals). Says (u .records) (field 83 89 T)) (own .totals) (rules .records-said) in
+          let kind = kind-so f (v .totals) own in
           let count = changed-count f (v .totals) own pre (w .this) post (w .split) new small in
           let cents : amounts changedOf ≡ total = changed-cents f (v .totals) own pre (w .this) post (w .split) new small ∙ ap (λ (x : ℕ). t .cents - x + new) (sym (w .amount)) in
           let records = changed-records f (v .totals) own pre (w .this) post (w .split) new small in
-          let last : put 52 (digits 15 total) T ≡ recounted (totalsWith changedOf) T = sym (only-total after T closes said-count said-records) ∙ (λ i. recounted (record { dispositions = sym count i; cents = sym cents i; records = sym records i }) T) in
-          (λ i. put (sym ends i + 52) (digits 15 total) (put (sym starts i + 33) (digits 13 new) (joined i)))
-          ∙ two-written 33 52 (digits 13 new) (digits 15 total) H R M T fits
-          ∙ sym (around-so p pre (record { kind = r .kind; bytes = repricedRecord new R }) rs post (put 52 (digits 15 total) T))
-          ∙ (λ i. bytesOf (record { header = p .header; dispositions = pre ++ (retold new (sym e i) ∷ post); trailer = last i }))
+          let last : put at (digits 15 total) T ≡ recounted (totalsWith (p .kind) changedOf) T = sym (only-total after T closes said-count said-records) ∙ (λ i. recounted (record { kind = sym kind i; dispositions = sym count i; cents = sym cents i; records = sym records i }) T) in
+          (λ i. put (sym ends i + at) (digits 15 total) (put (sym starts i + 33) (digits 13 new) (joined i)))
+          ∙ two-written 33 at (digits 13 new) (digits 15 total) H R M T fits
+          ∙ sym (around-so p pre (record { kind = r .kind; bytes = repricedRecord new R }) rs post (put at (digits 15 total) T))
+          ∙ (λ i. bytesOf (record { kind = p .kind; header = p .header; dispositions = pre ++ (retold new (sym e i) ∷ post); trailer = last i }))

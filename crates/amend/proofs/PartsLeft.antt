@@ -8,6 +8,7 @@ use lib.ListN.{length, length-append, length-map}
 use Rattle.sequences.specs.All.{All}
 use Rattle.sequences.specs.Part.{part}
 use Rattle.sequences.specs.Sum.{sum}
+use Rattle.sequences.proofs.All.{all-append, all-before, all-after}
 use Rattle.sequences.proofs.Counted.{counted-before, counted-after, counted-append}
 use Rattle.sequences.proofs.Flatten.{map-flatten}
 use Rattle.sequences.proofs.Sum.{sum-append}
@@ -15,17 +16,18 @@ use Rattle.fields.specs.Amount.{mostAmount}
 use Rattle.fields.specs.Digits.{number}
 use Rattle.records.specs.Context.{headerOf}
 use Rattle.records.specs.Limits.{centsLimit, countLimit}
+use Rattle.records.specs.declared.flow_kind.FlowKind.{FlowKind}
 use Rattle.records.specs.declared.kind.RecordKind.{RecordKind}
 use Rattle.records.specs.declared.kind.RecordKind.the-variants.{R14, Ef}
 use Rattle.flow.specs.declared.answer.Totals.{Totals}
 use Rattle.grammar.specs.Grammar.{Typed, Parts, kindsOf, recordsIn, opening, dispositionAmount, dispositionCode, bytesOf, RightDisposition, RightDispositions, AllEqual, RightParts, Grammar}
-use Rattle.grammar.specs.Rules.{Formed, MemberRules}
+use Rattle.grammar.specs.Rules.{Formed, KindRules, MemberRules}
 use Rattle.grammar.specs.Shape.{Disposition}
 use Rattle.grammar.proofs.Bytes.{parts-joined}
 use Rattle.grammar.proofs.Dispositions.{Opened, opened-by, opened-so, Member}
 use Rattle.grammar.proofs.Grammar.{counts-below}
 use Rattle.amend.specs.Withdraw.{renumbered, numberedFrom, recounted}
-use Rattle.amend.proofs.RulesKept.{over-kept, renumbered-formed, renumbered-rules, repricedRecord, repriced-formed, repriced-says, repriced-code, repriced-rules, recounted-formed, recounted-rules}
+use Rattle.amend.proofs.RulesKept.{over-kept, kind-same, renumbered-formed, renumbered-rules, repricedRecord, repriced-formed, repriced-says, repriced-code, repriced-kind, repriced-rules, recounted-formed, recounted-rules}
 
 -- the amounts, and the records, of dispositions
 abbrev pub amounts : List (List Typed) → ℕ
@@ -34,27 +36,32 @@ amounts ds = sum (map dispositionAmount ds)
 abbrev pub sizes : List (List Typed) → ℕ
 sizes ds = sum (map (λ (d : List Typed). length d) ds)
 
--- the totals of a flow with these dispositions
-abbrev pub totalsWith : List (List Typed) → Totals
-totalsWith ds = record { dispositions = length ds; cents = amounts ds; records = 2 + sizes ds }
+-- dispositions of one kind
+abbrev OfKind : FlowKind → List (List Typed) → Type 0
+OfKind q ds = All (KindRules q) (map opening ds)
 
--- the flow with other dispositions: the header as it was, and the trailer with their totals
+-- the totals of a flow of the kind with these dispositions
+abbrev pub totalsWith : FlowKind → List (List Typed) → Totals
+totalsWith q ds = record { kind = q; dispositions = length ds; cents = amounts ds; records = 2 + sizes ds }
+
+-- the flow with other dispositions: its kind and the header as they were, and the trailer with their totals
 abbrev pub leftWith : Parts → List (List Typed) → Parts
-leftWith p ds = record { header = p .header; dispositions = ds; trailer = recounted (totalsWith ds) (p .trailer) }
+leftWith p ds = record { kind = p .kind; header = p .header; dispositions = ds; trailer = recounted (totalsWith (p .kind) ds) (p .trailer) }
 
 -- it keeps the rules where the dispositions do
 pub left-right :
     (p : Parts) (ds : List (List Typed)) → RightParts p → 1 ≤ length ds → RightDispositions (headerOf (p .header) .abi) 1 ds → AllEqual (map dispositionCode ds)
-    → length ds < countLimit → amounts ds < centsLimit → 2 + sizes ds < countLimit → RightParts (leftWith p ds)
-left-right p ds r some each codes few small short =
+    → OfKind (p .kind) ds → length ds < countLimit → amounts ds < centsLimit → 2 + sizes ds < countLimit → RightParts (leftWith p ds)
+left-right p ds r some each codes kinds few small short =
     record {
       header-formed = r .header-formed;
       header-rules = r .header-rules;
       some = some;
       each = each;
       codes = codes;
-      trailer-formed = recounted-formed (totalsWith ds) (p .trailer) (r .trailer-formed) few small short;
-      trailer-rules = recounted-rules (totalsWith ds) (p .trailer) (r .trailer-formed) few small short (headerOf (p .header)) (r .trailer-rules);
+      kinds = kinds;
+      trailer-formed = recounted-formed (totalsWith (p .kind) ds) (p .trailer) (r .trailer-formed) few small short;
+      trailer-rules = recounted-rules (totalsWith (p .kind) ds) (p .trailer) (r .trailer-formed) few small short (headerOf (p .header)) refl (r .trailer-rules);
     }
 
 -- its bytes are its records, joined
@@ -120,6 +127,12 @@ module _ (abi : List ℕ) where
       let one : what (part a n (opening (map (retyped j) d))) ≡ what (part a n (opening d)) = ap what (opening-kept abi (suc j) j (omega arith) d (each .0) a n h) in
       ap₂ (λ (x : A) (xs : List A). x ∷ xs) one (typed-kept what a n (suc j) ds h (omega arith) (each .1))
 
+  typed-kinds : (q : FlowKind) (j : ℕ) (ds : List (List Typed)) → j + length ds ≤ countLimit → RightDispositions abi (suc j) ds → OfKind q ds → OfKind q (typedFrom j ds)
+  typed-kinds q j [] few each kinds = tt
+  typed-kinds q j (d ∷ ds) few each kinds =
+      let one = kind-same (opening d) (opening (map (retyped j) d)) (λ a n h. opening-kept abi (suc j) j (omega arith) d (each .0) a n (h .0)) q (kinds .0) in
+      (one, typed-kinds q (suc j) ds (omega arith) (each .1) (kinds .1))
+
 -- codes that are all equal still are without some
 fewer-equal : (xs ys : List (List ℕ)) (c : List ℕ) → AllEqual (xs ++ (c ∷ ys)) → AllEqual (xs ++ ys)
 fewer-equal xs ys c equal a b m k p q = equal a b (more a (List·Memᴰ·append-cases xs m)) (more b (List·Memᴰ·append-cases xs k)) p q
@@ -137,6 +150,7 @@ pub record Retold (abi : List ℕ) (i new : ℕ) (d : List Typed) : Type 0 where
   pub right : RightDisposition abi i (retold new d)
   pub amount : dispositionAmount (retold new d) ≡ new
   pub code : dispositionCode (retold new d) ≡ dispositionCode d
+  pub kind : (q : FlowKind) → KindRules q (opening d) → KindRules q (opening (retold new d))
   pub size : length (retold new d) ≡ length d
 
 pub retold-so : (abi : List ℕ) (i new : ℕ) (d : List Typed) → new < suc mostAmount → RightDisposition abi i d → Retold abi i new d
@@ -157,6 +171,7 @@ retold-so abi i new d small r = go d (opened-so d (r .order)) (r .order) (r .rec
               };
           amount = repriced-says abi i new rec formed small .1;
           code = repriced-code abi i new rec formed small;
+          kind = repriced-kind abi i new rec formed small;
           size = refl;
         }
 
@@ -202,6 +217,19 @@ module _ (f : List ℕ) (t : Totals) (g : Grammar f t) (pre : List (List Typed))
   codes : AllEqual (map dispositionCode pre ++ (dispositionCode x ∷ map dispositionCode post))
   codes = subst AllEqual (ap (map dispositionCode) split ∙ map-append dispositionCode pre (x ∷ post)) (g .right .codes)
 
+  -- the kinds of those before it, of it and of those after it
+  kinds : OfKind (p .kind) pre × OfKind (p .kind) (x ∷ post)
+  kinds =
+      let P = KindRules (p .kind) in
+      let all : All P (map opening pre ++ map opening (x ∷ post)) = subst (All P) (ap (map opening) split ∙ map-append opening pre (x ∷ post)) (g .right .kinds) in
+      (all-before P (map opening pre) (map opening (x ∷ post)) all, all-after P (map opening pre) (map opening (x ∷ post)) all)
+
+  -- and of those before it with others after them
+  kinds-joined : (ds : List (List Typed)) → OfKind (p .kind) ds → OfKind (p .kind) (pre ++ ds)
+  kinds-joined ds back =
+      let P = KindRules (p .kind) in
+      subst (All P) (sym (map-append opening pre ds)) (all-append P (map opening pre) (map opening ds) (kinds .0) back)
+
   -- without it
   abbrev pub rest : List (List Typed)
   rest = pre ++ typedFrom number-of post
@@ -231,6 +259,7 @@ module _ (f : List ℕ) (t : Totals) (g : Grammar f t) (pre : List (List Typed))
       (omega (arith, rest-count))
       (counted-append (RightDisposition abi) 1 pre (typedFrom number-of post) before (typed-numbered abi number-of post rest-few after))
       (subst AllEqual (sym same) (fewer-equal (map dispositionCode pre) (map dispositionCode post) (dispositionCode x) codes))
+      (kinds-joined (typedFrom number-of post) (typed-kinds abi (p .kind) number-of post rest-few after (kinds .1 .1)))
       (omega (arith, rest-count))
       (omega (arith, rest-cents))
       (omega (arith, rest-records))
@@ -268,6 +297,7 @@ module _ (f : List ℕ) (t : Totals) (g : Grammar f t) (pre : List (List Typed))
         (omega (arith, changed-count, count-split))
         changed-numbered
         (subst AllEqual (sym same) codes)
+        (kinds-joined (retold new x ∷ post) (retold-here .kind (p .kind) (kinds .1 .0), kinds .1 .1))
         (omega (arith, changed-count))
         (omega (arith, changed-cents))
         (omega (arith, changed-records))

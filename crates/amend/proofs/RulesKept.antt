@@ -1,9 +1,9 @@
 -- A record of a disposition with another number, a 14 with another amount, and a trailer with other counts keep their rules. Assumes
 -- nothing.
-use Prim.Native.Nat.{ℕ, suc, _+_, _^_, _≤_, _<_}
+use Prim.Native.Nat.{ℕ, suc, _+_, _-_, _^_, _≤_, _<_}
 use mathlib.Core.List.{List, List·Memᴰ}
 use mathlib.Core.Logic.{_⊎_, inl, inr}
-use mathlib.Core.Path.{_≡_, sym, _∙_, ap, subst}
+use mathlib.Core.Path.{_≡_, refl, sym, _∙_, ap, subst}
 use native.Mathlib.Omega.{arith}
 use lib.ListN.{length, getD}
 use Rattle.sequences.specs.Part.{part, put}
@@ -14,12 +14,15 @@ use Rattle.fields.specs.Digits.{digits, number}
 use Rattle.fields.proofs.Decimal.{written-length}
 use Rattle.records.specs.Amount.{amountIn}
 use Rattle.records.specs.Context.{Header}
-use Rattle.records.specs.Field.{field}
+use Rattle.records.specs.Field.{field, firstOf, lastOf}
+use Rattle.records.specs.FlowKinds.{totalSpan}
 use Rattle.records.specs.Limits.{centsLimit, countLimit}
+use Rattle.records.specs.declared.flow_kind.FlowKind.{FlowKind}
+use Rattle.records.specs.declared.flow_kind.FlowKind.the-variants.{Requests, Recalls}
 use Rattle.records.specs.declared.kind.RecordKind.{RecordKind}
 use Rattle.records.specs.declared.kind.RecordKind.the-variants.{Im, R14, R16, R20, R30, R40, R50, R59, R51, R70, Ef}
 use Rattle.flow.specs.declared.answer.Totals.{Totals}
-use Rattle.grammar.specs.Rules.{Digits, Blank, Present, CalendarDay, Says, Formed, DispositionRules, CoordinatesRules, BesideNumber, MemberRules, TrailerRules}
+use Rattle.grammar.specs.Rules.{Digits, Blank, Present, CalendarDay, Says, Formed, DispositionRules, KindRules, CoordinatesRules, BesideNumber, MemberRules, TotalRules, TrailerRules}
 use Rattle.grammar.proofs.Rules.{says-written, digits-printable}
 use Rattle.amend.specs.Withdraw.{renumbered, recounted}
 
@@ -64,6 +67,20 @@ byte-same i rec other e =
 abbrev BesideAmount : ℕ → ℕ → Type 0
 BesideAmount a n = (10 ≤ a) × ((a + n ≤ 33) ⊎ (46 ≤ a))
 
+-- a 14 stays one of its flow's kind
+pub kind-same : (rec other : List ℕ) → Same BesideAmount rec other → (q : FlowKind) → KindRules q rec → KindRules q other
+kind-same rec other same q r = by q r
+  where
+    causale : part 28 5 other ≡ part 28 5 rec
+    causale = same 28 5 (omega arith, inl (omega arith))
+
+    sign : part 46 1 other ≡ part 46 1 rec
+    sign = same 46 1 (omega arith, inr (omega arith))
+
+    by : (q : FlowKind) → KindRules q rec → KindRules q other
+    by Requests r = (causale ∙ r .0, sign ∙ r .1)
+    by Recalls r = (causale ∙ r .0, sign ∙ r .1)
+
 module _ (abi rec other : List ℕ) where
   disposition-same : Same BesideAmount rec other → Digits (amountIn other) → DispositionRules abi rec → DispositionRules abi other
   disposition-same same amount r =
@@ -71,9 +88,7 @@ module _ (abi rec other : List ℕ) where
       let back : (a n : ℕ) → 46 ≤ a → part a n other ≡ part a n rec = λ a n h. same a n (omega arith, inr h) in
       record {
         payable = subst CalendarDay (sym (front 22 6 (omega arith) (omega arith))) (r .payable);
-        causale-code = front 28 5 (omega arith) (omega arith) ∙ r .causale-code;
         amount = amount;
-        sign-code = back 46 1 (omega arith) ∙ r .sign-code;
         bank = (subst Digits (sym (back 47 5 (omega arith))) (r .bank .0), back 47 5 (omega arith) ∙ r .bank .1);
         branch = subst (λ (bs : List ℕ). Blank bs ⊎ Digits bs) (sym (back 52 5 (omega arith))) (r .branch);
         code-type = subst (λ (b : ℕ). List·Memᴰ b (text " 1234569")) (sym (byte-same 96 rec other (back 96 1 (omega arith)))) (r .code-type);
@@ -135,6 +150,9 @@ module _ (abi : List ℕ) (i new : ℕ) (rec : List ℕ) (formed : Formed R14 re
   pub repriced-code : field 92 96 (repricedRecord new rec) ≡ field 92 96 rec
   repriced-code = kept 91 5 (inr (omega arith))
 
+  pub repriced-kind : (q : FlowKind) → KindRules q rec → KindRules q (repricedRecord new rec)
+  repriced-kind = kind-same rec (repricedRecord new rec) (λ a n h. kept a n (h .1))
+
   pub repriced-rules : MemberRules R14 abi i rec → MemberRules R14 abi i (repricedRecord new rec)
   repriced-rules r =
       record {
@@ -142,25 +160,58 @@ module _ (abi : List ℕ) (i new : ℕ) (rec : List ℕ) (formed : Formed R14 re
         others = disposition-same abi rec (repricedRecord new rec) (λ a n h. kept a n (h .1)) (repriced-says .0) (r .others);
       }
 
--- a trailer with other totals
-pub recounted-length : (t : Totals) (rec : List ℕ) → length rec ≡ 120 → length (recounted t rec) ≡ 120
-recounted-length t rec whole =
-    let one = over-length 45 7 (t .dispositions) rec whole (omega arith) in
-    let two = over-length 52 15 (t .cents) (put 45 (digits 7 (t .dispositions)) rec) one (omega arith) in
-    over-length 82 7 (t .records) (put 52 (digits 15 (t .cents)) (put 45 (digits 7 (t .dispositions)) rec)) two (omega arith)
+-- where a trailer has its total: fifteen positions between its two counts
+pub total-place : (q : FlowKind) → let s = totalSpan q in (53 ≤ firstOf s) × (lastOf s ≡ firstOf s - 1 + 15) × (lastOf s ≤ 82)
+total-place Requests = (omega arith, refl, omega arith)
+total-place Recalls = (omega arith, refl, omega arith)
+
+-- the index at which it starts
+abbrev pub totalFrom : FlowKind → ℕ
+totalFrom q = firstOf (totalSpan q) - 1
+
+-- a trailer that says another total there, and at the other of the two places the same as before
+total-said :
+    (q : FlowKind) (old cents : ℕ) (rec other : List ℕ) → Says cents (part (totalFrom q) 15 other)
+    → ((b : ℕ) → 52 ≤ b → b + 15 ≤ 82 → (b + 15 ≤ totalFrom q) ⊎ (totalFrom q + 15 ≤ b) → part b 15 other ≡ part b 15 rec) → TotalRules q old rec → TotalRules q cents other
+total-said Requests old cents rec other says kept r = (says, subst (Says 0) (sym (kept 67 (omega arith) (omega arith) (inr (omega arith)))) (r .1))
+total-said Recalls old cents rec other says kept r = (subst (Says 0) (sym (kept 52 (omega arith) (omega arith) (inl (omega arith)))) (r .0), says)
+
+-- a trailer with other totals: with the number of dispositions, with the total too, and with all three
+module _ (t : Totals) (rec : List ℕ) where
+  abbrev pub withCount : List ℕ
+  withCount = put 45 (digits 7 (t .dispositions)) rec
+
+  abbrev pub withTotal : List ℕ
+  withTotal = put (totalFrom (t .kind)) (digits 15 (t .cents)) withCount
+
+module _ (t : Totals) (rec : List ℕ) (whole : length rec ≡ 120) where
+  pub count-length : length (withCount t rec) ≡ 120
+  count-length = over-length 45 7 (t .dispositions) rec whole (omega arith)
+
+  pub total-length : length (withTotal t rec) ≡ 120
+  total-length = over-length (totalFrom (t .kind)) 15 (t .cents) (withCount t rec) count-length (omega (arith, total-place (t .kind)))
+
+  pub recounted-length : length (recounted t rec) ≡ 120
+  recounted-length = over-length 82 7 (t .records) (withTotal t rec) total-length (omega arith)
 
 module _ (t : Totals) (rec : List ℕ) (formed : Formed Ef rec) (few : t .dispositions < countLimit) (small : t .cents < centsLimit) (short : t .records < countLimit) where
+  abbrev at : ℕ
+  at = totalFrom (t .kind)
+
   abbrev one : List ℕ
-  one = put 45 (digits 7 (t .dispositions)) rec
+  one = withCount t rec
 
   abbrev two : List ℕ
-  two = put 52 (digits 15 (t .cents)) one
+  two = withTotal t rec
+
+  place : (52 ≤ at) × (at + 15 ≤ 82)
+  place = let found = total-place (t .kind) in (omega arith, omega arith)
 
   formed-one : Formed Ef one
   formed-one = over-formed 45 7 (t .dispositions) rec (formed .whole) (omega arith) Ef (omega arith) few formed
 
   formed-two : Formed Ef two
-  formed-two = over-formed 52 15 (t .cents) one (formed-one .whole) (omega arith) Ef (omega arith) small formed-one
+  formed-two = over-formed at 15 (t .cents) one (formed-one .whole) (omega (arith, place)) Ef (omega (arith, place)) small formed-one
 
   pub recounted-formed : Formed Ef (recounted t rec)
   recounted-formed = over-formed 82 7 (t .records) two (formed-two .whole) (omega arith) Ef (omega arith) short formed-two
@@ -168,29 +219,29 @@ module _ (t : Totals) (rec : List ℕ) (formed : Formed Ef rec) (few : t .dispos
   kept-one : (b w : ℕ) → (b + w ≤ 45) ⊎ (52 ≤ b) → part b w one ≡ part b w rec
   kept-one = over-kept 45 7 (t .dispositions) rec (formed .whole) (omega arith)
 
-  kept-two : (b w : ℕ) → (b + w ≤ 52) ⊎ (67 ≤ b) → part b w two ≡ part b w one
-  kept-two = over-kept 52 15 (t .cents) one (formed-one .whole) (omega arith)
+  kept-two : (b w : ℕ) → (b + w ≤ at) ⊎ (at + 15 ≤ b) → part b w two ≡ part b w one
+  kept-two = over-kept at 15 (t .cents) one (formed-one .whole) (omega (arith, place))
 
   kept-three : (b w : ℕ) → (b + w ≤ 82) ⊎ (89 ≤ b) → part b w (recounted t rec) ≡ part b w two
   kept-three = over-kept 82 7 (t .records) two (formed-two .whole) (omega arith)
 
-  -- what stands before them, between the second and the third, and after them
-  pub kept-front : (b w : ℕ) → b + w ≤ 45 → part b w (recounted t rec) ≡ part b w rec
-  kept-front b w h = kept-three b w (inl (omega arith)) ∙ kept-two b w (inl (omega arith)) ∙ kept-one b w (inl h)
+  -- what stands before them, and what stands after the first and outside of the others
+  kept-front : (b w : ℕ) → b + w ≤ 45 → part b w (recounted t rec) ≡ part b w rec
+  kept-front b w h = kept-three b w (inl (omega arith)) ∙ kept-two b w (inl (omega (arith, place))) ∙ kept-one b w (inl h)
 
-  pub kept-between : (b w : ℕ) → 67 ≤ b → (b + w ≤ 82) ⊎ (89 ≤ b) → part b w (recounted t rec) ≡ part b w rec
-  kept-between b w h o = kept-three b w o ∙ kept-two b w (inr h) ∙ kept-one b w (inr (omega arith))
+  kept-between : (b w : ℕ) → 52 ≤ b → (b + w ≤ at) ⊎ (at + 15 ≤ b) → (b + w ≤ 82) ⊎ (89 ≤ b) → part b w (recounted t rec) ≡ part b w rec
+  kept-between b w h o p = kept-three b w p ∙ kept-two b w o ∙ kept-one b w (inr h)
 
-  pub recounted-rules : (h : Header) {t₀ : Totals} → TrailerRules h t₀ rec → TrailerRules h t (recounted t rec)
-  recounted-rules h r =
+  pub recounted-rules : (h : Header) {t₀ : Totals} → t₀ .kind ≡ t .kind → TrailerRules h t₀ rec → TrailerRules h t (recounted t rec)
+  recounted-rules h {t₀} kind r =
+      let says = subst (Says (t .cents)) (sym (kept-three at 15 (inl (omega (arith, place))))) (over-says at 15 (t .cents) one (formed-one .whole) (omega (arith, place)) small) in
       record {
         mittente = kept-front 3 5 (omega arith) ∙ r .mittente;
         ricevente = kept-front 8 5 (omega arith) ∙ r .ricevente;
         created = kept-front 13 6 (omega arith) ∙ r .created;
         name = kept-front 19 20 (omega arith) ∙ r .name;
-        dispositions-said = subst (Says (t .dispositions)) (sym (kept-three 45 7 (inl (omega arith)) ∙ kept-two 45 7 (inl (omega arith)))) (over-says 45 7 (t .dispositions) rec (formed .whole) (omega arith) few);
-        cents-said = subst (Says (t .cents)) (sym (kept-three 52 15 (inl (omega arith)))) (over-says 52 15 (t .cents) one (formed-one .whole) (omega arith) small);
-        zeros = subst (Says 0) (sym (kept-between 67 15 (omega arith) (inl (omega arith)))) (r .zeros);
+        dispositions-said = subst (Says (t .dispositions)) (sym (kept-three 45 7 (inl (omega arith)) ∙ kept-two 45 7 (inl (omega (arith, place))))) (over-says 45 7 (t .dispositions) rec (formed .whole) (omega arith) few);
+        cents-said = total-said (t .kind) (t₀ .cents) (t .cents) rec (recounted t rec) says (λ b h l o. kept-between b 15 h o (inl l)) (subst (λ (q : FlowKind). TotalRules q (t₀ .cents) rec) kind (r .cents-said));
         records-said = over-says 82 7 (t .records) two (formed-two .whole) (omega arith) short;
-        currency-code = kept-between 113 1 (omega arith) (inr (omega arith)) ∙ r .currency-code;
+        currency-code = kept-between 113 1 (omega arith) (inr (omega (arith, place))) (inr (omega arith)) ∙ r .currency-code;
       }

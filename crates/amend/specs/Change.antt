@@ -1,5 +1,5 @@
 -- Change the amount of disposition k (document 01, "Questions and changes": the reader's refusals, 15, 16, 17; only 34-46 of that record 14
--- and 53-67 of EF may differ; new total = old total - old amount + new amount). Assumes nothing.
+-- and 53-67 of EF may differ, of a recall 68-82 (document 02, E1); new total = old total - old amount + new amount). Assumes nothing.
 use Prim.Native.Nat.{ℕ, _+_, _-_}
 use mathlib.Core.Bool.{cond}
 use mathlib.Core.List.{List}
@@ -9,6 +9,7 @@ use Rattle.fields.specs.Amount.{mostAmount}
 use Rattle.fields.specs.Digits.{digits}
 use Rattle.records.specs.Amount.{amountSpan}
 use Rattle.records.specs.Field.{firstOf, width}
+use Rattle.records.specs.FlowKinds.{totalSpan}
 use Rattle.records.specs.Limits.{mostCents}
 use Rattle.flow.specs.Find.{findWithTotals}
 use Rattle.flow.specs.Verdict.{accepted, ofCall}
@@ -20,11 +21,11 @@ use Rattle.amend.specs.Amended.{Amended, unchanged, whereFound, writtenI
 abbrev pub totalsChanged : WithTotals → ℕ → Totals
 totalsChanged v new =
     let t = v .totals in
-    record { dispositions = t .dispositions; cents = t .cents - v .location .cents + new; records = t .records }
+    record { kind = t .kind; dispositions = t .dispositions; cents = t .cents - v .location .cents + new; records = t .records }
 
--- the flow with the new amount in record `first`, a 14, and the total in its last record, the trailer
+-- the flow with the new amount in record `first`, a 14, and the total in its last record, the trailer, at the place of its kind
 abbrev pub changed : ℕ → ℕ → Totals → List ℕ → List ℕ
-changed first new t f = writtenInRecord (t .records) 53 (digits 15 (t .cents)) (writtenInRecord first (firstOf amountSpan) (digits (width amountSpan) new) f)
+changed first new t f = writtenInRecord (t .records) (firstOf (totalSpan (t .kind))) (digits 15 (t .cents)) (writtenInRecord first (firstOf amountSpan) (digits (width amountSpan) new) f)
 
 -- disposition k stands in the flow: 16, then 17, then the change
 abbrev pub changeAt : WithTotals → ℕ → List ℕ → Amended

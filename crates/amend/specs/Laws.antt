@@ -7,6 +7,7 @@ use lib.ListN.{length, take, getD, replicate}
 use Rattle.fields.specs.Amount.{mostAmount}
 use Rattle.records.specs.Amount.{amountSpan}
 use Rattle.records.specs.Field.{Span, _to_, firstOf, lastOf, byteAt}
+use Rattle.records.specs.FlowKinds.{totalSpan}
 use Rattle.records.specs.Limits.{mostCents}
 use Rattle.flow.specs.Find.{IsNumber, find}
 use Rattle.flow.specs.Judge.{judge}
@@ -73,15 +74,16 @@ pub record Lies (i r : ℕ) (s : Span) : Type 0 where
   pub starts : 120 * (r - 1) + (firstOf s - 1) ≤ i
   pub ends : i < 120 * (r - 1) + lastOf s
 
--- "only 34-46 of that record 14 and 53-67 of EF may differ", where the 14 is record `first` and EF record n
-pub record AmountOnly (f left : List ℕ) (n first : ℕ) : Type 0 where
+-- "only 34-46 of that record 14 and 53-67 of EF may differ", of a recall 68-82, where the 14 is record `first` and the flow has the totals t, so
+-- that EF is its last record
+pub record AmountOnly (f left : List ℕ) (t : Totals) (first : ℕ) : Type 0 where
   pub sizes : length left ≡ length f
-  pub bytes : (i : ℕ) → ¬ Lies i first amountSpan → ¬ Lies i n (53 to 67) → getD left i 0 ≡ getD f i 0
+  pub bytes : (i : ℕ) → ¬ Lies i first amountSpan → ¬ Lies i (t .records) (totalSpan (t .kind)) → getD left i 0 ≡ getD f i 0
 
 abbrev pub ChangeTouches : Type 0
 ChangeTouches =
     (f : List ℕ) (k new : ℕ) (t : Totals) (s : Location) → judge f ≡ accepted t → find f k ≡ accepted s
-    → AmountOnly f (change f k new .bytes) (t .records) (s .first)
+    → AmountOnly f (change f k new .bytes) t (s .first)
 
 -- position p lies outside of spans
 abbrev pub Outside : List Span → ℕ → Type 0
@@ -94,17 +96,17 @@ pub record SameBut (ss : List Span) (rec other : List ℕ) : Type 0 where
   pub bytes : (p : ℕ) → 1 ≤ p → Outside ss p → byteAt p rec ≡ byteAt p other
 
 -- "its records go, later ones move up in order; among those kept only 4-10 of the later dispositions and 46-52, 53-67, 83-89 of EF may
--- differ": each record of the flow left beside the one that it came from, in a flow of n records from which m go, the record `first` the
--- first of them
-pub record Moved (f left : List ℕ) (n first m : ℕ) : Type 0 where
+-- differ", of a recall 68-82 for 53-67: each record of the flow left beside the one that it came from, in a flow with the totals t from which m
+-- records go, the record `first` the first of them
+pub record Moved (f left : List ℕ) (t : Totals) (first m : ℕ) : Type 0 where
   pub before : (r : ℕ) → 1 ≤ r → r < first → recordAt (r - 1) left ≡ recordAt (r - 1) f
-  pub after : (r : ℕ) → first ≤ r → r < n - m → SameBut ((4 to 10) ∷ []) (recordAt (r - 1) left) (recordAt (r + m - 1) f)
-  pub trailer : SameBut ((46 to 52) ∷ (53 to 67) ∷ (83 to 89) ∷ []) (recordAt (n - m - 1) left) (recordAt (n - 1) f)
+  pub after : (r : ℕ) → first ≤ r → r < t .records - m → SameBut ((4 to 10) ∷ []) (recordAt (r - 1) left) (recordAt (r + m - 1) f)
+  pub trailer : SameBut ((46 to 52) ∷ totalSpan (t .kind) ∷ (83 to 89) ∷ []) (recordAt (t .records - m - 1) left) (recordAt (t .records - 1) f)
 
 abbrev pub WithdrawTouches : Type 0
 WithdrawTouches =
     (f : List ℕ) (k : ℕ) (t left : Totals) (s : Location) → judge f ≡ accepted t → find f k ≡ accepted s → withdraw f k .answer ≡ accepted left
-    → Moved f (flowLeft (withdraw f k)) (t .records) (s .first) (s .records) × (left .records ≡ t .records - s .records)
+    → Moved f (flowLeft (withdraw f k)) t (s .first) (s .records) × (left .records ≡ t .records - s .records)
 
 -- what an answer, a length and bytes stand for on paper determines them
 abbrev pub AmendedDetermined : Type 0

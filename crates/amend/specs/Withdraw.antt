@@ -1,6 +1,6 @@
 -- Withdraw disposition k (document 01, "Questions and changes": the reader's refusals, 15, 18; its records go, later ones move up in
--- order; among those kept only 4-10 of the later dispositions and 46-52, 53-67, 83-89 of EF may differ; the freed bytes at the end become
--- blanks; the new length is returned too). Assumes nothing.
+-- order; among those kept only 4-10 of the later dispositions and 46-52, 53-67, of a recall 68-82 (document 02, E1), 83-89 of EF may differ;
+-- the freed bytes at the end become blanks; the new length is returned too). Assumes nothing.
 use Prim.Native.Nat.{ℕ, suc, _+_, _-_, _*_}
 use mathlib.Core.Bool.{cond}
 use mathlib.Core.List.{List, [], _∷_, _++_, map, flatten}
@@ -8,6 +8,8 @@ use lib.Dec.{ltb}
 use lib.ListN.{length, take, drop, replicate}
 use Rattle.sequences.specs.Part.{put}
 use Rattle.fields.specs.Digits.{digits}
+use Rattle.records.specs.Field.{firstOf}
+use Rattle.records.specs.FlowKinds.{totalSpan}
 use Rattle.records.specs.Kinds.{isOpening}
 use Rattle.flow.specs.Find.{dispositionsIn, findWithTotals}
 use Rattle.flow.specs.Records.{recordAt}
@@ -38,11 +40,11 @@ renumberedFrom j (rec ∷ recs) = let i = j + cond (isOpening rec) 1 0 in renumb
 abbrev pub totalsLeft : WithTotals → Totals
 totalsLeft v =
     let t = v .totals in
-    record { dispositions = t .dispositions - 1; cents = t .cents - v .location .cents; records = t .records - v .location .records }
+    record { kind = t .kind; dispositions = t .dispositions - 1; cents = t .cents - v .location .cents; records = t .records - v .location .records }
 
--- the trailer with other totals: 46-52, 53-67 and 83-89
+-- the trailer with other totals: 46-52, the total at the place of its kind, and 83-89
 abbrev pub recounted : Totals → List ℕ → List ℕ
-recounted t rec = writtenAt 83 (digits 7 (t .records)) (writtenAt 53 (digits 15 (t .cents)) (writtenAt 46 (digits 7 (t .dispositions)) rec))
+recounted t rec = writtenAt 83 (digits 7 (t .records)) (writtenAt (firstOf (totalSpan (t .kind))) (digits 15 (t .cents)) (writtenAt 46 (digits 7 (t .dispositions)) rec))
 
 -- for the contract of a private function: a flow of t's records with these totals in the last of them
 abbrev pub countedAt : Totals → List ℕ → List ℕ

@@ -13,11 +13,13 @@ use flow::Totals;
 use records::AMOUNT_FIRST;
 use records::AMOUNT_LAST;
 use records::MOST_CENTS;
+use records::total_first;
+use records::total_last;
 
 // Gives disposition k the amount, and answers the totals of the flow left. Refused, in this
 // order: what the reader refuses; 15, no such disposition; 16, an amount of more than thirteen digits;
-// 17, a total of more than fifteen. It writes 34-46 of the disposition's record 14 and 53-67 of the
-// trailer, and where it is refused nothing.
+// 17, a total of more than fifteen. It writes 34-46 of the disposition's record 14 and the total in the
+// trailer, at 53-67 or, of a recall, at 68-82; and where it is refused nothing.
 pub fn change(flow: &mut [u8], k: u64, cents: u64) -> Answer
     ensures { λ r. ⌜ amended r (length (now (flow .entry))) (now (flow .exit)) ≡ Change·change (now (flow .entry)) k cents ⌝ }
 {
@@ -29,7 +31,9 @@ pub fn change(flow: &mut [u8], k: u64, cents: u64) -> Answer
             }
             let location = found.location;
             let before = found.totals;
+            let kind = before.kind;
             let totals = Totals {
+                kind,
                 dispositions: before.dispositions,
                 cents: before.cents - location.cents + cents,
                 records: before.records,
@@ -38,7 +42,13 @@ pub fn change(flow: &mut [u8], k: u64, cents: u64) -> Answer
                 return Answer::Refused(flow::refusal_of_call(TOTAL_TOO_LARGE));
             }
             place_number(flow, location.first, AMOUNT_FIRST, AMOUNT_LAST, cents);
-            place_number(flow, totals.records, 53, 67, totals.cents);
+            place_number(
+                flow,
+                totals.records,
+                total_first(kind),
+                total_last(kind),
+                totals.cents,
+            );
             Answer::Accepted(totals)
         }
     }

@@ -19,6 +19,8 @@ use flow::FoundWithTotals;
 use flow::Refusal;
 use flow::Totals;
 use flow::as_index;
+use records::total_first;
+use records::total_last;
 use records::write_number;
 
 // What a withdrawal answers: the totals of the flow left and its length; or the refusal, and the
@@ -43,7 +45,9 @@ pub fn withdraw(flow: &mut [u8], k: u64) -> Withdrawn
             if before.dispositions <= 1 {
                 return refused(flow::refusal_of_call(ONLY_DISPOSITION), flow.len());
             }
+            let kind = before.kind;
             let totals = Totals {
+                kind,
                 dispositions: before.dispositions - 1,
                 cents: before.cents - location.cents,
                 records: before.records - location.records,
@@ -119,13 +123,14 @@ fn recount(flow: &mut [u8], totals: Totals)
     write_totals(&mut flow[at..at + 120], totals);
 }
 
-// Writes 46-52, 53-67 and 83-89 of a trailer.
+// Writes 46-52, the total at the place of its kind, and 83-89 of a trailer.
 fn write_totals(rec: &mut [u8], totals: Totals)
     requires { ⌜ length (now rec) ≡ 120 ⌝ }
     ensures { λ _. ⌜ now (rec .exit) ≡ recounted totals (now (rec .entry)) ⌝ }
 {
     write_number(rec, 46, 52, totals.dispositions);
-    write_number(rec, 53, 67, totals.cents);
+    let kind = totals.kind;
+    write_number(rec, total_first(kind), total_last(kind), totals.cents);
     write_number(rec, 83, 89, totals.records);
 }
 

@@ -6,6 +6,8 @@ use native.Mathlib.Omega.{arith}
 use lib.ListN.{length, getD}
 use Rattle.fields.specs.FieldVerdict.{FieldVerdict}
 use Rattle.fields.specs.FieldVerdict.{accepted as FieldVerdict·accepted, refused as FieldVerdict·refused}
+use Rattle.records.specs.declared.flow_kind.FlowKind.{FlowKind}
+use Rattle.records.specs.declared.flow_kind.FlowKind.the-variants.{Requests, Recalls}
 use Rattle.flow.specs.Output.{output}
 use Rattle.flow.specs.Verdict.{Verdict, accepted, refused, refusal}
 use Rattle.flow.specs.declared.answer.Refusal.{Refusal}
@@ -20,7 +22,7 @@ use Rattle.amend.specs.Change.{change}
 use Rattle.amend.specs.Withdraw.{withdraw}
 use Rattle.amend.proofs.Answered.{refused-untouched}
 use Rattle.capi.specs.Laws.{RefusedLeaves, ReturnedTells}
-use Rattle.capi.specs.Returned.{Returned, returnedThree, ofNumber, ofRefusal, ofVerdict, ofFound, ofOutput}
+use Rattle.capi.specs.Returned.{Returned, returnedFive, kindEntry, ofNumber, ofRefusal, ofVerdict, ofFound, ofOutput}
 
 -- an output is written where the call is accepted
 output-alone : (v : Verdict Totals) (bytes out : List ℕ) → ofOutput (output v bytes out) .status ≡ 0 → output v bytes out .bytes ≡ out
@@ -56,7 +58,7 @@ abbrev entry : ℕ → Returned → ℕ
 entry i r = getD (r .entries) i 0
 
 -- what two calls that return the same have in common
-module _ {s a b c l s′ a′ b′ c′ l′ : ℕ} (e : returnedThree s a b c l ≡ returnedThree s′ a′ b′ c′ l′) where
+module _ {s a b c l k s′ a′ b′ c′ l′ k′ : ℕ} (e : returnedFive s a b c l k ≡ returnedFive s′ a′ b′ c′ l′ k′) where
   status : s ≡ s′
   status = ap (λ (r : Returned). r .status) e
 
@@ -72,11 +74,21 @@ module _ {s a b c l s′ a′ b′ c′ l′ : ℕ} (e : returnedThree s a b c l
   fourth : l ≡ l′
   fourth = ap (entry 3) e
 
+  fifth : k ≡ k′
+  fifth = ap (entry 4) e
+
+-- each kind has its own number
+kinds : (p q : FlowKind) → kindEntry p ≡ kindEntry q → p ≡ q
+kinds Requests Requests e = refl
+kinds Requests Recalls e = absurd (omega arith)
+kinds Recalls Requests e = absurd (omega arith)
+kinds Recalls Recalls e = refl
+
 refusals : (x y : Refusal) (l m : ℕ) → ofRefusal x l ≡ ofRefusal y m → x ≡ y
 refusals x y l m e = λ i. refusal (first e i) (second e i) (third e i)
 
 verdicts : (v u : Verdict Totals) (l m : ℕ) → ofVerdict v l ≡ ofVerdict u m → (v ≡ u) × (l ≡ m)
-verdicts (accepted t) (accepted u) l m e = (λ i. accepted (record { dispositions = first e i; cents = second e i; records = third e i }), fourth e)
+verdicts (accepted t) (accepted u) l m e = (λ i. accepted (record { kind = kinds (t .kind) (u .kind) (fifth e) i; dispositions = first e i; cents = second e i; records = third e i }), fourth e)
 verdicts (accepted t) (refused y) l m e = absurd (omega (arith, status e))
 verdicts (refused x) (accepted u) l m e = absurd (omega (arith, status e))
 verdicts (refused x) (refused y) l m e = (ap refused (refusals x y l m e), fourth e)

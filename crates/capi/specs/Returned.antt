@@ -3,6 +3,8 @@ use Prim.Native.Nat.{ℕ}
 use mathlib.Core.List.{List, [], _∷_}
 use Rattle.fields.specs.FieldVerdict.{FieldVerdict, accepted, refused}
 use Rattle.fields.specs.Calendar.{Day}
+use Rattle.records.specs.declared.flow_kind.FlowKind.{FlowKind}
+use Rattle.records.specs.declared.flow_kind.FlowKind.the-variants.{Requests, Recalls}
 use Rattle.flow.specs.Output.{Output}
 use Rattle.flow.specs.Verdict.{Verdict, ofCall}
 use Rattle.flow.specs.Verdict.{accepted as Verdict·accepted, refused as Verdict·refused}
@@ -19,9 +21,17 @@ pub record Returned : Type 0 where
 abbrev pub returned : ℕ → List ℕ → Returned
 returned s es = record { status = s; entries = es }
 
--- three numbers, the length, and four zeros
+-- three numbers, the length, the kind of flow, and three zeros; 0 where there is no kind to tell
+abbrev pub returnedFive : ℕ → ℕ → ℕ → ℕ → ℕ → ℕ → Returned
+returnedFive s a b c l k = returned s (a ∷ b ∷ c ∷ l ∷ k ∷ 0 ∷ 0 ∷ 0 ∷ [])
+
 abbrev pub returnedThree : ℕ → ℕ → ℕ → ℕ → ℕ → Returned
-returnedThree s a b c l = returned s (a ∷ b ∷ c ∷ l ∷ 0 ∷ 0 ∷ 0 ∷ 0 ∷ [])
+returnedThree s a b c l = returnedFive s a b c l 0
+
+-- the kinds of flow by their numbers
+abbrev pub kindEntry : FlowKind → ℕ
+kindEntry Requests = 1
+kindEntry Recalls = 2
 
 -- refused is 0
 abbrev pub ofRefusal : Refusal → ℕ → Returned
@@ -29,7 +39,7 @@ ofRefusal x l = returnedThree 0 (x .number) (x .«record») (x .position) l
 
 -- accepted is 1: the totals
 abbrev pub ofVerdict : Verdict Totals → ℕ → Returned
-ofVerdict (Verdict·accepted t) l = returnedThree 1 (t .dispositions) (t .cents) (t .records) l
+ofVerdict (Verdict·accepted t) l = returnedFive 1 (t .dispositions) (t .cents) (t .records) l (kindEntry (t .kind))
 ofVerdict (Verdict·refused x) l = ofRefusal x l
 
 -- or where a disposition stands: its first record, its records and its cents

@@ -3,7 +3,8 @@
 // A slice is a pointer and a length, and `answer` a pointer to eight numbers of 64 bits. Each function
 // returns 1 where the call is accepted and 0 where it is refused, and writes all eight entries of
 // `answer`: of an accepted call three numbers, of a refused one number, record and position; then the
-// length where the call has one, else 0; then four zeros. No function has a `requires`, and a refused
+// length where the call has one, else 0; then the kind of flow, 1 requests and 2 recalls, where an
+// accepted call tells it, else 0; then three zeros. No function has a `requires`, and a refused
 // call writes nothing but `answer`.
 ghost use mathlib.Core.Path.{_≡_};
 ghost use Rattle.fields.specs.Amount.{amountField};
@@ -58,7 +59,7 @@ pub extern "C" fn mav_date(field: &[u8], answer: &mut [u64; 8]) -> u8
     }
 }
 
-// Reads a flow: its dispositions, cents and records; or its first fault.
+// Reads a flow: its dispositions, cents, records and kind; or its first fault.
 #[no_mangle]
 pub extern "C" fn mav_read(flow: &[u8], answer: &mut [u64; 8]) -> u8
     ensures { λ r. ⌜ returned r (now (answer .exit)) ≡ ofVerdict (judge (now (flow .entry))) 0 ⌝ }

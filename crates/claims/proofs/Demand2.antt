@@ -2,7 +2,7 @@
 use Rattle.flow.proofs.Accepted.{accepted-exact}
 use Rattle.flow.proofs.Dispositions.{part-placed}
 use Rattle.grammar.proofs.Grammar.{grammar-exact}
-use Rattle.grammar.proofs.Parts.{parts-exact, places-exact, opening-exact}
+use Rattle.grammar.proofs.Parts.{one-kind, parts-exact, places-exact, opening-exact}
 use Rattle.list.proofs.Answered.{write-answers, write-leaves, read-back-accepted, read-back-answers, read-back-leaves}
 use Rattle.list.proofs.ListItems.{items-exact}
 use Rattle.list.proofs.Rewritten.{own-list, own-items, rewritten-exact, rewritten-same, unchecked-only}
@@ -15,6 +15,7 @@ demand2 =
     record {
       accepted-exactly = grammar-exact;
       sums = accepted-exact;
+      one-kind = one-kind;
       parts = parts-exact;
       part-placed = part-placed;
       places = places-exact;

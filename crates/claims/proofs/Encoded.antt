@@ -1,6 +1,6 @@
 -- Records that items encode, with another number, another amount or other counts written over: what the items encode then. Assumes
 -- nothing.
-use Prim.Native.Nat.{ℕ, _+_, _≤_}
+use Prim.Native.Nat.{ℕ, _+_, _-_, _≤_}
 use mathlib.Core.Bool.{false}
 use mathlib.Core.List.{List, [], _∷_, _++_}
 use mathlib.Core.Logic.{inl}
@@ -14,18 +14,21 @@ use Rattle.sequences.proofs.All.{all-append}
 use Rattle.sequences.proofs.Part.{part-at-most, part-put, take-put, drop-put}
 use Rattle.fields.specs.Digits.{digits}
 use Rattle.fields.proofs.Decimal.{written-length}
-use Rattle.records.specs.Constants.{causale, sign, currency}
-use Rattle.records.specs.Field.{_to_}
+use Rattle.records.specs.Constants.{currency}
+use Rattle.records.specs.Field.{_to_, firstOf}
+use Rattle.records.specs.FlowKinds.{causale, sign, totalSpan, totalAt}
 use Rattle.records.specs.Kinds.{typeOf, Opens, role, heads}
+use Rattle.records.specs.declared.flow_kind.FlowKind.{FlowKind}
+use Rattle.records.specs.declared.flow_kind.FlowKind.the-variants.{Requests, Recalls}
 use Rattle.records.specs.declared.kind.RecordKind.{RecordKind}
 use Rattle.records.specs.declared.kind.RecordKind.the-variants.{R14, Ef}
 use Rattle.records.proofs.EachKind.{each-kind}
 use Rattle.grammar.proofs.Dispositions.{Detail, each-detail}
-use Rattle.list.specs.Encode.{Placed, place, fill, blanks, abiIn, copiedIn, supplied, bodyPlaced, encodeItem, encodeTrailer}
+use Rattle.list.specs.Encode.{Placed, place, fill, blanks, abiIn, copiedIn, supplied, bodyPlaced, HeaderMeant, encodeItem, encodeTrailer}
 use Rattle.list.specs.Items.{Item, recordKind, Proper}
 use Rattle.list.specs.Table.{recordOf, carried, bodyLength}
 use Rattle.list.proofs.Carried.{body-fits, body-outside}
-use Rattle.list.proofs.OneRecord.{abi-short}
+use Rattle.list.proofs.OneRecord.{causale-length, sign-length, abi-short}
 use Rattle.list.proofs.Placing.{Fits, Outside, fill-again}
 use Rattle.list.proofs.RecordsAgain.{kindFor}
 use Rattle.list.proofs.TableSpans.{carried-within, carried-after-number}
@@ -33,16 +36,10 @@ use Rattle.flow.specs.declared.answer.Totals.{Totals}
 use Rattle.amend.specs.Withdraw.{renumbered, recounted}
 use Rattle.claims.specs.Ledger.{repriced}
 
--- the trailer with other totals
-module _ (header : List ℕ) (t u : Totals) where
-  abbrev copied : List ℕ
-  copied = copiedIn header
-
+-- the trailer with other totals of the same kind
+module _ (header : List ℕ) (t u : Totals) (same : t .kind ≡ u .kind) where
   abbrev front : List Placed
-  front = place 2 (typeOf Ef) ∷ place 4 copied ∷ []
-
-  abbrev zeros : Placed
-  zeros = place 68 (digits 15 0)
+  front = place 2 (typeOf Ef) ∷ place 4 (copiedIn header) ∷ []
 
   abbrev money : Placed
   money = place 114 currency
@@ -50,42 +47,83 @@ module _ (header : List ℕ) (t u : Totals) where
   sizes : (w v u : ℕ) → length (digits w v) ≡ length (digits w u)
   sizes w v u = written-length w v ∙ sym (written-length w u)
 
-  pub trailer-recounted : recounted u (encodeTrailer header t) ≡ encodeTrailer header u
+  seven : (v : ℕ) → length (digits 7 v) ≡ 7
+  seven = written-length 7
+
+  fifteen : (v : ℕ) → length (digits 15 v) ≡ 15
+  fifteen = written-length 15
+
+  -- each place lies within the record
+  front-fits : All Fits front
+  front-fits = (omega arith, (omega (arith, part-at-most 0 42 header), tt))
+
+  count : (v : ℕ) → Fits (place 46 (digits 7 v))
+  count v = omega (arith, seven v)
+
+  asked : (v : ℕ) → Fits (place 53 (digits 15 v))
+  asked v = omega (arith, fifteen v)
+
+  recalled : (v : ℕ) → Fits (place 68 (digits 15 v))
+  recalled v = omega (arith, fifteen v)
+
+  records : (v : ℕ) → Fits (place 83 (digits 7 v))
+  records v = omega (arith, seven v)
+
+  last : Fits money
+  last = omega arith
+
+  -- with a count d, the sum c at the place of the kind and n records
+  abbrev told : FlowKind → ℕ → ℕ → ℕ → List ℕ
+  told q d c n = encodeTrailer header (record { kind = q; dispositions = d; cents = c; records = n })
+
+  counted : (q : FlowKind) (d c n d′ : ℕ) → put 45 (digits 7 d′) (told q d c n) ≡ told q d′ c n
   unfolding encodeTrailer
+  counted q d c n d′ =
+      let a = totalAt q 53 c in
+      let b = totalAt q 68 c in
+      fill-again front 46 (digits 7 d) (digits 7 d′) (place 53 (digits 15 a) ∷ place 68 (digits 15 b) ∷ place 83 (digits 7 n) ∷ money ∷ []) blanks
+      front-fits (asked a, (recalled b, (records n, (last, tt)))) (count d) refl (sizes 7 d′ d)
+      (inl (omega (arith, seven d′)), (inl (omega (arith, seven d′)), (inl (omega (arith, seven d′)), (inl (omega (arith, seven d′)), tt))))
+
+  -- the sum is written at the place of the kind, and the zeros at the other stay
+  totalled : (q : FlowKind) (d c n c′ : ℕ) → put (firstOf (totalSpan q) - 1) (digits 15 c′) (told q d c n) ≡ told q d c′ n
+  unfolding encodeTrailer
+  totalled Requests d c n c′ =
+      fill-again (front ++ (place 46 (digits 7 d) ∷ [])) 53 (digits 15 c) (digits 15 c′) (place 68 (digits 15 0) ∷ place 83 (digits 7 n) ∷ money ∷ []) blanks
+      (front-fits .0, (front-fits .1 .0, (count d, tt))) (recalled 0, (records n, (last, tt))) (asked c) refl (sizes 15 c′ c)
+      (inl (omega (arith, fifteen c′)), (inl (omega (arith, fifteen c′)), (inl (omega (arith, fifteen c′)), tt)))
+  totalled Recalls d c n c′ =
+      fill-again (front ++ (place 46 (digits 7 d) ∷ place 53 (digits 15 0) ∷ [])) 68 (digits 15 c) (digits 15 c′) (place 83 (digits 7 n) ∷ money ∷ []) blanks
+      (front-fits .0, (front-fits .1 .0, (count d, (asked 0, tt)))) (records n, (last, tt)) (recalled c) refl (sizes 15 c′ c)
+      (inl (omega (arith, fifteen c′)), (inl (omega (arith, fifteen c′)), tt))
+
+  recorded : (q : FlowKind) (d c n n′ : ℕ) → put 82 (digits 7 n′) (told q d c n) ≡ told q d c n′
+  unfolding encodeTrailer
+  recorded q d c n n′ =
+      let a = totalAt q 53 c in
+      let b = totalAt q 68 c in
+      fill-again (front ++ (place 46 (digits 7 d) ∷ place 53 (digits 15 a) ∷ place 68 (digits 15 b) ∷ [])) 83 (digits 7 n) (digits 7 n′) (money ∷ []) blanks
+      (front-fits .0, (front-fits .1 .0, (count d, (asked a, (recalled b, tt))))) (last, tt) (records n) refl (sizes 7 n′ n)
+      (inl (omega (arith, seven n′)), tt)
+
+  pub trailer-recounted : recounted u (encodeTrailer header t) ≡ encodeTrailer header u
   trailer-recounted =
-      let d = t .dispositions in
-      let c = t .cents in
-      let n = t .records in
-      let d′ = u .dispositions in
-      let c′ = u .cents in
-      let n′ = u .records in
-      let short : length copied ≤ 42 = part-at-most 0 42 header in
-      let seven : (v : ℕ) → length (digits 7 v) ≡ 7 = written-length 7 in
-      let fifteen : (v : ℕ) → length (digits 15 v) ≡ 15 = written-length 15 in
-      let type : Fits (place 2 (typeOf Ef)) = omega arith in
-      let copy : Fits (place 4 copied) = omega arith in
-      let count : (v : ℕ) → Fits (place 46 (digits 7 v)) = λ v. omega (arith, seven v) in
-      let cents : (v : ℕ) → Fits (place 53 (digits 15 v)) = λ v. omega (arith, fifteen v) in
-      let nothing : Fits zeros = omega (arith, fifteen 0) in
-      let records : (v : ℕ) → Fits (place 83 (digits 7 v)) = λ v. omega (arith, seven v) in
-      let last : Fits money = omega arith in
-      let one = fill-again front 46 (digits 7 d) (digits 7 d′) (place 53 (digits 15 c) ∷ zeros ∷ place 83 (digits 7 n) ∷ money ∷ []) blanks
-      (type, (copy, tt)) (cents c, (nothing, (records n, (last, tt)))) (count d) refl (sizes 7 d′ d)
-      (inl (omega (arith, seven d′)), (inl (omega (arith, seven d′)), (inl (omega (arith, seven d′)), (inl (omega (arith, seven d′)), tt)))) in
-      let two = fill-again (front ++ (place 46 (digits 7 d′) ∷ [])) 53 (digits 15 c) (digits 15 c′) (zeros ∷ place 83 (digits 7 n) ∷ money ∷ []) blanks
-      (type, (copy, (count d′, tt))) (nothing, (records n, (last, tt))) (cents c) refl (sizes 15 c′ c)
-      (inl (omega (arith, fifteen c′)), (inl (omega (arith, fifteen c′)), (inl (omega (arith, fifteen c′)), tt))) in
-      let three = fill-again (front ++ (place 46 (digits 7 d′) ∷ place 53 (digits 15 c′) ∷ zeros ∷ [])) 83 (digits 7 n) (digits 7 n′) (money ∷ []) blanks
-      (type, (copy, (count d′, (cents c′, (nothing, tt))))) (last, tt) (records n) refl (sizes 7 n′ n)
-      (inl (omega (arith, seven n′)), tt) in
-      ap (λ (l : List ℕ). put 82 (digits 7 n′) (put 52 (digits 15 c′) l)) one ∙ ap (put 82 (digits 7 n′)) two ∙ three
+      let q = u .kind in
+      let at = firstOf (totalSpan q) - 1 in
+      let d = u .dispositions in
+      let c = u .cents in
+      let n = u .records in
+      ap (recounted u) (λ i. told (same i) (t .dispositions) (t .cents) (t .records))
+      ∙ ap (λ (l : List ℕ). put 82 (digits 7 n) (put at (digits 15 c) l)) (counted q (t .dispositions) (t .cents) (t .records) d)
+      ∙ ap (put 82 (digits 7 n)) (totalled q d (t .cents) (t .records) c)
+      ∙ recorded q d c (t .records) n
 
 pub detail-heads : (k : RecordKind) → Detail k → heads k ≡ false
 detail-heads = each-detail (λ (k : RecordKind). heads k ≡ false) (refl, (refl, (refl, (refl, (refl, (refl, (refl, (refl, tt))))))))
 
 -- what a record that is neither a 14 nor header nor trailer has beside its type and its body
-detail-supplied : (k : RecordKind) (n : ℕ) (abi : List ℕ) → Detail k → supplied (role k) n abi ≡ place 4 (digits 7 n) ∷ []
-detail-supplied k n abi = each-detail (λ (l : RecordKind). supplied (role l) n abi ≡ place 4 (digits 7 n) ∷ []) (refl, (refl, (refl, (refl, (refl, (refl, (refl, (refl, tt)))))))) k
+detail-supplied : (q : FlowKind) (k : RecordKind) (n : ℕ) (abi : List ℕ) → Detail k → supplied (role k) q n abi ≡ place 4 (digits 7 n) ∷ []
+detail-supplied q k n abi = each-detail (λ (l : RecordKind). supplied (role l) q n abi ≡ place 4 (digits 7 n) ∷ []) (refl, (refl, (refl, (refl, (refl, (refl, (refl, (refl, tt)))))))) k
 
 type-fits : (k : RecordKind) → Fits (place 2 (typeOf k))
 type-fits = each-kind (λ (k : RecordKind). Fits (place 2 (typeOf k))) (omega arith, (omega arith, (omega arith, (omega arith, (omega arith, (omega arith, (omega arith, (omega arith, (omega arith, (omega arith, (omega arith, tt)))))))))))
@@ -101,22 +139,22 @@ number-again k i j qs fits outside =
 
 -- the record of a D
 encoded-d :
-    (header : List ℕ) (it : Item) → it .kind ≡ kindFor R14 → (n : ℕ)
-    → encodeItem n header it ≡ fill (place 2 (typeOf R14) ∷ (supplied Opens n (abiIn header) ++ bodyPlaced (carried (kindFor R14)) (it .body))) blanks
+    (header : HeaderMeant) (it : Item) → it .kind ≡ kindFor (header .kind) R14 → (n : ℕ)
+    → encodeItem n header it ≡ fill (place 2 (typeOf R14) ∷ (supplied Opens (header .kind) n (abiIn (header .body)) ++ bodyPlaced (carried (kindFor (header .kind) R14)) (it .body))) blanks
 unfolding encodeItem
-encoded-d header it e n = λ i. fill (place 2 (typeOf (recordOf (e i))) ∷ (supplied (role (recordOf (e i))) n (abiIn header) ++ bodyPlaced (carried (e i)) (it .body))) blanks
+encoded-d header it e n = λ i. fill (place 2 (typeOf (recordOf (e i))) ∷ (supplied (role (recordOf (e i))) (header .kind) n (abiIn (header .body)) ++ bodyPlaced (carried (e i)) (it .body))) blanks
 
--- what a 14 has after its number and before its body: the fixed values and the ABI
-abbrev fixed : List ℕ → List Placed
-fixed header = place 29 causale ∷ place 47 sign ∷ place 48 (abiIn header) ∷ place 120 currency ∷ []
+-- what a 14 has after its number and before its body: the values that are fixed or go by the kind, and the ABI
+abbrev fixed : HeaderMeant → List Placed
+fixed header = place 29 (causale (header .kind)) ∷ place 47 (sign (header .kind)) ∷ place 48 (abiIn (header .body)) ∷ place 120 currency ∷ []
 
-fixed-fits : (header : List ℕ) → All Fits (fixed header)
+fixed-fits : (header : HeaderMeant) → All Fits (fixed header)
 fixed-fits header =
-    let short = abi-short header in
-    (omega arith, (omega arith, (omega arith, (omega arith, tt))))
+    let short = abi-short (header .body) in
+    (omega (arith, causale-length (header .kind)), (omega (arith, sign-length (header .kind)), (omega arith, (omega arith, tt))))
 
 -- the record of an item, with another number
-module _ (i j : ℕ) (header : List ℕ) (it : Item) (proper : Proper it) where
+module _ (i j : ℕ) (header : HeaderMeant) (it : Item) (proper : Proper it) where
   abbrev placed : List Placed
   placed = bodyPlaced (carried (it .kind)) (it .body)
 
@@ -131,20 +169,20 @@ module _ (i j : ℕ) (header : List ℕ) (it : Item) (proper : Proper it) where
   unfolding encodeItem
   detail-renumbered detail =
       let k = recordKind it in
-      let told : (n : ℕ) → encodeItem n header it ≡ fill (place 2 (typeOf k) ∷ place 4 (digits 7 n) ∷ placed) blanks = λ n. ap (λ (ps : List Placed). fill (place 2 (typeOf k) ∷ (ps ++ placed)) blanks) (detail-supplied k n (abiIn header) detail) in
+      let told : (n : ℕ) → encodeItem n header it ≡ fill (place 2 (typeOf k) ∷ place 4 (digits 7 n) ∷ placed) blanks = λ n. ap (λ (ps : List Placed). fill (place 2 (typeOf k) ∷ (ps ++ placed)) blanks) (detail-supplied (header .kind) k n (abiIn (header .body)) detail) in
       ap (renumbered j) (told i) ∙ number-again k i j placed placed-fits (placed-outside (detail-heads k detail)) ∙ sym (told j)
 
   pub opening-renumbered : recordKind it ≡ R14 → renumbered j (encodeItem i header it) ≡ encodeItem j header it
   unfolding encodeItem
   opening-renumbered e =
-      let told : (n : ℕ) → encodeItem n header it ≡ fill (place 2 (typeOf R14) ∷ place 4 (digits 7 n) ∷ (fixed header ++ placed)) blanks = λ n. ap (λ (k : RecordKind). fill (place 2 (typeOf k) ∷ (supplied (role k) n (abiIn header) ++ placed)) blanks) e in
+      let told : (n : ℕ) → encodeItem n header it ≡ fill (place 2 (typeOf R14) ∷ place 4 (digits 7 n) ∷ (fixed header ++ placed)) blanks = λ n. ap (λ (k : RecordKind). fill (place 2 (typeOf k) ∷ (supplied (role k) (header .kind) n (abiIn (header .body)) ++ placed)) blanks) e in
       let outside : All (Outside 3 7) (fixed header) = (inl (omega arith), (inl (omega arith), (inl (omega arith), (inl (omega arith), tt)))) in
       ap (renumbered j) (told i)
       ∙ number-again R14 i j (fixed header ++ placed) (all-append Fits (fixed header) placed (fixed-fits header) placed-fits) (all-append (Outside 3 7) (fixed header) placed outside (placed-outside (ap heads e)))
       ∙ sym (told j)
 
 -- the record of a D, with another amount
-module _ (n new : ℕ) (header : List ℕ) (it : Item) (proper : Proper it) (e : it .kind ≡ kindFor R14) where
+module _ (n new : ℕ) (header : HeaderMeant) (it : Item) (proper : Proper it) (e : it .kind ≡ kindFor (header .kind) R14) where
   abbrev body : List ℕ
   body = it .body
 
@@ -176,7 +214,7 @@ module _ (n new : ℕ) (header : List ℕ) (it : Item) (proper : Proper it) (e :
       let other = repriced new it in
       let thirteen : length (digits 13 new) ≡ 13 = written-length 13 new in
       let own : length amount ≡ 13 = length-take-le 13 (drop 6 body) (omega (arith, length-drop 6 body, body-length)) in
-      let spans = carried-within (kindFor R14) in
+      let spans = carried-within (kindFor (header .kind) R14) in
       let fits : All Fits after = body-fits ((53 to 69) ∷ (92 to 113) ∷ []) (drop 13 (drop 6 body)) (spans .1 .1) after-sized in
       let outside : All (Outside 33 (length (digits 13 new))) after = body-outside 33 (length (digits 13 new)) ((53 to 69) ∷ (92 to 113) ∷ []) (drop 13 (drop 6 body)) (omega arith, (omega arith, tt)) in
       let date : take 6 body ≡ take 6 (other .body) = sym (take-put 6 (digits 13 new) body within 6 (omega arith)) in
@@ -184,5 +222,5 @@ module _ (n new : ℕ) (header : List ℕ) (it : Item) (proper : Proper it) (e :
       let rest : drop 13 (drop 6 body) ≡ drop 13 (drop 6 (other .body)) = drop-drop 13 6 body ∙ sym (drop-drop 13 6 (other .body) ∙ drop-put 6 (digits 13 new) body within (6 + 13) (omega arith)) in
       ap (put 33 (digits 13 new)) (encoded-d header it e n)
       ∙ fill-again before 34 amount (digits 13 new) after blanks before-fits fits (omega arith) refl (thirteen ∙ sym own) outside
-      ∙ (λ i. fill (place 2 (typeOf R14) ∷ (supplied Opens n (abiIn header) ++ (place 23 (date i) ∷ place 34 (cents i) ∷ bodyPlaced ((53 to 69) ∷ (92 to 113) ∷ []) (rest i)))) blanks)
+      ∙ (λ i. fill (place 2 (typeOf R14) ∷ (supplied Opens (header .kind) n (abiIn (header .body)) ++ (place 23 (date i) ∷ place 34 (cents i) ∷ bodyPlaced ((53 to 69) ∷ (92 to 113) ∷ []) (rest i)))) blanks)
       ∙ sym (encoded-d header other e n)

@@ -18,6 +18,13 @@ use Rattle.records.proofs.is_opening.Met.{met as is-opening-met}
 use Rattle.records.proofs.amount.Met.{met as amount-met}
 use Rattle.records.proofs.heads.Met.{met as heads-met}
 use Rattle.records.proofs.opens.Met.{met as opens-met}
+use Rattle.records.proofs.causale_of.Met.{met as causale-of-met}
+use Rattle.records.proofs.sign_of.Met.{met as sign-of-met}
+use Rattle.records.proofs.total_first.Met.{met as total-first-met}
+use Rattle.records.proofs.total_last.Met.{met as total-last-met}
+use Rattle.records.proofs.total_at.Met.{met as total-at-met}
+use Rattle.records.proofs.kind_in.Met.{met as kind-in-met}
+use Rattle.records.proofs.or_requests.Met.{met as or-requests-met}
 use Rattle.flow.proofs.read.Met.{met as read-met}
 use Rattle.flow.proofs.latest_company.Met.{met as latest-company-met}
 use Rattle.flow.proofs.walk.Walk.start.Met.{met as walk-start-met}
@@ -67,6 +74,13 @@ entry-points =
       amount = (λ M. amount-met, λ κs a g w. refl);
       heads = (λ M. heads-met, λ κs a g w. refl);
       opens = (λ M. opens-met, λ κs a g w. refl);
+      causale-of = (λ M. causale-of-met, λ κs a g w. refl);
+      sign-of = (λ M. sign-of-met, λ κs a g w. refl);
+      total-first = (λ M. total-first-met, λ κs a g w. refl);
+      total-last = (λ M. total-last-met, λ κs a g w. refl);
+      total-at = (λ M. total-at-met, λ κs a g w. refl);
+      kind-in = (λ M. kind-in-met, λ κs a g w. refl);
+      or-requests = (λ M. or-requests-met, λ κs a g w. refl);
       read = (λ M. read-met, λ κs a g w. refl);
       latest-company = (λ M. latest-company-met, λ κs a g w. refl);
       walk-start = (λ M. walk-start-met, λ κs a g w. refl);

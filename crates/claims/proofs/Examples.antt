@@ -12,6 +12,7 @@ use Rattle.records.specs.Bytes.{badFrom}
 use Rattle.records.specs.Checks.{isListed, checks}
 use Rattle.records.specs.RecordVerdict.{firstFault}
 use Rattle.records.specs.Judge.{judgeAs}
+use Rattle.records.specs.FlowKinds.{kindAmong}
 use Rattle.flow.specs.Find.{find, findWithTotals}
 use Rattle.flow.specs.Judge.{walkFrom, judge}
 use Rattle.flow.specs.Records.{cut}
@@ -24,11 +25,11 @@ use Rattle.list.specs.Table.{firstRow}
 use Rattle.list.proofs.Examples.{examples as list}
 use Rattle.amend.specs.Change.{change}
 use Rattle.amend.specs.Withdraw.{numberedFrom, withdraw}
-use Rattle.claims.specs.Examples.{Examples, LedgerExample}
+use Rattle.claims.specs.Examples.{Examples, RecallExamples, LedgerExample}
 use Rattle.claims.specs.Ledger.{withAmount, withoutDisposition, changeOn, withdrawOn, listAfter, repliesOn}
 
 pub examples : Examples
-unfolding judge walkFrom cut judgeRecord judgeTyped among judgeAs firstFault checks isListed badFrom isEqual numberFrom digits every isDay daysIn isLeap find groups lead flatten findWithTotals fill bodyPlaced encodeItem encodeTrailer encodeFrom lastHeader listDispositions listCents itemsFrom firstRow change numberedFrom withdraw
+unfolding kindAmong judge walkFrom cut judgeRecord judgeTyped among judgeAs firstFault checks isListed badFrom isEqual numberFrom digits every isDay daysIn isLeap find groups lead flatten findWithTotals fill bodyPlaced encodeItem encodeTrailer encodeFrom lastHeader listDispositions listCents itemsFrom firstRow change numberedFrom withdraw
 examples =
     record {
       one = (list .trailer, list .two-rents);
@@ -43,6 +44,21 @@ examples =
       ten = (refl, (refl, refl));
     }
 
+pub recall-examples : RecallExamples
+unfolding kindAmong judge walkFrom cut judgeRecord judgeTyped among judgeAs firstFault checks isListed badFrom isEqual numberFrom digits every isDay daysIn isLeap find groups lead flatten findWithTotals lastHeader listDispositions listCents itemsFrom firstRow change numberedFrom withdraw withAmount withoutDisposition changeOn withdrawOn listAfter repliesOn
+recall-examples =
+    record {
+      encoded = list .two-recalls;
+      trailer = list .recall-trailer;
+      read = flow .two-recalls;
+      changed = (refl, refl, refl);
+      withdrawn = (refl, refl, refl);
+      answered = refl;
+      mixed = flow .recall-after-request;
+      no-kind = (flow .no-kind-first, flow .no-kind-second);
+      wrong-sign = flow .recall-with-minus;
+    }
+
 pub ledger-example : LedgerExample
-unfolding numberFrom digits groups lead flatten listDispositions listCents itemsFrom firstRow isEqual withAmount withoutDisposition changeOn withdrawOn listAfter repliesOn
+unfolding lastHeader numberFrom digits groups lead flatten listDispositions listCents itemsFrom firstRow isEqual withAmount withoutDisposition changeOn withdrawOn listAfter repliesOn
 ledger-example = record { answered = refl; left = refl }

@@ -1,22 +1,29 @@
 -- What the demands shut out, by the two-rent flow and the empty one. Assumes nothing.
-use Prim.Native.Nat.{ℕ, suc, _≤_}
+use Prim.Native.Nat.{ℕ, suc, _≤_, _<_}
 use mathlib.Core.Bool.{Bool, true, false, cond}
 use mathlib.Core.List.{List, [], _∷_, _++_, flatten}
 use mathlib.Core.Path.{_≡_, refl, sym, _∙_, ap}
 use native.Mathlib.Omega.{arith}
 use lib.Dec.{leb}
-use lib.ListN.{length, take, drop}
+use lib.ListN.{length, take, drop, getD}
 use Rattle.sequences.specs.Every.{every}
 use Rattle.sequences.specs.Groups.{lead, groups}
 use Rattle.sequences.specs.Part.{put}
+use Rattle.sequences.specs.Text.{text}
+use Rattle.sequences.proofs.All.{all-getD}
 use Rattle.fields.specs.Bytes.{isEqual}
 use Rattle.fields.specs.Calendar.{isLeap, daysIn, isDay}
 use Rattle.fields.specs.Digits.{numberFrom, digits}
 use Rattle.records.specs.Bytes.{badFrom}
 use Rattle.records.specs.Checks.{isListed, checks}
+use Rattle.records.specs.Field.{field}
+use Rattle.records.specs.FlowKinds.{causale, kindAmong}
+use Rattle.records.specs.Kinds.{isOpening}
+use Rattle.records.specs.declared.flow_kind.FlowKind.the-variants.{Requests, Recalls}
 use Rattle.records.specs.RecordVerdict.{firstFault}
 use Rattle.records.specs.Judge.{judgeAs}
-use Rattle.flow.specs.Examples.{flowOf, headerIm, trailerEf, second, further59, firstClosed, withFurther, twoRents, twoRentTotals}
+use Rattle.flow.specs.Examples.{flowOf, headerIm, trailerEf, second, further59, firstClosed, withFurther, twoRents, twoRentTotals, twoRecalls, twoRecallTotals}
+use Rattle.flow.specs.ExactTotals.{kindFrom}
 use Rattle.flow.specs.Judge.{walkFrom, judge}
 use Rattle.flow.specs.Order.{among}
 use Rattle.flow.specs.Records.{cut, recordAt, recordsOf}
@@ -28,8 +35,11 @@ use Rattle.flow.proofs.Accepted.{accepted-not-refused, accepted-same, accepted-
 use Rattle.flow.proofs.Examples.{examples as flow}
 use Rattle.grammar.specs.Fault.{FaultAfter, bad-byte}
 use Rattle.grammar.proofs.FirstFault.{first-fault-exact}
+use Rattle.grammar.specs.Rules.{KindRules}
 use Rattle.grammar.proofs.Grammar.{grammar-exact}
-use Rattle.list.specs.Encode.{fill, bodyPlaced, encodeItem, encodeFrom, listDispositions, listCents, encode}
+use Rattle.grammar.proofs.KindsOfFlow.{kind-rules}
+use Rattle.grammar.proofs.Parts.{one-kind}
+use Rattle.list.specs.Encode.{fill, bodyPlaced, encodeItem, encodeFrom, encodeTrailer, lastHeader, listDispositions, listCents, encode}
 use Rattle.list.specs.Examples.{headerItem, secondItems}
 use Rattle.list.specs.Items.{items, itemsFrom, parse, itemsIn}
 use Rattle.list.specs.ReadBack.{itemsOf}
@@ -40,7 +50,7 @@ use Rattle.list.proofs.Examples.{examples as list}
 use Rattle.amend.specs.Amended.{Amended}
 use Rattle.amend.proofs.Answered.{change-refused, withdraw-refused}
 use Rattle.claims.specs.Demand3.{KeepsLedger}
-use Rattle.claims.specs.Excludes.{Reader, AcceptsExactly, RefusesFirst, Refuses, LowestNumber, lastWrong, ChangesFaithfully, WithdrawsFaithfully, Service, Serves, LibraryMeets, Excludes}
+use Rattle.claims.specs.Excludes.{Reader, AcceptsExactly, RefusesFirst, Refuses, LowestNumber, Mixed, lastWrong, ChangesFaithfully, WithdrawsFaithfully, Service, Serves, LibraryMeets, Excludes}
 use Rattle.claims.specs.Ledger.{Call, change-of, withdrawal-of, withAmount, withoutDisposition, changeOn, withdrawOn, listAfter}
 use Rattle.claims.specs.Run.{Memory, holding, flowIn}
 use Rattle.claims.proofs.Demand3.{demand3}
@@ -80,19 +90,19 @@ abbrev both : List Call
 both = first ∷ change-of 1 1 ∷ []
 
 first-total : listCents (listAfter (first ∷ []) (itemsOf twoRents)) ≡ 85000
-unfolding cut flatten firstRow isEqual numberFrom digits groups lead listDispositions listCents withAmount changeOn listAfter
+unfolding kindAmong kindFrom cut flatten firstRow isEqual numberFrom digits groups lead listDispositions listCents withAmount changeOn listAfter
 first-total = refl
 
 both-total : listCents (listAfter both (itemsOf twoRents)) ≡ 40001
-unfolding cut flatten firstRow isEqual numberFrom digits groups lead listDispositions listCents withAmount changeOn listAfter
+unfolding kindAmong kindFrom cut flatten firstRow isEqual numberFrom digits groups lead listDispositions listCents withAmount changeOn listAfter
 both-total = refl
 
 one-left : listDispositions (listAfter (withdrawal-of 1 ∷ []) (itemsOf twoRents)) ≡ 1
-unfolding cut flatten firstRow isEqual numberFrom digits groups lead listDispositions withoutDisposition withdrawOn listAfter
+unfolding kindAmong kindFrom cut flatten firstRow isEqual numberFrom digits groups lead listDispositions withoutDisposition withdrawOn listAfter
 one-left = refl
 
 list-left : listAfter (withdrawal-of 1 ∷ []) (itemsOf twoRents) ≡ itemsIn (flowOf (headerItem ++ secondItems))
-unfolding cut flatten firstRow isEqual numberFrom digits groups lead listDispositions withoutDisposition withdrawOn listAfter itemsFrom
+unfolding kindAmong kindFrom cut flatten firstRow isEqual numberFrom digits groups lead listDispositions withoutDisposition withdrawOn listAfter itemsFrom
 list-left = refl
 
 -- what a service that meets demand 3 leaves of the two-rent flow
@@ -135,7 +145,7 @@ abbrev twoFaults : List ℕ
 twoFaults = put 240 (10 ∷ []) (flowOf (headerIm ∷ (second ++ (trailerEf ∷ []))))
 
 lowest-record : judge twoFaults ≡ refused (refusal 9 2 4)
-unfolding judge walkFrom cut judgeRecord judgeTyped among judgeAs firstFault checks isListed badFrom isEqual numberFrom every isDay daysIn isLeap
+unfolding kindAmong judge walkFrom cut judgeRecord judgeTyped among judgeAs firstFault checks isListed badFrom isEqual numberFrom every isDay daysIn isLeap
 lowest-record = refl
 
 later-fault : FaultAfter twoFaults (take 2 (recordsOf twoFaults)) (recordAt 2 twoFaults) 2 1
@@ -151,12 +161,12 @@ not-lowest read exact lowest =
     omega arith
 
 mixed-judged : (judge (withFurther (take 1 firstClosed ++ (further59 ∷ []))) ≡ refused (refusal 3 7 2)) × (judge (withFurther (further59 ∷ take 1 firstClosed)) ≡ refused (refusal 3 7 2))
-unfolding judge walkFrom cut judgeRecord judgeTyped among judgeAs firstFault checks isListed badFrom isEqual numberFrom every isDay daysIn isLeap
+unfolding kindAmong judge walkFrom cut judgeRecord judgeTyped among judgeAs firstFault checks isListed badFrom isEqual numberFrom every isDay daysIn isLeap
 mixed-judged = (refl, refl)
 
 -- with room the last record is refused, without it the call
 last-judged : judgeItems (itemsIn lastWrong) ≡ refused (refusal 6 15 94)
-unfolding judgeItems encodeFrom encodeItem fill bodyPlaced flatten itemsFrom firstRow digits walkFrom judgeRecord judgeTyped among judgeAs firstFault checks isListed badFrom isEqual numberFrom every isDay daysIn isLeap
+unfolding kindAmong judgeItems encodeFrom encodeItem fill bodyPlaced flatten itemsFrom firstRow digits walkFrom judgeRecord judgeTyped among judgeAs firstFault checks isListed badFrom isEqual numberFrom every isDay daysIn isLeap
 last-judged = refl
 
 last-read : parse lastWrong ≡ items (itemsIn lastWrong)
@@ -175,6 +185,27 @@ last-refused room = rw (last-read, last-count) (by (leb 1920 room))
     by true = (refusal 6 15 94, last-judged)
     by false = (ofCall 21, refl)
 
+-- of a flow that is accepted all records 14 have one causale
+mixed-refused : (read : Reader) → AcceptsExactly read → (f : List ℕ) → Mixed f → ¬ ((t : Totals) × (read f ≡ accepted t))
+mixed-refused read exact f mixed (t, e) = mixed .differ (causale-of (mixed .one) (mixed .there .0) (mixed .openings .0) ∙ sym (causale-of (mixed .other) (mixed .there .1) (mixed .openings .1)))
+  where
+    causale-of : (i : ℕ) → i < length (recordsOf f) → let rec = getD (recordsOf f) i [] in isOpening rec ≡ true → field 29 33 rec ≡ causale (t .kind)
+    causale-of i within opening =
+        let kept = all-getD (λ (rec : List ℕ). isOpening rec ≡ true → KindRules (t .kind) rec) (recordsOf f) i [] within (one-kind f t (read-so read exact f t e)) in
+        kind-rules (t .kind) (getD (recordsOf f) i []) .0 (kept opening) .0
+
+recalls-differ : Requests ≡ Recalls → ⊥
+recalls-differ e = let z : _≡_ {A = ℕ} 0 1 = cc in omega arith
+
+-- the recall of both rents is canonical, so that what is left of it is what the ledger's list encodes
+recall-total :
+    (serve : Service) → Serves serve → let trailer = recordAt 15 (flowIn (serve (change-of 2 40000 ∷ []) twoRecalls .after)) in
+    (field 53 67 trailer ≡ text "000000000000000") × (field 68 82 trailer ≡ text "000000000085000")
+unfolding kindAmong kindFrom cut flatten firstRow isEqual numberFrom digits groups lead lastHeader listDispositions listCents withAmount changeOn listAfter encodeFrom encodeItem encodeTrailer fill bodyPlaced
+recall-total serve serves =
+    let left = serves twoRecalls twoRecallTotals (flow .two-recalls) (change-of 2 40000 ∷ []) .canonical (list .recalls-canonical) in
+    (ap (λ (f : List ℕ). field 53 67 (recordAt 15 f)) left, ap (λ (f : List ℕ). field 68 82 (recordAt 15 f)) left)
+
 pub excludes : Excludes
 excludes =
     record {
@@ -184,11 +215,15 @@ excludes =
       withdraw-always-refuses = λ amend faithful all. withdraws-so amend faithful (all twoRents 1);
       touches-nothing = λ serve serves all. changed serve serves (all (first ∷ []) twoRents);
       fakes-the-rest = λ serve serves all. changed-again serve serves (all first (change-of 1 1 ∷ []) twoRents);
-      made-up-counts = λ read exact f t e. accepted-exact f t (read-so read exact f t e);
+      made-up-counts = λ read exact f t e. let so = accepted-exact f t (read-so read exact f t e) in (so .0, so .1, so .2);
       copied-twice = λ serve serves (t, e, two). omega (arith, withdrawn serve serves t e);
       moved-up = moved;
       further-mixed = λ read exact. (refuses-so read exact _ (refusal 3 7 2) (mixed-judged .0), refuses-so read exact _ (refusal 3 7 2) (mixed-judged .1));
       written-early = (last-judged, λ writer untouched out. let (x, e) = last-refused (length out) in untouched lastWrong out x e);
+      mixed-accepted = mixed-refused;
+      made-up-kind = λ read exact f t e. accepted-exact f t (read-so read exact f t e) .3;
+      always-requests = λ read exact all. recalls-differ (sym (all twoRecalls twoRecallTotals (reads-so read exact twoRecalls twoRecallTotals (flow .two-recalls))));
+      recall-total-elsewhere = recall-total;
       lowest-number = not-lowest;
     }
 

@@ -18,6 +18,7 @@ use Rattle.fields.proofs.Decimal.{written-length}
 use Rattle.records.specs.Amount.{amountSpan, amountIn}
 use Rattle.records.specs.Field.{Span, _to_, firstOf, lastOf}
 use Rattle.records.specs.Kinds.{heads, opens}
+use Rattle.records.specs.declared.flow_kind.FlowKind.{FlowKind}
 use Rattle.records.specs.declared.kind.RecordKind.{RecordKind}
 use Rattle.records.specs.declared.kind.RecordKind.the-variants.{Im, R14}
 use Rattle.flow.specs.declared.answer.Totals.{Totals}
@@ -42,70 +43,76 @@ use Rattle.claims.specs.Ledger.{leading, dispositions, repriced, firstRe
 use Rattle.claims.proofs.Encoded.{detail-heads}
 
 -- the items of dispositions
-abbrev pub itemsBy : List (List Typed) → List (List Item)
-itemsBy ds = map (map ownItem) ds
+abbrev pub itemsBy : FlowKind → List (List Typed) → List (List Item)
+itemsBy q ds = map (map (ownItem q)) ds
 
 -- the item of a header
-abbrev pub itemOfHeader : List ℕ → Item
-itemOfHeader header = ownItem (record { kind = Im; bytes = header })
+abbrev pub itemOfHeader : FlowKind → List ℕ → Item
+itemOfHeader q header = ownItem q (record { kind = Im; bytes = header })
 
 -- a record of a disposition but the first is that of its own item
-pub detail-record : (k : RecordKind) → Detail k → recordOf (kindFor k) ≡ k
-detail-record = each-detail (λ (k : RecordKind). recordOf (kindFor k) ≡ k) (refl, (refl, (refl, (refl, (refl, (refl, (refl, (refl, tt))))))))
+pub detail-record : (q : FlowKind) (k : RecordKind) → Detail k → recordOf (kindFor q k) ≡ k
+detail-record q = each-detail (λ (k : RecordKind). recordOf (kindFor q k) ≡ k) (refl, (refl, (refl, (refl, (refl, (refl, (refl, (refl, tt))))))))
 
-detail-shut : (k : RecordKind) → Detail k → opens (recordOf (kindFor k)) ≡ false
-detail-shut k detail = ap opens (detail-record k detail) ∙ detail-opens k detail
+detail-shut : (q : FlowKind) (k : RecordKind) → Detail k → opens (recordOf (kindFor q k)) ≡ false
+detail-shut q k detail = ap opens (detail-record q k detail) ∙ detail-opens k detail
 
 -- a disposition's items: a D, and others that are none
-details-shut : (rs : List Typed) → All Detail (kindsOf rs) → All (λ (it : Item). isD it ≡ false) (map ownItem rs)
-details-shut [] details = tt
-details-shut (r ∷ rs) details = (detail-shut (r .kind) (details .0), details-shut rs (details .1))
+details-shut : (q : FlowKind) (rs : List Typed) → All Detail (kindsOf rs) → All (λ (it : Item). isD it ≡ false) (map (ownItem q) rs)
+details-shut q [] details = tt
+details-shut q (r ∷ rs) details = (detail-shut q (r .kind) (details .0), details-shut q rs (details .1))
 
-items-open : (ds : List (List Typed)) → InShape ds → All (Opens isD) (itemsBy ds)
-items-open [] shape = tt
-items-open (d ∷ ds) shape = (go d (opened-so d (shape .0)), items-open ds (shape .1))
+items-open : (q : FlowKind) (ds : List (List Typed)) → InShape ds → All (Opens isD) (itemsBy q ds)
+items-open q [] shape = tt
+items-open q (d ∷ ds) shape = (go d (opened-so d (shape .0)), items-open q ds (shape .1))
   where
-    go : (d : List Typed) → Opened d → Opens isD (map ownItem d)
-    go d (opened-by r rs e details) = record { first = ownItem r; others = map ownItem rs; whole = refl; passes = ap (λ (k : RecordKind). opens (recordOf (kindFor k))) e; none = details-shut rs details }
+    go : (d : List Typed) → Opened d → Opens isD (map (ownItem q) d)
+    go d (opened-by r rs e details) = record { first = ownItem q r; others = map (ownItem q) rs; whole = refl; passes = ap (λ (k : RecordKind). opens (recordOf (kindFor q k))) e; none = details-shut q rs details }
 
 -- so the list of a flow is its header's item and its dispositions', and the ledger finds them there
 module _ (f : List ℕ) (t : Totals) (g : Grammar f t) where
+  abbrev q : FlowKind
+  q = t .kind
+
   abbrev head : Item
-  head = itemOfHeader (g .parts .header)
+  head = itemOfHeader q (g .parts .header)
 
   abbrev ds : List (List Typed)
   ds = g .parts .dispositions
 
-  pub listed-so : itemsOf f ≡ head ∷ flatten (itemsBy ds)
-  listed-so = own-list-items f t g ∙ ap (λ (l : List Item). head ∷ l) (map-flatten ownItem ds)
+  pub listed-so : itemsOf f ≡ head ∷ flatten (itemsBy q ds)
+  listed-so = own-list-items f t g ∙ ap (λ (l : List Item). head ∷ l) (map-flatten (ownItem q) ds)
 
   head-so : leading (itemsOf f) ≡ head ∷ []
   unfolding lead
-  head-so = ap leading listed-so ∙ ap (λ (l : List Item). head ∷ l) (lead-joined isD (itemsBy ds) (items-open ds (grammar-shape f t g)))
+  head-so = ap leading listed-so ∙ ap (λ (l : List Item). head ∷ l) (lead-joined isD (itemsBy q ds) (items-open q ds (grammar-shape f t g)))
 
-  dispositions-so : dispositions (itemsOf f) ≡ itemsBy ds
+  dispositions-so : dispositions (itemsOf f) ≡ itemsBy q ds
   unfolding groups
-  dispositions-so = ap dispositions listed-so ∙ groups-joined isD (itemsBy ds) (items-open ds (grammar-shape f t g))
+  dispositions-so = ap dispositions listed-so ∙ groups-joined isD (itemsBy q ds) (items-open q ds (grammar-shape f t g))
 
 -- disposition k among them
 module _ (f : List ℕ) (k : ℕ) (v : WithTotals) (w : Neighbours f k v) where
+  abbrev kind : FlowKind
+  kind = v .totals .kind
+
   abbrev own : Item
-  own = itemOfHeader (w .grammar .parts .header)
+  own = itemOfHeader kind (w .grammar .parts .header)
 
   abbrev before : List (List Item)
-  before = itemsBy (w .pre)
+  before = itemsBy kind (w .pre)
 
   abbrev here : List Item
-  here = map ownItem (w .this)
+  here = map (ownItem kind) (w .this)
 
   abbrev after : List (List Item)
-  after = itemsBy (w .post)
+  after = itemsBy kind (w .post)
 
   found-so : dispositions (itemsOf f) ≡ before ++ (here ∷ after)
-  found-so = dispositions-so f (v .totals) (w .grammar) ∙ ap itemsBy (w .split) ∙ map-append (map ownItem) (w .pre) (w .this ∷ w .post)
+  found-so = dispositions-so f (v .totals) (w .grammar) ∙ ap (itemsBy kind) (w .split) ∙ map-append (map (ownItem kind)) (w .pre) (w .this ∷ w .post)
 
   parts : (take (k - 1) (dispositions (itemsOf f)) ≡ before) × (getD (dispositions (itemsOf f)) (k - 1) [] ≡ here) × (drop k (dispositions (itemsOf f)) ≡ after)
-  parts = parted k [] (dispositions (itemsOf f)) before here after found-so (w .numbered ∙ ap (λ (i : ℕ). 1 + i) (sym (length-map (w .pre) (map ownItem))))
+  parts = parted k [] (dispositions (itemsOf f)) before here after found-so (w .numbered ∙ ap (λ (i : ℕ). 1 + i) (sym (length-map (w .pre) (map (ownItem kind)))))
 
   pub without-listed : withoutDisposition k (itemsOf f) ≡ own ∷ flatten (before ++ after)
   unfolding withoutDisposition
@@ -123,31 +130,31 @@ gather-kept [] rec other after same = refl
 gather-kept ((a to e) ∷ ss) rec other after same =
     ap₂ (λ (xs ys : List ℕ). xs ++ ys) (same (a - 1) (e - (a - 1)) (after .0)) (gather-kept ss rec other (after .1) same)
 
-carried-kept : (r : Typed) (j : ℕ) → length (r .bytes) ≡ 120 → heads (recordKind (ownItem r)) ≡ false → ownItem (retyped j r) ≡ ownItem r
-carried-kept r j whole member = ap (item (kindFor (r .kind))) (gather-kept (carried (kindFor (r .kind))) (r .bytes) (renumbered j (r .bytes)) (carried-after-number (kindFor (r .kind)) member) (λ a n h. over-kept 3 7 j (r .bytes) whole (omega arith) a n (inr h)))
+carried-kept : (q : FlowKind) (r : Typed) (j : ℕ) → length (r .bytes) ≡ 120 → heads (recordKind (ownItem q r)) ≡ false → ownItem q (retyped j r) ≡ ownItem q r
+carried-kept q r j whole member = ap (item (kindFor q (r .kind))) (gather-kept (carried (kindFor q (r .kind))) (r .bytes) (renumbered j (r .bytes)) (carried-after-number (kindFor q (r .kind)) member) (λ a n h. over-kept 3 7 j (r .bytes) whole (omega arith) a n (inr h)))
 
-module _ (abi : List ℕ) where
-  details-kept : (i j : ℕ) (rs : List Typed) → All Detail (kindsOf rs) → All (Member abi i) rs → map ownItem (map (retyped j) rs) ≡ map ownItem rs
+module _ (q : FlowKind) (abi : List ℕ) where
+  details-kept : (i j : ℕ) (rs : List Typed) → All Detail (kindsOf rs) → All (Member abi i) rs → map (ownItem q) (map (retyped j) rs) ≡ map (ownItem q) rs
   details-kept i j [] details members = refl
   details-kept i j (r ∷ rs) details members =
-      ap₂ (λ (x : Item) (xs : List Item). x ∷ xs) (carried-kept r j (members .0 .0 .whole) (ap heads (detail-record (r .kind) (details .0)) ∙ detail-heads (r .kind) (details .0))) (details-kept i j rs (details .1) (members .1))
+      ap₂ (λ (x : Item) (xs : List Item). x ∷ xs) (carried-kept q r j (members .0 .0 .whole) (ap heads (detail-record q (r .kind) (details .0)) ∙ detail-heads (r .kind) (details .0))) (details-kept i j rs (details .1) (members .1))
 
-  pub items-retyped : (i j : ℕ) (d : List Typed) → RightDisposition abi i d → map ownItem (map (retyped j) d) ≡ map ownItem d
+  pub items-retyped : (i j : ℕ) (d : List Typed) → RightDisposition abi i d → map (ownItem q) (map (retyped j) d) ≡ map (ownItem q) d
   items-retyped i j d right = go d (opened-so d (right .order)) (right .records)
     where
-      go : (d : List Typed) → Opened d → All (Member abi i) d → map ownItem (map (retyped j) d) ≡ map ownItem d
+      go : (d : List Typed) → Opened d → All (Member abi i) d → map (ownItem q) (map (retyped j) d) ≡ map (ownItem q) d
       go d (opened-by r rs e details) members =
-          ap₂ (λ (x : Item) (xs : List Item). x ∷ xs) (carried-kept r j (members .0 .0 .whole) (ap (λ (k : RecordKind). heads (recordOf (kindFor k))) e)) (details-kept i j rs details (members .1))
+          ap₂ (λ (x : Item) (xs : List Item). x ∷ xs) (carried-kept q r j (members .0 .0 .whole) (ap (λ (k : RecordKind). heads (recordOf (kindFor q k))) e)) (details-kept i j rs details (members .1))
 
   -- so dispositions that are numbered anew have the same items
-  pub typed-items : (i j : ℕ) (ds : List (List Typed)) → RightDispositions abi i ds → itemsBy (typedFrom j ds) ≡ itemsBy ds
+  pub typed-items : (i j : ℕ) (ds : List (List Typed)) → RightDispositions abi i ds → itemsBy q (typedFrom j ds) ≡ itemsBy q ds
   typed-items i j [] each = refl
   typed-items i j (d ∷ ds) each = ap₂ (λ (x : List Item) (xs : List (List Item)). x ∷ xs) (items-retyped i j d (each .0)) (typed-items (suc i) (suc j) ds (each .1))
 
 -- and another amount in a 14 is another amount in its D
-gather-repriced : (new : ℕ) (rec : List ℕ) → length rec ≡ 120 → gather (carried (kindFor R14)) (repricedRecord new rec) ≡ put amountIndex (digits 13 new) (gather (carried (kindFor R14)) rec)
+gather-repriced : (q : FlowKind) (new : ℕ) (rec : List ℕ) → length rec ≡ 120 → gather (carried (kindFor q R14)) (repricedRecord new rec) ≡ put amountIndex (digits 13 new) (gather (carried (kindFor q R14)) rec)
 unfolding flatten
-gather-repriced new rec whole =
+gather-repriced q new rec whole =
     let other = repricedRecord new rec in
     let size = written-length 13 new in
     let fits : 33 + length (digits 13 new) ≤ length rec = omega arith in
@@ -159,17 +166,17 @@ gather-repriced new rec whole =
     (λ i. front i ++ (here i ++ (third i ++ (fourth i ++ []))))
     ∙ sym (put-at 6 (part 22 6 rec) (part 33 13 rec) (part 52 17 rec ++ (part 91 22 rec ++ [])) (digits 13 new) (part-length 22 6 rec (omega arith)) (part-length 33 13 rec (omega arith) ∙ sym size))
 
-module _ (new : ℕ) where
-  opening-item : (r : Typed) → r .kind ≡ R14 → length (r .bytes) ≡ 120 → ownItem (record { kind = r .kind; bytes = repricedRecord new (r .bytes) }) ≡ repriced new (ownItem r)
+module _ (q : FlowKind) (new : ℕ) where
+  opening-item : (r : Typed) → r .kind ≡ R14 → length (r .bytes) ≡ 120 → ownItem q (record { kind = r .kind; bytes = repricedRecord new (r .bytes) }) ≡ repriced new (ownItem q r)
   opening-item r e whole =
-      ap (item (kindFor (r .kind)))
-      (subst (λ (k : RecordKind). gather (carried (kindFor k)) (repricedRecord new (r .bytes)) ≡ put amountIndex (digits 13 new) (gather (carried (kindFor k)) (r .bytes))) (sym e) (gather-repriced new (r .bytes) whole))
+      ap (item (kindFor q (r .kind)))
+      (subst (λ (k : RecordKind). gather (carried (kindFor q k)) (repricedRecord new (r .bytes)) ≡ put amountIndex (digits 13 new) (gather (carried (kindFor q k)) (r .bytes))) (sym e) (gather-repriced q new (r .bytes) whole))
 
-  pub items-retold : (abi : List ℕ) (i : ℕ) (d : List Typed) → RightDisposition abi i d → map ownItem (retold new d) ≡ firstRepriced new (map ownItem d)
+  pub items-retold : (abi : List ℕ) (i : ℕ) (d : List Typed) → RightDisposition abi i d → map (ownItem q) (retold new d) ≡ firstRepriced new (map (ownItem q) d)
   items-retold abi i d right = go d (opened-so d (right .order)) (right .records)
     where
-      go : (d : List Typed) → Opened d → All (Member abi i) d → map ownItem (retold new d) ≡ firstRepriced new (map ownItem d)
-      go d (opened-by r rs e details) members = ap (λ (x : Item). x ∷ map ownItem rs) (opening-item r e (members .0 .0 .whole))
+      go : (d : List Typed) → Opened d → All (Member abi i) d → map (ownItem q) (retold new d) ≡ firstRepriced new (map (ownItem q) d)
+      go d (opened-by r rs e details) members = ap (λ (x : Item). x ∷ map (ownItem q) rs) (opening-item r e (members .0 .0 .whole))
 
 -- the cents of items
 cents-append : (xs ys : List Item) → listCents (xs ++ ys) ≡ listCents xs + listCents ys
@@ -177,27 +184,27 @@ unfolding listCents
 cents-append [] ys = omega arith
 cents-append (x ∷ xs) ys = omega (arith, cents-append xs ys)
 
-details-cents : (rs : List Typed) → All Detail (kindsOf rs) → listCents (map ownItem rs) ≡ 0
+details-cents : (q : FlowKind) (rs : List Typed) → All Detail (kindsOf rs) → listCents (map (ownItem q) rs) ≡ 0
 unfolding listCents
-details-cents [] details = refl
-details-cents (r ∷ rs) details =
-    let none : itemAmount (ownItem r) ≡ 0 = ap (λ (b : Bool). cond b (number (amountCarried (ownItem r .body))) 0) (detail-shut (r .kind) (details .0)) in
-    omega (arith, details-cents rs (details .1))
+details-cents q [] details = refl
+details-cents q (r ∷ rs) details =
+    let none : itemAmount (ownItem q r) ≡ 0 = ap (λ (b : Bool). cond b (number (amountCarried (ownItem q r .body))) 0) (detail-shut q (r .kind) (details .0)) in
+    omega (arith, details-cents q rs (details .1))
 
-opening-cents : (r : Typed) → r .kind ≡ R14 → length (r .bytes) ≡ 120 → itemAmount (ownItem r) ≡ number (amountIn (r .bytes))
-opening-cents r e whole =
-    subst (λ (k : RecordKind). itemAmount (item (kindFor k) (gather (carried (kindFor k)) (r .bytes))) ≡ number (amountIn (r .bytes))) (sym e)
-    (ap number (gather-at (carried (kindFor R14)) (firstOf amountSpan) (lastOf amountSpan) (r .bytes) (carried-within (kindFor R14)) whole refl))
+opening-cents : (q : FlowKind) (r : Typed) → r .kind ≡ R14 → length (r .bytes) ≡ 120 → itemAmount (ownItem q r) ≡ number (amountIn (r .bytes))
+opening-cents q r e whole =
+    subst (λ (k : RecordKind). itemAmount (item (kindFor q k) (gather (carried (kindFor q k)) (r .bytes))) ≡ number (amountIn (r .bytes))) (sym e)
+    (ap number (gather-at (carried (kindFor q R14)) (firstOf amountSpan) (lastOf amountSpan) (r .bytes) (carried-within (kindFor q R14)) whole refl))
 
-disposition-cents : (abi : List ℕ) (i : ℕ) (d : List Typed) → RightDisposition abi i d → listCents (map ownItem d) ≡ dispositionAmount d
+disposition-cents : (q : FlowKind) (abi : List ℕ) (i : ℕ) (d : List Typed) → RightDisposition abi i d → listCents (map (ownItem q) d) ≡ dispositionAmount d
 unfolding listCents
-disposition-cents abi i d right = go d (opened-so d (right .order)) (right .records)
+disposition-cents q abi i d right = go d (opened-so d (right .order)) (right .records)
   where
-    go : (d : List Typed) → Opened d → All (Member abi i) d → listCents (map ownItem d) ≡ dispositionAmount d
-    go d (opened-by r rs e details) members = omega (arith, opening-cents r e (members .0 .0 .whole), details-cents rs details)
+    go : (d : List Typed) → Opened d → All (Member abi i) d → listCents (map (ownItem q) d) ≡ dispositionAmount d
+    go d (opened-by r rs e details) members = omega (arith, opening-cents q r e (members .0 .0 .whole), details-cents q rs details)
 
-pub items-cents : (abi : List ℕ) (i : ℕ) (ds : List (List Typed)) → RightDispositions abi i ds → listCents (flatten (itemsBy ds)) ≡ amounts ds
+pub items-cents : (q : FlowKind) (abi : List ℕ) (i : ℕ) (ds : List (List Typed)) → RightDispositions abi i ds → listCents (flatten (itemsBy q ds)) ≡ amounts ds
 unfolding listCents flatten
-items-cents abi i [] each = refl
-items-cents abi i (d ∷ ds) each =
-    cents-append (map ownItem d) (flatten (itemsBy ds)) ∙ omega (arith, disposition-cents abi i d (each .0), items-cents abi (suc i) ds (each .1))
+items-cents q abi i [] each = refl
+items-cents q abi i (d ∷ ds) each =
+    cents-append (map (ownItem q) d) (flatten (itemsBy q ds)) ∙ omega (arith, disposition-cents q abi i d (each .0), items-cents q abi (suc i) ds (each .1))

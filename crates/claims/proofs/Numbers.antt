@@ -39,7 +39,7 @@ use Rattle.list.specs.Laws.{WriteFault}
 use Rattle.list.specs.ReadBack.{listOf}
 use Rattle.list.specs.Write.{judgeList}
 use Rattle.list.proofs.Answered.{read-back-refused}
-use Rattle.list.proofs.WriteNumbers.{numbers-supplied, write-refused-by}
+use Rattle.list.proofs.WriteNumbers.{numbers-supplied, kinds-supplied, write-refused-by}
 use Rattle.list.proofs.WriteRefused.{write-refused}
 use Rattle.amend.specs.Laws.{ChangeFault, not-read, no-disposition, amount-too-large, total-too-large, WithdrawFault, only-one}
 use Rattle.amend.proofs.Answered.{change-refused, withdraw-refused}
@@ -133,9 +133,9 @@ finding f k x e = by (find-refused f k x .0 e)
     by (inl wrong) = among findingNumbers readingNumbers (x .number) refl (reading f x wrong)
     by (inr (t, read, none, same)) = rw same
 
--- writing: those of every row but that of EF, which no item encodes; 9, which stands in them, is taken out at the end
+-- writing: those of every row but that of EF, which no item encodes; 9 and 22, which stand in them, are taken out at the end
 abbrev rowNumbers : List ℕ
-rowNumbers = 9 ∷ writingNumbers
+rowNumbers = 9 ∷ 22 ∷ writingNumbers
 
 writing-row : (ctx : Context) (rec : List ℕ) (k : RecordKind) → closes k ≡ false → areAmong rowNumbers (numbersOf (checks k ctx rec)) ≡ true
 unfolding every isListed checks
@@ -149,7 +149,10 @@ write-number =
     write-refused-by (OneOf rowNumbers) refl refl (λ k ctx rec so n p first. among rowNumbers (numbersOf (checks k ctx rec)) n (writing-row ctx rec k (so .not-ef)) (row-broken ctx rec k n p first)) refl refl refl refl
 
 writing : (list : List ℕ) (room : ℕ) (x : Refusal) → judgeList list room ≡ refused x → OneOf writingNumbers (x .number)
-writing list room x e = other-than 9 writingNumbers (x .number) (λ nine. numbers-supplied list room (x .«record») (x .position) (e ∙ ap (λ (m : ℕ). refused (refusal m (x .«record») (x .position))) nine)) (write-number (write-refused list room x .0 e))
+writing list room x e =
+    let by : (n : ℕ) → x .number ≡ n → judgeList list room ≡ refused (refusal n (x .«record») (x .position)) = λ n same. e ∙ ap (λ (m : ℕ). refused (refusal m (x .«record») (x .position))) same in
+    other-than 22 writingNumbers (x .number) (λ same. kinds-supplied list room (x .«record») (x .position) (by 22 same))
+    (other-than 9 (22 ∷ writingNumbers) (x .number) (λ same. numbers-supplied list room (x .«record») (x .position) (by 9 same)) (write-number (write-refused list room x .0 e)))
 
 -- the calls that read first, and then have numbers of their own
 change-number : {f : List ℕ} {k new : ℕ} {x : Refusal} → ChangeFault f k new x → OneOf changeNumbers (x .number)

@@ -10,6 +10,7 @@ use lib.Seq.{take-length}
 use borrow.Author.Tests.{leb-true, le-leb, lt-leb, lt-ltb, le-ltb}
 use Rattle.fields.specs.Amount.{mostAmount}
 use Rattle.records.specs.Limits.{mostCents}
+use Rattle.records.specs.declared.flow_kind.FlowKind.{FlowKind}
 use Rattle.flow.specs.Find.{IsNumber, find, withTotals, findWithTotals}
 use Rattle.flow.specs.Judge.{judge}
 use Rattle.flow.specs.Verdict.{Verdict, accepted, ofCall}
@@ -136,11 +137,14 @@ module _ (f : List ℕ) (t : Totals) (read : judge f ≡ accepted t) where
     abbrev ds : List (List Typed)
     ds = changedOf f k v w new below
 
-    amount-so : withAmount k new is ≡ itemOfHeader (w .grammar .parts .header) ∷ flatten (itemsBy ds)
+    abbrev q : FlowKind
+    q = v .totals .kind
+
+    amount-so : withAmount k new is ≡ itemOfHeader q (w .grammar .parts .header) ∷ flatten (itemsBy q ds)
     amount-so =
         let right = here f (v .totals) (w .grammar) (w .pre) (w .this) (w .post) (w .split) in
-        let same : itemsBy ds ≡ itemsBy (w .pre) ++ (firstRepriced new (map ownItem (w .this)) ∷ itemsBy (w .post)) = map-append (map ownItem) (w .pre) (retold new (w .this) ∷ w .post) ∙ ap (λ (l : List Item). itemsBy (w .pre) ++ (l ∷ itemsBy (w .post))) (items-retold new _ _ (w .this) right) in
-        amount-listed f k v w new ∙ ap (λ (l : List (List Item)). itemOfHeader (w .grammar .parts .header) ∷ flatten l) (sym same)
+        let same : itemsBy q ds ≡ itemsBy q (w .pre) ++ (firstRepriced new (map (ownItem q) (w .this)) ∷ itemsBy q (w .post)) = map-append (map (ownItem q)) (w .pre) (retold new (w .this) ∷ w .post) ∙ ap (λ (l : List Item). itemsBy q (w .pre) ++ (l ∷ itemsBy q (w .post))) (items-retold q new _ _ (w .this) right) in
+        amount-listed f k v w new ∙ ap (λ (l : List (List Item)). itemOfHeader q (w .grammar .parts .header) ∷ flatten l) (sym same)
 
     amount-cents : listCents (withAmount k new is) ≡ totalsChanged v new .cents
     unfolding listCents
@@ -148,7 +152,7 @@ module _ (f : List ℕ) (t : Totals) (read : judge f ≡ accepted t) where
         let each = changed-numbered f (v .totals) (w .grammar) (w .pre) (w .this) (w .post) (w .split) new below in
         let total = changed-cents f (v .totals) (w .grammar) (w .pre) (w .this) (w .post) (w .split) new below in
         let own : v .totals .cents - dispositionAmount (w .this) + new ≡ totalsChanged v new .cents = ap (λ (x : ℕ). v .totals .cents - x + new) (sym (w .amount)) in
-        ap listCents amount-so ∙ omega (arith, items-cents _ 1 ds each)
+        ap listCents amount-so ∙ omega (arith, items-cents q _ 1 ds each)
 
   module _ (k new : ℕ) where
     change-refused : {x : Refusal} → ChangeFault f k new x → Step f (change-of k new) (unchanged x f) (changeOn k new is)
@@ -214,14 +218,15 @@ module _ (f : List ℕ) (t : Totals) (read : judge f ≡ accepted t) where
     unfolding withdrawOn
     withdraw-made v found some =
         let w′ = neighbours-so f k found in
+        let q : FlowKind = v .totals .kind in
         let left = withdrawnFlow f k v found some in
         let list = withoutDisposition k is in
         let front = withdrawn-front f k v found some in
         let told : judge left ≡ accepted (totalsLeft v) = withdrawn-read f k v found some in
         let g = withdrawn-grammar f k v w′ some in
         let later = after f (v .totals) (w′ .grammar) (w′ .pre) (w′ .this) (w′ .post) (w′ .split) in
-        let same : itemsBy (restOf f k v w′) ≡ itemsBy (w′ .pre) ++ itemsBy (w′ .post) = map-append (map ownItem) (w′ .pre) (typedFrom (1 + length (w′ .pre)) (w′ .post)) ∙ ap (λ (l : List (List Item)). itemsBy (w′ .pre) ++ l) (typed-items _ _ _ (w′ .post) later) in
-        let listed : itemsOf left ≡ list = listed-so left (totalsLeft v) g ∙ ap (λ (l : List (List Item)). itemOfHeader (w′ .grammar .parts .header) ∷ flatten l) same ∙ sym (without-listed f k v w′) in
+        let same : itemsBy q (restOf f k v w′) ≡ itemsBy q (w′ .pre) ++ itemsBy q (w′ .post) = map-append (map (ownItem q)) (w′ .pre) (typedFrom (1 + length (w′ .pre)) (w′ .post)) ∙ ap (λ (l : List (List Item)). itemsBy q (w′ .pre) ++ l) (typed-items q _ _ _ (w′ .post) later) in
+        let listed : itemsOf left ≡ list = listed-so left (totalsLeft v) g ∙ ap (λ (l : List (List Item)). itemOfHeader q (w′ .grammar .parts .header) ∷ flatten l) same ∙ sym (without-listed f k v w′) in
         let there : has k is ≡ true = has-number k (t .dispositions) is count (found-number k v found) in
         let equal = ap (λ (u : Totals). u .dispositions) (totals-listed f (v .totals) (find-reads f k found .0)) in
         let more : ltb 1 (listDispositions is) ≡ true = lt-ltb 1 (listDispositions is) (omega arith) in

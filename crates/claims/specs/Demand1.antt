@@ -31,22 +31,22 @@ use Rattle.amend.specs.Withdraw.{withdraw}
 use Rattle.capi.specs.Laws.{RefusedLeaves, ReturnedTells}
 use Rattle.claims.specs.EntryPoints.{EntryPoints}
 
--- the numbers that document 01 gives to each call; 19 is given to none
+-- the numbers that documents 01 and 02 give to each call; 19 is given to none
 abbrev pub readingNumbers : List ℕ
-readingNumbers = 1 ∷ 2 ∷ 3 ∷ 4 ∷ 5 ∷ 6 ∷ 7 ∷ 8 ∷ 9 ∷ 10 ∷ 11 ∷ 12 ∷ 13 ∷ 14 ∷ []
+readingNumbers = 1 ∷ 2 ∷ 3 ∷ 4 ∷ 5 ∷ 6 ∷ 7 ∷ 8 ∷ 9 ∷ 10 ∷ 11 ∷ 12 ∷ 13 ∷ 14 ∷ 22 ∷ []
 
 abbrev pub findingNumbers : List ℕ
 findingNumbers = readingNumbers ++ (15 ∷ [])
 
 -- a record alone, and at its place in the flow
 abbrev pub recordNumbers : List ℕ
-recordNumbers = 1 ∷ 5 ∷ 6 ∷ 7 ∷ 8 ∷ 9 ∷ 10 ∷ 11 ∷ 12 ∷ 13 ∷ 14 ∷ []
+recordNumbers = 1 ∷ 5 ∷ 6 ∷ 7 ∷ 8 ∷ 9 ∷ 10 ∷ 11 ∷ 12 ∷ 13 ∷ 14 ∷ 22 ∷ []
 
 abbrev pub placeNumbers : List ℕ
 placeNumbers = 2 ∷ 3 ∷ recordNumbers
 
--- writing gives none of 4, 9, 12, 13 and 14: the flow always ends with EF, which is not judged, and the writer itself gives each record its
--- number
+-- writing gives none of 4, 9, 12, 13, 14 and 22: the flow always ends with EF, which is not judged, and the writer itself gives each record its
+-- number and each 14 the causale of the header meant
 abbrev pub writingNumbers : List ℕ
 writingNumbers = 20 ∷ 1 ∷ 21 ∷ 2 ∷ 3 ∷ 5 ∷ 6 ∷ 7 ∷ 8 ∷ 10 ∷ 11 ∷ 17 ∷ []
 

@@ -1,6 +1,6 @@
 -- Demand 2. Assumes nothing.
 use Rattle.flow.specs.Laws.{AcceptedExact, PartPlaced}
-use Rattle.grammar.specs.Laws.{GrammarExact, PartsExact, PlacesExact, OpeningExact}
+use Rattle.grammar.specs.Laws.{GrammarExact, OneKind, PartsExact, PlacesExact, OpeningExact}
 use Rattle.list.specs.Laws.{ItemsExact, WriteAccepted, WriteAnswers, WriteLeaves, WrittenExact, OwnList, OwnItems, ReadBackAccepted, ReadBackAnswers, ReadBackLeaves, RewrittenExact, RewrittenSame, UncheckedOnly}
 
 pub record Demand2 : Type 0 where
@@ -8,6 +8,8 @@ pub record Demand2 : Type 0 where
   -- records": the answer is accepted with these numbers exactly where the flow is one of the grammar, and they are its sums
   pub accepted-exactly : GrammarExact
   pub sums : AcceptedExact
+  -- document 02, E1: "new requests and recalls may not share a flow"; the kind answered is that of each of its records 14
+  pub one-kind : OneKind
   -- where each disposition of it stands: together all that is between header and trailer, in order, each at its own place in the flow
   pub parts : PartsExact
   pub part-placed : PartPlaced

@@ -37,11 +37,11 @@ pub record Agrees (f : List ℕ) (after : Memory) (answers : List Reply) (list :
 abbrev pub KeepsLedger : List ℕ → List Call → Memory → List Reply → Type 0
 KeepsLedger f calls after answers = Agrees f after answers (listAfter calls (itemsOf f)) (repliesOn calls (itemsOf f))
 
--- the positions that document 01 names for an accepted call, where disposition k stands as it was found, and the trailer is the last
+-- the positions that documents 01 and 02 name for an accepted call, where disposition k stands as it was found, and the trailer is the last
 -- record: of a change by byte index; of a withdrawal by comparing each record that is kept with the one that it came from
 abbrev pub TouchesOnly : Call → List ℕ → Amended → WithTotals → Type 0
-TouchesOnly (change-of k new) f a v = AmountOnly f (a .bytes) (v .totals .records) (v .location .first)
-TouchesOnly (withdrawal-of k) f a v = Moved f (flowLeft a) (v .totals .records) (v .location .first) (v .location .records)
+TouchesOnly (change-of k new) f a v = AmountOnly f (a .bytes) (v .totals) (v .location .first)
+TouchesOnly (withdrawal-of k) f a v = Moved f (flowLeft a) (v .totals) (v .location .first) (v .location .records)
 
 abbrev pub numberOf : Call → ℕ
 numberOf (change-of k new) = k

@@ -37,6 +37,20 @@ use Rattle.records.proofs.heads.Reads.{requires as heads-requires}
 use Rattle.records.proofs.heads.Statement.{statement as heads-statement}
 use Rattle.records.proofs.opens.Reads.{requires as opens-requires}
 use Rattle.records.proofs.opens.Statement.{statement as opens-statement}
+use Rattle.records.proofs.causale_of.Reads.{requires as causale-of-requires}
+use Rattle.records.proofs.causale_of.Statement.{statement as causale-of-statement}
+use Rattle.records.proofs.sign_of.Reads.{requires as sign-of-requires}
+use Rattle.records.proofs.sign_of.Statement.{statement as sign-of-statement}
+use Rattle.records.proofs.total_first.Reads.{requires as total-first-requires}
+use Rattle.records.proofs.total_first.Statement.{statement as total-first-statement}
+use Rattle.records.proofs.total_last.Reads.{requires as total-last-requires}
+use Rattle.records.proofs.total_last.Statement.{statement as total-last-statement}
+use Rattle.records.proofs.total_at.Reads.{requires as total-at-requires}
+use Rattle.records.proofs.total_at.Statement.{statement as total-at-statement}
+use Rattle.records.proofs.kind_in.Reads.{requires as kind-in-requires}
+use Rattle.records.proofs.kind_in.Statement.{statement as kind-in-statement}
+use Rattle.records.proofs.or_requests.Reads.{requires as or-requests-requires}
+use Rattle.records.proofs.or_requests.Statement.{statement as or-requests-statement}
 use Rattle.flow.proofs.read.Reads.{requires as read-requires}
 use Rattle.flow.proofs.read.Statement.{statement as read-statement}
 use Rattle.flow.proofs.latest_company.Reads.{requires as latest-company-requires}
@@ -117,6 +131,13 @@ pub record EntryPoints : Type 2 where
   pub amount : EntryPoint amount-statement amount-requires
   pub heads : EntryPoint heads-statement heads-requires
   pub opens : EntryPoint opens-statement opens-requires
+  pub causale-of : EntryPoint causale-of-statement causale-of-requires
+  pub sign-of : EntryPoint sign-of-statement sign-of-requires
+  pub total-first : EntryPoint total-first-statement total-first-requires
+  pub total-last : EntryPoint total-last-statement total-last-requires
+  pub total-at : EntryPoint total-at-statement total-at-requires
+  pub kind-in : EntryPoint kind-in-statement kind-in-requires
+  pub or-requests : EntryPoint or-requests-statement or-requests-requires
   -- flow: a flow: reading it, the walk, and where a disposition is
   pub read : EntryPoint read-statement read-requires
   pub latest-company : EntryPoint latest-company-statement latest-company-requires

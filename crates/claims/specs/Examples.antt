@@ -4,17 +4,19 @@ use Prim.Native.Nat.{ℕ}
 use mathlib.Core.List.{List, [], _∷_, _++_}
 use mathlib.Core.Path.{_≡_}
 use lib.ListN.{length, drop, replicate}
+use Rattle.sequences.specs.Part.{put}
 use Rattle.sequences.specs.Text.{text}
 use Rattle.fields.specs.FieldVerdict.{accepted as FieldVerdict·accepted}
 use Rattle.fields.specs.FieldVerdict.{refused as FieldVerdict·refused}
 use Rattle.fields.specs.Date.{dateField}
 use Rattle.records.specs.Field.{field}
-use Rattle.flow.specs.Examples.{flowOf, headerIm, trailerEf, further59, withFurther, twoRents}
+use Rattle.records.specs.declared.flow_kind.FlowKind.the-variants.{Requests, Recalls}
+use Rattle.flow.specs.Examples.{flowOf, headerIm, trailerEf, further59, withFurther, twoRents, recalledAt, twoRecalls}
 use Rattle.flow.specs.Judge.{judge}
 use Rattle.flow.specs.Records.{recordAt}
 use Rattle.flow.specs.Verdict.{accepted, refused, refusal, ofCall}
 use Rattle.list.specs.Encode.{trailerFor, encode}
-use Rattle.list.specs.Examples.{headerItem, secondItems, twoRentList, oneRentList}
+use Rattle.list.specs.Examples.{headerItem, secondItems, twoRentList, twoRecallList, oneRentList}
 use Rattle.list.specs.Items.{listBytes, itemsIn}
 use Rattle.amend.specs.Change.{change}
 use Rattle.amend.specs.Laws.{Untouched, flowLeft}
@@ -31,13 +33,13 @@ pub record Examples : Type 0 where
   -- "disposition 2 changed to 40000: total 85000", in the answer and in the bytes of EF; and the amount in those of record 9
   pub two :
       let a = change twoRents 2 40000 in
-      (a .answer ≡ accepted (record { dispositions = 2; cents = 85000; records = 16 }))
+      (a .answer ≡ accepted (record { kind = Requests; dispositions = 2; cents = 85000; records = 16 }))
       × (field 53 67 (recordAt 15 (flowLeft a)) ≡ text "000000000085000")
       × (field 34 46 (recordAt 8 (flowLeft a)) ≡ text "0000000040000")
   -- "disposition 1 withdrawn instead: 1,080 bytes, total 38050, 840 blanks"
   pub three :
       let a = withdraw twoRents 1 in
-      (a .answer ≡ accepted (record { dispositions = 1; cents = 38050; records = 9 }))
+      (a .answer ≡ accepted (record { kind = Requests; dispositions = 1; cents = 38050; records = 9 }))
       × (a .size ≡ 1080)
       × (field 53 67 (recordAt 8 (flowLeft a)) ≡ text "000000000038050")
       × (drop 1080 (a .bytes) ≡ replicate 840 32)
@@ -57,6 +59,34 @@ pub record Examples : Type 0 where
   -- "withdrawing 1 of 1: 18", and nothing is touched
   pub ten : (withdraw oneRent 1 .answer ≡ refused (ofCall 18)) × Untouched oneRent (withdraw oneRent 1)
 
+-- document 02, E1: the recall of both rents
+pub record RecallExamples : Type 0 where
+  -- the two-rent list with Q for H encodes it, with zeros at 53-67 of EF and the sum at 68-82; it is accepted as recalls
+  pub encoded : encode (itemsIn twoRecallList) ≡ twoRecalls
+  pub trailer : (field 53 67 (trailerFor (itemsIn twoRecallList)) ≡ text "000000000000000") × (field 68 82 (trailerFor (itemsIn twoRecallList)) ≡ text "000000000083050")
+  pub read : judge twoRecalls ≡ accepted (record { kind = Recalls; dispositions = 2; cents = 83050; records = 16 })
+  -- disposition 2 changed to 40000: total 85000 at 68-82; and disposition 1 withdrawn instead
+  pub changed :
+      let a = change twoRecalls 2 40000 in
+      (a .answer ≡ accepted (record { kind = Recalls; dispositions = 2; cents = 85000; records = 16 }))
+      × (field 53 67 (recordAt 15 (flowLeft a)) ≡ text "000000000000000")
+      × (field 68 82 (recordAt 15 (flowLeft a)) ≡ text "000000000085000")
+  pub withdrawn :
+      let a = withdraw twoRecalls 1 in
+      (a .answer ≡ accepted (record { kind = Recalls; dispositions = 1; cents = 38050; records = 9 }))
+      × (field 53 67 (recordAt 8 (flowLeft a)) ≡ text "000000000000000")
+      × (field 68 82 (recordAt 8 (flowLeft a)) ≡ text "000000000038050")
+  -- the ledger answers with the kind that its Q gives
+  pub answered :
+      repliesOn (change-of 2 40000 ∷ withdrawal-of 1 ∷ []) (itemsIn twoRecallList)
+      ≡ change-accepted (record { kind = Recalls; dispositions = 2; cents = 85000; records = 16 })
+      ∷ withdrawal-accepted (record { kind = Recalls; dispositions = 1; cents = 40000; records = 9 }) 1080
+      ∷ []
+  -- a second 14 of the other kind: 22 at its record, 29; 07200 in a first or a second 14: 6 at 29; 07100 with "-": 6 at 47
+  pub mixed : judge (recalledAt 8 twoRents) ≡ refused (refusal 22 9 29)
+  pub no-kind : (judge (put 148 (text "07200") twoRents) ≡ refused (refusal 6 2 29)) × (judge (put 988 (text "07200") twoRecalls) ≡ refused (refusal 6 9 29))
+  pub wrong-sign : judge (put 166 (text "-") twoRecalls) ≡ refused (refusal 6 2 47)
+
 -- beside these, a list of calls on the ledger that starts as the two-rent flow's list: an amount, a number and an amount that are refused, a
 -- withdrawal, one of the only disposition, and an amount of what is now the first
 abbrev pub someCalls : List Call
@@ -72,12 +102,12 @@ someCalls =
 pub record LedgerExample : Type 0 where
   pub answered :
       repliesOn someCalls (itemsIn twoRentList)
-      ≡ change-accepted (record { dispositions = 2; cents = 85000; records = 16 })
+      ≡ change-accepted (record { kind = Requests; dispositions = 2; cents = 85000; records = 16 })
       ∷ call-refused (ofCall 15)
       ∷ call-refused (ofCall 16)
-      ∷ withdrawal-accepted (record { dispositions = 1; cents = 40000; records = 9 }) 1080
+      ∷ withdrawal-accepted (record { kind = Requests; dispositions = 1; cents = 40000; records = 9 }) 1080
       ∷ call-refused (ofCall 18)
-      ∷ change-accepted (record { dispositions = 1; cents = 39000; records = 9 })
+      ∷ change-accepted (record { kind = Requests; dispositions = 1; cents = 39000; records = 9 })
       ∷ []
   -- the header's item, and the second rent's with the new amount
   pub left :

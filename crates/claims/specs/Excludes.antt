@@ -1,18 +1,22 @@
--- For each wrong program that document 01 names ("What the promises must exclude", "Errors that look right") the demand that it breaks, as
--- a statement about any program that meets the demand. A program is here what it answers and leaves, as a function of what it is given.
--- Assumes nothing.
-use Prim.Native.Nat.{ℕ, _*_, _≤_}
+-- For each wrong program that document 01 names ("What the promises must exclude", "Errors that look right"), and for those of document 02's
+-- requests, the demand that it breaks, as a statement about any program that meets the demand. A program is here what it answers and leaves,
+-- as a function of what it is given. Assumes nothing.
+use Prim.Native.Nat.{ℕ, _*_, _≤_, _<_}
+use mathlib.Core.Bool.{true}
 use mathlib.Core.List.{List, [], _∷_, _++_}
 use mathlib.Core.Logic.{_↔_}
 use mathlib.Core.Path.{_≡_}
-use lib.ListN.{length, take}
+use lib.ListN.{length, take, getD}
 use Rattle.sequences.specs.Part.{put}
 use Rattle.sequences.specs.Text.{text}
-use Rattle.flow.specs.Examples.{flowOf, further59, firstClosed, withFurther, twoRents}
+use Rattle.records.specs.Field.{field}
+use Rattle.records.specs.Kinds.{isOpening}
+use Rattle.records.specs.declared.flow_kind.FlowKind.the-variants.{Requests}
+use Rattle.flow.specs.Examples.{flowOf, further59, firstClosed, withFurther, twoRents, twoRecalls}
 use Rattle.flow.specs.Judge.{judge}
 use Rattle.flow.specs.Output.{Output, LeftAlone}
-use Rattle.flow.specs.Records.{recordsOf}
-use Rattle.flow.specs.ExactTotals.{openingCount, amountSum}
+use Rattle.flow.specs.Records.{recordAt, recordsOf}
+use Rattle.flow.specs.ExactTotals.{openingCount, amountSum, kindOf}
 use Rattle.flow.specs.Verdict.{Verdict, accepted, refused, refusal}
 use Rattle.flow.specs.declared.answer.Refusal.{Refusal}
 use Rattle.flow.specs.declared.answer.Totals.{Totals}
@@ -27,7 +31,7 @@ use Rattle.amend.specs.Change.{change}
 use Rattle.amend.specs.Laws.{ChangeFault, WithdrawFault}
 use Rattle.amend.specs.Withdraw.{withdraw}
 use Rattle.claims.specs.Demand3.{KeepsLedger}
-use Rattle.claims.specs.Ledger.{Call, Reply, withdrawal-of}
+use Rattle.claims.specs.Ledger.{Call, Reply, change-of, withdrawal-of}
 use Rattle.claims.specs.Run.{Memory, holding, flowIn, run, replies}
 
 -- a reader, and that it meets demand 2, or demand 1
@@ -48,6 +52,14 @@ abbrev pub LowestNumber : Reader → Type 0
 LowestNumber read =
     (f : List ℕ) (x : Refusal) → read f ≡ refused x → (before : List (List ℕ)) (rec : List ℕ) (after : List (List ℕ)) (m q : ℕ)
     → recordsOf f ≡ before ++ (rec ∷ after) → FaultAfter f before rec m q → x .number ≤ m
+
+-- requests and recalls in one flow: two of its records 14 have different causali
+pub record Mixed (f : List ℕ) : Type 0 where
+  pub one : ℕ
+  pub other : ℕ
+  pub there : (one < length (recordsOf f)) × (other < length (recordsOf f))
+  pub openings : (isOpening (getD (recordsOf f) one []) ≡ true) × (isOpening (getD (recordsOf f) other []) ≡ true)
+  pub differ : ¬ (field 29 33 (getD (recordsOf f) one []) ≡ field 29 33 (getD (recordsOf f) other []))
 
 -- a writer, and that it meets demand 1: a refused call leaves the output as it was
 abbrev pub Writer : Type 0
@@ -121,5 +133,15 @@ pub record Excludes : Type 0 where
   -- "writing output before the last item has been judged, then refusing": the two-rent list whose last item alone breaks a rule
   pub written-early :
       (judgeItems (itemsIn lastWrong) ≡ refused (refusal 6 15 94)) × ((writer : Writer) → RefusesUntouched writer → (out : List ℕ) → LeftAlone (writer lastWrong out) out)
+  -- Document 02, E1. A reader that accepts a flow in which requests and recalls are mixed
+  pub mixed-accepted : (read : Reader) → AcceptsExactly read → (f : List ℕ) → Mixed f → ¬ ((t : Totals) × (read f ≡ accepted t))
+  -- one that makes up the kind, or answers requests for every flow: the kind is that of the first record 14
+  pub made-up-kind : (read : Reader) → AcceptsExactly read → (f : List ℕ) (t : Totals) → read f ≡ accepted t → t .kind ≡ kindOf (recordsOf f)
+  pub always-requests : (read : Reader) → AcceptsExactly read → ¬ ((f : List ℕ) (t : Totals) → read f ≡ accepted t → t .kind ≡ Requests)
+  -- an amendment that writes a recall's total at 53-67: after the second of two recalls has become 40000 cents, zeros stand there, and the total
+  -- at 68-82
+  pub recall-total-elsewhere :
+      (serve : Service) → Serves serve → let trailer = recordAt 15 (flowIn (serve (change-of 2 40000 ∷ []) twoRecalls .after)) in
+      (field 53 67 trailer ≡ text "000000000000000") × (field 68 82 trailer ≡ text "000000000085000")
   -- "reporting the lowest refusal number, where the lowest record is wanted"
   pub lowest-number : (read : Reader) → RefusesFirst read → ¬ LowestNumber read

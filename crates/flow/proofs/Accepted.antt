@@ -11,9 +11,11 @@ use Rattle.fields.specs.Digits.{number}
 use Rattle.records.specs.Amount.{amountIn}
 use Rattle.records.specs.Bytes.{badByte}
 use Rattle.records.specs.Context.{Header, context, headerOf}
+use Rattle.records.specs.FlowKinds.{kindIn, orRequests, firstKnown}
 use Rattle.records.specs.RecordVerdict.{RecordVerdict, right}
 use Rattle.records.specs.RecordVerdict.{refused as RecordVerdict·refused}
 use Rattle.records.specs.Kinds.{isOpening, opened}
+use Rattle.records.specs.declared.flow_kind.KindFound.{KindFound}
 use Rattle.records.specs.declared.kind.RecordKind.{RecordKind}
 use Rattle.records.proofs.ByKind.{right-asked, opens-type}
 use Rattle.records.proofs.Numbers.{one-for-length}
@@ -21,8 +23,8 @@ use Rattle.flow.specs.Judge.{unlessFault, walkTotals, ended, walkFrom, j
 use Rattle.flow.specs.Records.{RightLength, isLength, recordsOf, mostBytes}
 use Rattle.flow.specs.Laws.{LengthRefused, Ceiling, AcceptedExact, AnswerDetermined}
 use Rattle.flow.specs.Order.{permitted, isDue, among}
-use Rattle.flow.specs.Walking.{start, countsAt, step, latest, judgeTyped, judgeRecord}
-use Rattle.flow.specs.ExactTotals.{openingCount, amountSum}
+use Rattle.flow.specs.Walking.{start, countsAt, kindAfter, step, latest, judgeTyped, judgeRecord}
+use Rattle.flow.specs.ExactTotals.{openingCount, amountSum, kindFrom, kindOf}
 use Rattle.flow.specs.Verdict.{Verdict, accepted, refused, refusal, ofCall}
 use Rattle.flow.specs.declared.answer.Refusal.{Refusal}
 use Rattle.flow.specs.declared.answer.Totals.{Totals}
@@ -59,52 +61,61 @@ adds :
 adds header w company n rec k c e =
     let kept = right-typed header w company n rec k c e in
     let kind = opens-type k rec (kept .0) in
-    let cents = right-asked k k (context header company (countsAt w n k)) rec c (kept .1) .1 in
+    let cents = right-asked k k (context header company (w .kind) (countsAt w n k)) rec c (kept .1) .1 in
     (rw kind, cents ∙ rw kind)
+
+-- and what it tells of the kind of flow
+decides :
+    (header : Header) (w : Walk) (company : List ℕ) (n : ℕ) (rec : List ℕ) (k : RecordKind) (c : ℕ)
+    → judgeRecord header w company n rec ≡ right k c → kindAfter (w .kind) k rec ≡ cond (isOpening rec) (firstKnown (w .kind) (kindIn rec)) (w .kind)
+decides header w company n rec k c e = rw (opens-type k rec (right-typed header w company n rec k c e .0))
 
 -- after a state, the counts are its own and those of the records to come
 pub record Adding (w : Walk) (i : ℕ) (recs : List (List ℕ)) (t : Totals) : Type 0 where
   pub dispositions : t .dispositions ≡ w .dispositions + openingCount recs
   pub cents : t .cents ≡ w .cents + amountSum recs
   pub records : t .records ≡ i + length recs
+  pub kind : t .kind ≡ orRequests (kindFrom (w .kind) recs)
 
 exact-from :
     (header : Header) (w : Walk) (company : List ℕ) (i : ℕ) (recs : List (List ℕ)) (t : Totals) → walkFrom ended header w company i recs ≡ accepted t → Adding w i recs t
-unfolding walkFrom openingCount amountSum
+unfolding walkFrom openingCount amountSum kindFrom
 exact-from header w company i [] t = λ e.
     let told = ended-so w i e .1 in
     record {
       dispositions = sym (ap (λ (u : Totals). u .dispositions) told) ∙ omega arith;
       cents = sym (ap (λ (u : Totals). u .cents) told) ∙ omega arith;
       records = sym (ap (λ (u : Totals). u .records) told) ∙ omega arith;
+      kind = sym (ap (λ (u : Totals). u .kind) told);
     }
-exact-from header w company i (rec ∷ recs) t = next (judgeRecord header w company (suc i) rec) refl (λ k a. exact-from header (step w k a) (latest k company rec) (suc i) recs t)
+exact-from header w company i (rec ∷ recs) t = next (judgeRecord header w company (suc i) rec) refl (λ k a. exact-from header (step w k a rec) (latest k company rec) (suc i) recs t)
   where
     next :
         (x : RecordVerdict) → judgeRecord header w company (suc i) rec ≡ x
-        → ((k : RecordKind) (a : ℕ) → walkFrom ended header (step w k a) (latest k company rec) (suc i) recs ≡ accepted t → Adding (step w k a) (suc i) recs t)
-        → unlessFault (suc i) x (λ k a. walkFrom ended header (step w k a) (latest k company rec) (suc i) recs) ≡ accepted t → Adding w i (rec ∷ recs) t
+        → ((k : RecordKind) (a : ℕ) → walkFrom ended header (step w k a rec) (latest k company rec) (suc i) recs ≡ accepted t → Adding (step w k a rec) (suc i) recs t)
+        → unlessFault (suc i) x (λ k a. walkFrom ended header (step w k a rec) (latest k company rec) (suc i) recs) ≡ accepted t → Adding w i (rec ∷ recs) t
     next (right k a) found rest e =
         let more = adds header w company (suc i) rec k a found in
         let counts = rest k a e in
         let dispositions = counts .dispositions in
         let cents = counts .cents in
         let records = counts .records in
-        record { dispositions = omega arith; cents = omega arith; records = omega arith }
+        let kind = ap (λ (q : KindFound). orRequests (kindFrom q recs)) (decides header w company (suc i) rec k a found) in
+        record { dispositions = omega arith; cents = omega arith; records = omega arith; kind = counts .kind ∙ kind }
     next (RecordVerdict·refused m p) found rest e = absurd (accepted-not-refused e)
 
 pub accepted-exact : AcceptedExact
 unfolding judge
 accepted-exact f t = go-on (isLength (length f)) refl
   where
-    go-on : (b : Bool) → isLength (length f) ≡ b → cond b (walkFrom ended (headerOf (take 120 f)) start [] 0 (recordsOf f)) (refused (ofCall 1)) ≡ accepted t → (t .dispositions ≡ openingCount (recordsOf f)) × (t .cents ≡ amountSum (recordsOf f)) × (t .records * 120 ≡ length f)
+    go-on : (b : Bool) → isLength (length f) ≡ b → cond b (walkFrom ended (headerOf (take 120 f)) start [] 0 (recordsOf f)) (refused (ofCall 1)) ≡ accepted t → (t .dispositions ≡ openingCount (recordsOf f)) × (t .cents ≡ amountSum (recordsOf f)) × (t .records * 120 ≡ length f) × (t .kind ≡ kindOf (recordsOf f))
     go-on true h e =
         let exact = exact-from (headerOf (take 120 f)) start [] 0 (recordsOf f) t e in
         let said = length-said (length f) h in
         let dispositions = exact .dispositions in
         let cents = exact .cents in
         let records = exact .records in
-        (omega arith, omega arith, omega (arith, cut-count (length f / 120) f))
+        (omega arith, omega arith, omega (arith, cut-count (length f / 120) f), exact .kind)
     go-on false h e = absurd (accepted-not-refused e)
 
 -- a record of 120 bytes is not refused by 1
@@ -114,7 +125,7 @@ record-not-one header w company n rec p whole e = bytes (eqb (badByte rec) 0) (a
   where
     bytes : (b : Bool) (x : TypeFound) → ¬ (cond b (judgeTyped header w company n rec x) (RecordVerdict·refused 2 (badByte rec)) ≡ RecordVerdict·refused 1 p)
     bytes true Missing x = let z : _≡_ {A = ℕ} 3 1 = cc in omega arith
-    bytes true (Of k) x = one-for-length k (context header company (countsAt w n k)) rec p .0 x .1 whole
+    bytes true (Of k) x = one-for-length k (context header company (w .kind) (countsAt w n k)) rec p .0 x .1 whole
     bytes false found x = let z : _≡_ {A = ℕ} 2 1 = cc in omega arith
 
 -- so of whole records no refusal is by 1
@@ -126,11 +137,11 @@ refused-later header w company i [] r p whole = end (isDue (permitted (w .place 
     end true x = let z : _≡_ {A = ℕ} 4 1 = ap (λ (y : Refusal). y .number) (refused-same x) in omega arith
     end false x = accepted-not-refused (sym x)
 refused-later header w company i (rec ∷ recs) r p whole =
-    next (judgeRecord header w company (suc i) rec) refl (λ k a. refused-later header (step w k a) (latest k company rec) (suc i) recs r p (whole .1))
+    next (judgeRecord header w company (suc i) rec) refl (λ k a. refused-later header (step w k a rec) (latest k company rec) (suc i) recs r p (whole .1))
   where
     next :
-        (x : RecordVerdict) → judgeRecord header w company (suc i) rec ≡ x → ((k : RecordKind) (a : ℕ) → ¬ (walkFrom ended header (step w k a) (latest k company rec) (suc i) recs ≡ refused (refusal 1 r p)))
-        → ¬ (unlessFault (suc i) x (λ k a. walkFrom ended header (step w k a) (latest k company rec) (suc i) recs) ≡ refused (refusal 1 r p))
+        (x : RecordVerdict) → judgeRecord header w company (suc i) rec ≡ x → ((k : RecordKind) (a : ℕ) → ¬ (walkFrom ended header (step w k a rec) (latest k company rec) (suc i) recs ≡ refused (refusal 1 r p)))
+        → ¬ (unlessFault (suc i) x (λ k a. walkFrom ended header (step w k a rec) (latest k company rec) (suc i) recs) ≡ refused (refusal 1 r p))
     next (right k a) found rest x = rest k a x
     next (RecordVerdict·refused m q) found rest x =
         let one : m ≡ 1 = ap (λ (y : Refusal). y .number) (refused-same x) in

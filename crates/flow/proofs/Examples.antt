@@ -8,6 +8,7 @@ use Rattle.fields.specs.Calendar.{isLeap, daysIn, isDay}
 use Rattle.fields.specs.Digits.{numberFrom}
 use Rattle.records.specs.Bytes.{badFrom}
 use Rattle.records.specs.Checks.{isListed, checks}
+use Rattle.records.specs.FlowKinds.{kindAmong}
 use Rattle.records.specs.RecordVerdict.{firstFault}
 use Rattle.records.specs.Judge.{judgeAs}
 use Rattle.flow.specs.Examples.{FlowExamples}
@@ -18,7 +19,7 @@ use Rattle.flow.specs.Order.{among}
 use Rattle.flow.specs.Walking.{judgeTyped, judgeRecord}
 
 pub examples : FlowExamples
-unfolding judge walkFrom cut judgeRecord judgeTyped among judgeAs firstFault checks isListed badFrom isEqual numberFrom every isDay daysIn isLeap find groups lead flatten
+unfolding kindAmong judge walkFrom cut judgeRecord judgeTyped among judgeAs firstFault checks isListed badFrom isEqual numberFrom every isDay daysIn isLeap find groups lead flatten
 examples =
     record {
       two-rents = refl;
@@ -35,4 +36,16 @@ examples =
       second-part = refl;
       second-offset = refl;
       no-offset = refl;
+      two-recalls = refl;
+      recall-after-request = refl;
+      request-after-recall = refl;
+      no-kind-first = refl;
+      no-kind-second = refl;
+      recall-with-minus = refl;
+      request-with-plus = refl;
+      recall-asked = refl;
+      recall-nowhere = refl;
+      recall-twice = refl;
+      request-recalled = refl;
+      recall-no-digits = refl;
     }

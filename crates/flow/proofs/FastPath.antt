@@ -15,7 +15,7 @@ use Rattle.records.specs.Field.{field}
 use Rattle.records.specs.RecordVerdict.{right, Hold}
 use Rattle.records.specs.Judge.{judgeAs}
 use Rattle.records.specs.Kinds.{opened, closes}
-use Rattle.records.specs.Limits.{countLimit, centsLimit}
+use Rattle.records.specs.Limits.{countLimit}
 use Rattle.records.specs.QuickTest.{passesQuickTest}
 use Rattle.records.specs.declared.kind.RecordKind.{RecordKind}
 use Rattle.records.specs.declared.kind.RecordKind.the-variants.{Im, R14, R16, R20, R30, R40, R50, R59, R51, R70, Ef}
@@ -26,7 +26,7 @@ use Rattle.flow.specs.FastPath.{isInside, Inside, NumberBefore, atPlace,
 use Rattle.flow.specs.Judge.{walkFrom}
 use Rattle.flow.specs.Order.{permitted, isDue, allGoOn, placeAfter, among}
 use Rattle.flow.specs.Records.{recordAt, recordsFrom}
-use Rattle.flow.specs.Walking.{dispositionsWith, step, latest, judgeRecord, saturated}
+use Rattle.flow.specs.Walking.{kindAfter, dispositionsWith, step, latest, judgeRecord, saturated}
 use Rattle.flow.specs.Verdict.{Verdict}
 use Rattle.flow.specs.declared.answer.Totals.{Totals}
 use Rattle.flow.specs.declared.order.Due.{Due}
@@ -56,7 +56,7 @@ right-at-place header w company n before rec k whole numbered inside passes =
     let known = numbered (inside .0) in
     let value = known .1 in
     let none : opened k ≡ 0 = rw (told .1) in
-    of-type header w company n rec whole k (told .0) (inside .1) ∙ told .4 (context header company (handed w n k)) (known .0) (omega arith)
+    of-type header w company n rec whole k (told .0) (inside .1) ∙ told .4 (context header company (w .kind) (handed w n k)) (known .0) (omega arith)
 
 -- a record after which a disposition goes on has its number
 number-held :
@@ -78,9 +78,9 @@ number-held f Ef ctx rec e h = absurd (true≢false (sym e))
 -- so after a right record the next one's number is known
 numbered-next :
     (header : Header) (w : Walk) (company : List ℕ) (n : ℕ) (rec : List ℕ) (k : RecordKind) (c : ℕ) → length rec ≡ 120
-    → judgeRecord header w company n rec ≡ right k c → NumberBefore (step w k c) rec
+    → judgeRecord header w company n rec ≡ right k c → NumberBefore (step w k c rec) rec
 numbered-next header w company n rec k c whole found inside =
-    let ctx : Context = context header company (handed w n k) in
+    let ctx : Context = context header company (w .kind) (handed w n k) in
     let told : judgeAs k ctx rec ≡ right k c = sym (handed-alike header w company n rec k) ∙ right-typed header w company n rec k c found .1 in
     let asks = right-asked k k ctx rec c told .1 in
     let held = number-held (w .place .further) k ctx rec inside (right-exact k ctx rec whole .0 (told ∙ ap (right k) asks)) in
@@ -89,13 +89,13 @@ numbered-next header w company n rec k c whole found inside =
 -- also where the counts have stopped
 pub numbered-saturated :
     (header : Header) (w : Walk) (company : List ℕ) (n : ℕ) (rec : List ℕ) (k : RecordKind) (c : ℕ) → length rec ≡ 120
-    → judgeRecord header w company n rec ≡ right k c → NumberBefore (saturated (step w k c)) rec
+    → judgeRecord header w company n rec ≡ right k c → NumberBefore (saturated (step w k c rec)) rec
 numbered-saturated header w company n rec k c whole found inside =
     let held = numbered-next header w company n rec k c whole found inside in
     let value = held .1 in
     (held .0, omega arith)
 
--- after one record more the counts stay, the place moves on, and what is left decides as it did
+-- after one record more the kind and the counts stay, the place moves on, and what is left decides as it did
 pass-one :
     (end : Walk → ℕ → Verdict Totals) (header : Header) (company : List ℕ) (w : Walk) (i : ℕ) (before rec : List ℕ) (recs : List (List ℕ)) (p : Place) (k : RecordKind) → length rec ≡ 120
     → NumberBefore (atPlace w p) before → Inside (p .due) rec (Of k) → passesQuickTest k (field 4 10 before) rec ≡ true
@@ -107,7 +107,8 @@ pass-one end header company w i before rec recs p k whole numbered inside passes
     let none : opened k ≡ 0 = rw opens-no in
     let count : dispositionsWith w k ≡ w .dispositions = omega arith in
     let cents : w .cents + 0 ≡ w .cents = omega arith in
-    let state : step (atPlace w p) k 0 ≡ atPlace w (placeAfter (p .further) k) = λ i. record { place = placeAfter (p .further) k; dispositions = count i; cents = cents i } in
+    let kind : kindAfter (w .kind) k rec ≡ w .kind = rw opens-no in
+    let state : step (atPlace w p) k 0 rec ≡ atPlace w (placeAfter (p .further) k) = λ i. record { place = placeAfter (p .further) k; kind = kind i; dispositions = count i; cents = cents i } in
     let company-stays : latest k company rec ≡ company = rw opens-no in
     rw (found, company-stays) (ap (λ (v : Walk). walkFrom end header v company (suc i) recs) state)
 
@@ -122,63 +123,36 @@ still-due p k inside stays = due-after (isDue (permitted (placeAfter (p .further
     due-after true e = refl
     due-after false e = absurd (true≢false (sym (ap closes (last-kind (p .further) k e)) ∙ stays))
 
--- what has stopped stays
-pub saturated-twice : (w : Walk) → saturated (saturated w) ≡ saturated w
-saturated-twice w =
-    let count : min (min (w .dispositions) countLimit) countLimit ≡ min (w .dispositions) countLimit = omega arith in
-    let sum : min (min (w .cents) centsLimit) centsLimit ≡ min (w .cents) centsLimit = omega arith in
-    λ i. record { place = w .place; dispositions = count i; cents = sum i }
-
--- the walk's own step after a record that opens nothing and asks for nothing: its counts, which have stopped where they must, stay
-pub next-place : (w : Walk) (k : RecordKind) → opened k ≡ 0 → saturated w ≡ w → saturated (step w k 0) ≡ atPlace w (placeAfter (w .place .further) k)
-next-place w k none stays =
-    let count : min (w .dispositions) countLimit ≡ w .dispositions = ap (λ (v : Walk). v .dispositions) stays in
-    let sum : min (w .cents) centsLimit ≡ w .cents = ap (λ (v : Walk). v .cents) stays in
-    let dispositions : min (dispositionsWith w k) countLimit ≡ w .dispositions = omega arith in
-    let cents : min (w .cents + 0) centsLimit ≡ w .cents = omega arith in
-    λ i. record { place = placeAfter (w .place .further) k; dispositions = dispositions i; cents = cents i }
-
 -- the loop over records that pass the quick test: those up to index i were passed over, and the number due at i is known
 pub record Passing (f : List ℕ) (from : ℕ) (w : Walk) (i : ℕ) (here : Walk) : Type 0 where
   pub some : 1 ≤ from
-  pub stays : saturated w ≡ w
   pub passed : PassedOver f from w i here
   pub known : (v : Walk) → NumberBefore (atPlace v (w .place)) (recordAt (from - 1) f) → NumberBefore (atPlace v (here .place)) (recordAt (i - 1) f)
 
-pub pass-begin : (f : List ℕ) (from : ℕ) (w : Walk) → 1 ≤ from → from ≤ length f / 120 → saturated w ≡ w → Passing f from w from w
-pass-begin f from w some within stays =
+pub pass-begin : (f : List ℕ) (from : ℕ) (w : Walk) → 1 ≤ from → from ≤ length f / 120 → Passing f from w from w
+pass-begin f from w some within =
     record {
       some = some;
-      stays = stays;
       passed = record { on = omega arith; within = within; counts = refl; due = refl; left = λ end header company v numbered. refl };
       known = λ v numbered. numbered;
     }
 
--- the walk that has come there has stopped too
-pub counts-stay : {f : List ℕ} {from : ℕ} {w : Walk} {i : ℕ} {here : Walk} → Passing f from w i here → saturated here ≡ here
-counts-stay {here = here} so-far =
-    let counts = so-far .passed .counts in
-    ap saturated counts ∙ ap (λ (v : Walk). atPlace v (here .place)) (so-far .stays) ∙ sym counts
-
 -- one record more
 pub pass-next :
     (f : List ℕ) {from : ℕ} {w : Walk} (i : ℕ) (here : Walk) (k : RecordKind) → Passing f from w i here → i < length f / 120 → Inside (here .place .due) (recordAt i f) (Of k)
-    → passesQuickTest k (field 4 10 (recordAt (i - 1) f)) (recordAt i f) ≡ true → Passing f from w (suc i) (saturated (step here k 0))
+    → passesQuickTest k (field 4 10 (recordAt (i - 1) f)) (recordAt i f) ≡ true → Passing f from w (suc i) (atPlace here (placeAfter (here .place .further) k))
 pass-next f {from} {w} i here k so-far more inside passes =
     let passed = so-far .passed in
     let on = passed .on in
     let q = here .place in
     let told = quick-test-right k (field 4 10 (recordAt (i - 1) f)) (recordAt i f) passes in
-    let none : opened k ≡ 0 = rw (told .1) in
-    let moved = next-place here k none (counts-stay so-far) in
     let back : suc i - 1 ≡ i = omega arith in
     record {
       some = so-far .some;
-      stays = so-far .stays;
       passed = record {
         on = omega arith;
         within = omega arith;
-        counts = moved ∙ ap (λ (v : Walk). atPlace v (placeAfter (q .further) k)) (passed .counts);
+        counts = ap (λ (v : Walk). atPlace v (placeAfter (q .further) k)) (passed .counts);
         due = still-due q k (inside .0) (told .2) ∙ passed .due;
         left = λ end header company v numbered. passed .left end header company v numbered ∙ ap (walkFrom end header (atPlace v q) company i) (cut-next (length f / 120) i f more)
             ∙ pass-one end header company v i (recordAt (i - 1) f) (recordAt i f) (recordsFrom (suc i) f) q k (record-whole f i more) (so-far .known v numbered) inside passes;

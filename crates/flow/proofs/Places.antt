@@ -28,11 +28,11 @@ handed w n k = record { dispositions = min (dispositionsWith w k) countLimit; ce
 
 module _ (header : Header) (w : Walk) (company : List ℕ) (n : ℕ) (rec : List ℕ) where
   -- no record is judged otherwise for it
-  pub handed-alike : (k : RecordKind) → judgeAs k (context header company (countsAt w n k)) rec ≡ judgeAs k (context header company (handed w n k)) rec
+  pub handed-alike : (k : RecordKind) → judgeAs k (context header company (w .kind) (countsAt w n k)) rec ≡ judgeAs k (context header company (w .kind) (handed w n k)) rec
   handed-alike k =
       let count : min (dispositionsWith w k) countLimit ≡ min (min (dispositionsWith w k) countLimit) countLimit = omega arith in
       let alike : saturatedCounts (countsAt w n k) ≡ saturatedCounts (handed w n k) = λ i. record { dispositions = count i; cents = min (w .cents) centsLimit; records = n } in
-      counts-alike header company k (countsAt w n k) (handed w n k) rec alike
+      counts-alike header company (w .kind) k (countsAt w n k) (handed w n k) rec alike
 
   pub other-length : (length rec ≡ 120 → ⊥) → judgeRecord header w company n rec ≡ refused 1 0
   unfolding judgeRecord
@@ -51,12 +51,12 @@ module _ (header : Header) (w : Walk) (company : List ℕ) (n : ℕ) (rec : List
     unfolding judgeTyped
     no-type printable e = by-type Missing printable e
 
-    pub of-type : (k : RecordKind) → badByte rec ≡ 0 → among (permitted (w .place .due)) rec ≡ Of k → judgeRecord header w company n rec ≡ judgeAs k (context header company (handed w n k)) rec
+    pub of-type : (k : RecordKind) → badByte rec ≡ 0 → among (permitted (w .place .due)) rec ≡ Of k → judgeRecord header w company n rec ≡ judgeAs k (context header company (w .kind) (handed w n k)) rec
     unfolding judgeTyped
     of-type k printable e = by-type (Of k) printable e ∙ handed-alike k
 
     -- a record of a permitted type is judged by the rules of its kind
-    pub judged-of : (k : RecordKind) → badByte rec ≡ 0 → In k (permitted (w .place .due)) → hasType k rec ≡ true → judgeRecord header w company n rec ≡ judgeAs k (context header company (countsAt w n k)) rec
+    pub judged-of : (k : RecordKind) → badByte rec ≡ 0 → In k (permitted (w .place .due)) → hasType k rec ≡ true → judgeRecord header w company n rec ≡ judgeAs k (context header company (w .kind) (countsAt w n k)) rec
     unfolding judgeTyped
     judged-of k printable i t = by-type (Of k) printable (among-tested (permitted (w .place .due)) rec k i t)
 

@@ -49,14 +49,14 @@ module _
     -- a right record
     pub go-on :
         (k : RecordKind) (c : ℕ) → judgeRecord header w company (suc i) rec ≡ right k c
-        → Reading end header all (saturated (step w k c)) (latest k company rec) (suc i) recs
+        → Reading end header all (saturated (step w k c rec)) (latest k company rec) (suc i) recs
     unfolding walkFrom
     go-on k c e =
         let found = found-alike ∙ e in
         let few = r .few in
         record {
-          exact = step (r .exact) k c;
-          stops = ap (λ (v : Walk). saturated (step v k c)) (r .stops) ∙ saturated-step (r .exact) k c;
+          exact = step (r .exact) k c rec;
+          stops = ap (λ (v : Walk). saturated (step v k c rec)) (r .stops) ∙ saturated-step (r .exact) k c rec;
           final = exact-at-end header (r .exact) company (suc i) rec k c found;
           few = omega (arith, one-at-most k);
           left = r .left ∙ rw (next, found);

@@ -1,9 +1,11 @@
 -- The two-rent flow of document 01 and what reading answers, as equations that compute. Assumes nothing.
-use Prim.Native.Nat.{ℕ}
+use Prim.Native.Nat.{ℕ, _+_, _*_}
 use Prim.Native.String.{String}
 use mathlib.Core.List.{List, [], _∷_, _++_}
 use mathlib.Core.Path.{_≡_}
+use Rattle.sequences.specs.Part.{put}
 use Rattle.sequences.specs.Text.{text}
+use Rattle.records.specs.declared.flow_kind.FlowKind.the-variants.{Requests, Recalls}
 use Rattle.flow.specs.Find.{find, partOf, offsetOf}
 use Rattle.flow.specs.Judge.{judge}
 use Rattle.flow.specs.Verdict.{accepted, refused, refusal, ofCall}
@@ -56,9 +58,23 @@ second =
 abbrev pub twoRents : List ℕ
 twoRents = flowOf ((headerIm ∷ firstOpened) ++ (firstClosed ++ (second ++ (trailerEf ∷ []))))
 
--- "accepted dispositions 2 cents 83050 records 16"
+-- "accepted dispositions 2 cents 83050 records 16 kind requests"
 abbrev pub twoRentTotals : Totals
-twoRentTotals = record { dispositions = 2; cents = 83050; records = 16 }
+twoRentTotals = record { kind = Requests; dispositions = 2; cents = 83050; records = 16 }
+
+-- the flow with the causale and the sign of a recall in its record at index i, and with other bytes at 53-82 of its trailer
+abbrev pub recalledAt : ℕ → List ℕ → List ℕ
+recalledAt i f = put (120 * i + 46) (text "+") (put (120 * i + 28) (text "07100") f)
+
+abbrev pub totalledBy : String → List ℕ → List ℕ
+totalledBy total f = put (120 * 15 + 52) (text total) f
+
+-- the recall of the two rents: the total stands at 68-82
+abbrev pub twoRecalls : List ℕ
+twoRecalls = totalledBy "000000000000000000000000083050" (recalledAt 1 (recalledAt 8 twoRents))
+
+abbrev pub twoRecallTotals : Totals
+twoRecallTotals = record { kind = Recalls; dispositions = 2; cents = 83050; records = 16 }
 
 -- the header and the first records of a disposition, then the records given
 abbrev pub withFurther : List String → List ℕ
@@ -84,3 +100,20 @@ pub record FlowExamples : Type 0 where
   -- it starts after eight records; that of a refusal at the flow's start
   pub second-offset : offsetOf twoRents 2 ≡ 960
   pub no-offset : offsetOf twoRents 3 ≡ 0
+  -- document 02, E1: the recall of both rents
+  pub two-recalls : judge twoRecalls ≡ accepted twoRecallTotals
+  -- a second 14 of the other kind
+  pub recall-after-request : judge (recalledAt 8 twoRents) ≡ refused (refusal 22 9 29)
+  pub request-after-recall : judge (recalledAt 1 twoRents) ≡ refused (refusal 22 9 29)
+  -- a causale of no kind, in the first 14 and in the second
+  pub no-kind-first : judge (put 148 (text "07200") twoRents) ≡ refused (refusal 6 2 29)
+  pub no-kind-second : judge (put 988 (text "07200") twoRecalls) ≡ refused (refusal 6 9 29)
+  -- a sign that is not the kind's
+  pub recall-with-minus : judge (put 166 (text "-") twoRecalls) ≡ refused (refusal 6 2 47)
+  pub request-with-plus : judge (put 166 (text "+") twoRents) ≡ refused (refusal 6 2 47)
+  -- the total at the place of requests, at neither place, at both; and of requests at the place of recalls
+  pub recall-asked : judge (totalledBy "000000000083050000000000000000" twoRecalls) ≡ refused (refusal 13 16 53)
+  pub recall-nowhere : judge (totalledBy "000000000000000000000000000000" twoRecalls) ≡ refused (refusal 13 16 68)
+  pub recall-twice : judge (totalledBy "000000000083050000000000083050" twoRecalls) ≡ refused (refusal 13 16 53)
+  pub request-recalled : judge (totalledBy "000000000000000000000000083050" twoRents) ≡ refused (refusal 13 16 53)
+  pub recall-no-digits : judge (totalledBy "              0000000000083050" twoRecalls) ≡ refused (refusal 5 16 53)

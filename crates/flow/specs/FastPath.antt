@@ -32,11 +32,12 @@ Inside due rec (Of k) = (isInside due ≡ true) × (among (permitted due) rec �
 abbrev pub NumberBefore : Walk → List ℕ → Type 0
 NumberBefore w before = isInside (w .place .due) ≡ true → (isDigits (field 4 10 before) ≡ true) × (number (field 4 10 before) ≡ min (w .dispositions) countLimit)
 
--- the same counts at another place
+-- the same kind and counts at another place
 abbrev pub atPlace : Walk → Place → Walk
-atPlace w p = record { place = p; dispositions = w .dispositions; cents = w .cents }
+atPlace w p = record { place = p; kind = w .kind; dispositions = w .dispositions; cents = w .cents }
 
--- the records from one index up to another were passed over: the walk keeps its counts, and whatever they are, what is left decides as it did
+-- the records from one index up to another were passed over: the walk keeps its kind and its counts, and whatever they are, what is left
+-- decides as it did
 pub record PassedOver (f : List ℕ) (from : ℕ) (w : Walk) (to : ℕ) (after : Walk) : Type 0 where
   pub on : from ≤ to
   pub within : to ≤ length f / 120

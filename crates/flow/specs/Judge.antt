@@ -5,6 +5,7 @@ use mathlib.Core.Bool.{cond}
 use mathlib.Core.List.{List, [], _∷_}
 use lib.ListN.{length, take}
 use Rattle.records.specs.Context.{Header, headerOf}
+use Rattle.records.specs.FlowKinds.{orRequests}
 use Rattle.records.specs.RecordVerdict.{RecordVerdict, right}
 use Rattle.records.specs.RecordVerdict.{refused as RecordVerdict·refused}
 use Rattle.records.specs.declared.kind.RecordKind.{RecordKind}
@@ -20,9 +21,9 @@ abbrev pub unlessFault : ℕ → RecordVerdict → (RecordKind → ℕ → Verdi
 unlessFault n (right k c) rest = rest k c
 unlessFault n (RecordVerdict·refused e p) rest = refused (refusal e n p)
 
--- the totals of n records that the walk has gone over
+-- the totals of n records that the walk has gone over; a walk that met no 14 counts as requests
 abbrev pub walkTotals : Walk → ℕ → Totals
-walkTotals w n = record { dispositions = w .dispositions; cents = w .cents; records = n }
+walkTotals w n = record { kind = orRequests (w .kind); dispositions = w .dispositions; cents = w .cents; records = n }
 
 -- the flow has ended after n records
 abbrev pub ended : Walk → ℕ → Verdict Totals
@@ -32,7 +33,7 @@ ended w n = cond (isDue (permitted (w .place .due))) (refused (refusal 4 (suc n)
 unfoldable pub walkFrom : (Walk → ℕ → Verdict Totals) → Header → Walk → List ℕ → ℕ → List (List ℕ) → Verdict Totals
 walkFrom end header w company n [] = end w n
 walkFrom end header w company n (rec ∷ recs) =
-    unlessFault (suc n) (judgeRecord header w company (suc n) rec) (λ k c. walkFrom end header (step w k c) (latest k company rec) (suc n) recs)
+    unlessFault (suc n) (judgeRecord header w company (suc n) rec) (λ k c. walkFrom end header (step w k c rec) (latest k company rec) (suc n) recs)
 
 unfoldable pub judge : List ℕ → Verdict Totals
 judge f = cond (isLength (length f)) (walkFrom ended (headerOf (take 120 f)) start [] 0 (recordsOf f)) (refused (ofCall 1))

@@ -10,7 +10,7 @@ use Rattle.flow.specs.Find.{foundVerdict, IsNumber, find, partOf, offset
 use Rattle.flow.specs.Judge.{judge}
 use Rattle.flow.specs.Output.{output, withRoom, FilledWith, LeftAlone}
 use Rattle.flow.specs.Records.{RightLength, recordsOf, mostBytes}
-use Rattle.flow.specs.ExactTotals.{openingCount, amountSum}
+use Rattle.flow.specs.ExactTotals.{openingCount, amountSum, kindOf}
 use Rattle.flow.specs.Verdict.{Verdict, accepted, refused, answerVerdict, refusal, ofCall}
 use Rattle.flow.specs.declared.answer.Answer.{Answer}
 use Rattle.flow.specs.declared.answer.Refusal.{Refusal}
@@ -31,11 +31,11 @@ LengthRefused =
 abbrev pub Ceiling : Type 0
 Ceiling = (f : List ℕ) → mostBytes < length f → judge f ≡ refused (ofCall 1)
 
--- an accepted flow is answered its exact totals, summed over its records
+-- an accepted flow is answered its exact totals, summed over its records, and the kind that its first 14 says
 abbrev pub AcceptedExact : Type 0
 AcceptedExact =
     (f : List ℕ) (t : Totals) → judge f ≡ accepted t
-    → (t .dispositions ≡ openingCount (recordsOf f)) × (t .cents ≡ amountSum (recordsOf f)) × (t .records * 120 ≡ length f)
+    → (t .dispositions ≡ openingCount (recordsOf f)) × (t .cents ≡ amountSum (recordsOf f)) × (t .records * 120 ≡ length f) × (t .kind ≡ kindOf (recordsOf f))
 
 -- a call that fills an output answers what was judged; accepted, it leaves exactly the bytes where they fit, and refused nothing
 abbrev pub OutputLeaves : Type 1

@@ -9,10 +9,13 @@ use Rattle.records.specs.Bytes.{badByte}
 use Rattle.records.specs.Checks.{isPresent}
 use Rattle.records.specs.Context.{Header, context}
 use Rattle.records.specs.Field.{field}
+use Rattle.records.specs.FlowKinds.{kindIn, firstKnown}
 use Rattle.records.specs.RecordVerdict.{RecordVerdict, refused}
 use Rattle.records.specs.Judge.{judgeAs}
 use Rattle.records.specs.Kinds.{opens, opened}
 use Rattle.records.specs.Limits.{countLimit, centsLimit}
+use Rattle.records.specs.declared.flow_kind.KindFound.{KindFound}
+use Rattle.records.specs.declared.flow_kind.KindFound.the-variants.{Unknown}
 use Rattle.records.specs.declared.judged.Counts.{Counts}
 use Rattle.records.specs.declared.kind.RecordKind.{RecordKind}
 use Rattle.flow.specs.Order.{permitted, placeDue, placeAfter, among}
@@ -22,15 +25,20 @@ use Rattle.flow.specs.declared.order.TypeFound.the-variants.{Of, Missing
 use Rattle.flow.specs.declared.walk.Walk.{Walk}
 
 abbrev pub start : Walk
-start = record { place = placeDue OnlyIm; dispositions = 0; cents = 0 }
+start = record { place = placeDue OnlyIm; kind = Unknown; dispositions = 0; cents = 0 }
 
 -- the dispositions up to and with a record of the kind
 abbrev pub dispositionsWith : Walk → RecordKind → ℕ
 dispositionsWith w k = w .dispositions + opened k
 
+-- the kind of flow after a record of the kind: the first record 14 decides it (document 02, E1)
+abbrev pub kindAfter : KindFound → RecordKind → List ℕ → KindFound
+kindAfter q k rec = cond (opens k) (firstKnown q (kindIn rec)) q
+
 -- the state after a right record of the kind that asks for c cents
-abbrev pub step : Walk → RecordKind → ℕ → Walk
-step w k c = record { place = placeAfter (w .place .further) k; dispositions = dispositionsWith w k; cents = w .cents + c }
+abbrev pub step : Walk → RecordKind → ℕ → List ℕ → Walk
+step w k c rec =
+    record { place = placeAfter (w .place .further) k; kind = kindAfter (w .kind) k rec; dispositions = dispositionsWith w k; cents = w .cents + c }
 
 -- of two values the one that goes with the latest company code present: `new` with the code of a record of the kind, `old` with the one before
 abbrev pub latestBy : {A : Type 0} → RecordKind → List ℕ → A → A → A
@@ -49,7 +57,7 @@ countsAt w n k = record { dispositions = dispositionsWith w k; cents = w .cents;
 -- number 3 where no permitted type stands at 2-3, else what the rules of its kind find
 unfoldable pub judgeTyped : Header → Walk → List ℕ → ℕ → List ℕ → TypeFound → RecordVerdict
 judgeTyped header w company n rec Missing = refused 3 2
-judgeTyped header w company n rec (Of k) = judgeAs k (context header company (countsAt w n k)) rec
+judgeTyped header w company n rec (Of k) = judgeAs k (context header company (w .kind) (countsAt w n k)) rec
 
 -- the n-th record of a flow, in the order of document 01: 2 at its lowest byte, then 3, then its kind's checks
 unfoldable pub judgeRecord : Header → Walk → List ℕ → ℕ → List ℕ → RecordVerdict
@@ -60,4 +68,4 @@ judgeRecord header w company n rec =
 
 -- the code's counts stop one above what the trailer's digits hold, where no record can tell them from the exact ones
 abbrev pub saturated : Walk → Walk
-saturated w = record { place = w .place; dispositions = min (w .dispositions) countLimit; cents = min (w .cents) centsLimit }
+saturated w = record { place = w .place; kind = w .kind; dispositions = min (w .dispositions) countLimit; cents = min (w .cents) centsLimit }

@@ -1,6 +1,7 @@
 // What reading a flow answers.
 ghost use mathlib.Core.Path.{_≡_};
 ghost use Rattle.flow.specs.Verdict.{ofCall};
+use records::FlowKind;
 
 // Accepted, with the flow's totals; or refused, by its first fault.
 pub enum Answer {
@@ -8,8 +9,10 @@ pub enum Answer {
     Refused(Refusal),
 }
 
-// The count of dispositions, the sum of their amounts in cents, and the count of records.
+// The kind of flow, the count of dispositions, the sum of their amounts in cents, and the count of
+// records.
 pub struct Totals {
+    pub kind: FlowKind,
     pub dispositions: u64,
     pub cents: u64,
     pub records: u64,

@@ -6,13 +6,11 @@ ghost use Prim.Native.Nat.{_/_, _≤_};
 ghost use mathlib.Core.Path.{_≡_};
 ghost use lib.ListN.{length};
 ghost use Rattle.flow.specs.FastPath.{Inside, PassedOver};
-ghost use Rattle.flow.specs.Walking.{saturated};
 use crate::order::Due;
 use crate::order::TypeFound;
 use crate::order::first_of;
 use crate::order::only;
 use crate::walk::Walk;
-use records::Record;
 use records::RecordKind;
 use records::field;
 
@@ -27,7 +25,6 @@ pub(crate) struct Passed {
 pub(crate) fn pass_over(flow: &[u8], from: usize, walk: Walk) -> Passed
     requires { ⌜ 1 ≤ from ⌝ }
     requires { ⌜ from ≤ length (now flow) / 120 ⌝ }
-    requires { ⌜ saturated walk ≡ walk ⌝ }
     ensures { λ r. ⌜ PassedOver (now (flow .entry)) from walk (r .index) (r .walk) ⌝ }
 {
     let mut here = walk;
@@ -43,7 +40,7 @@ pub(crate) fn pass_over(flow: &[u8], from: usize, walk: Walk) -> Passed
         if !records::passes_quick_test(rec, kind, field(before, 4, 10)) {
             break;
         }
-        here = here.pass(Record { kind, cents: 0 });
+        here = here.pass(kind);
         i += 1;
     }
     Passed {

@@ -74,7 +74,7 @@ fn read_records(flow: &[u8], header: &[u8]) -> Answer
                 let kind = right.kind;
                 let latest = latest_company(company, field(rec, 92, 96), kind);
                 company = latest;
-                walk = walk.next(right);
+                walk = walk.next(right, rec);
             }
         }
         let passed = pass_over(flow, i + 1, walk);

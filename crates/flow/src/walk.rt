@@ -1,14 +1,14 @@
 // The walk over a flow: its state goes in by value and comes back after the next record.
 ghost use Prim.Native.Nat.{_+_, min};
-ghost use mathlib.Core.Bool.{false, not};
+ghost use mathlib.Core.Bool.{not};
 ghost use mathlib.Core.Path.{_≡_};
 ghost use Rattle.records.specs.Context.{headerOf};
 ghost use Rattle.records.specs.RecordVerdict.{judgedVerdict};
-ghost use Rattle.records.specs.Kinds.{opens};
 ghost use Rattle.records.specs.Limits.{countLimit};
 ghost use Rattle.flow.specs.Judge.{walkTotals};
-ghost use Rattle.flow.specs.Order.{isDue, mayClose, permitted};
-ghost use Rattle.flow.specs.Walking.{step, saturated, dispositionsWith, judgeRecord};
+ghost use Rattle.flow.specs.FastPath.{atPlace};
+ghost use Rattle.flow.specs.Order.{isDue, mayClose, permitted, placeAfter};
+ghost use Rattle.flow.specs.Walking.{kindAfter, step, saturated, dispositionsWith, judgeRecord};
 ghost use Rattle.flow.specs.Walking.{start as Walking·start};
 use crate::answer::Totals;
 use crate::limits::CENTS_LIMIT;
@@ -22,14 +22,17 @@ use crate::refusals::BAD_BYTE;
 use crate::refusals::WRONG_TYPE;
 use records::Counts;
 use records::Judged;
+use records::KindFound;
 use records::Record;
 use records::RecordKind;
 use records::WRONG_LENGTH;
 
-// What may come next, the dispositions so far and the cents so far. The counts stop one above what
-// the trailer's digits hold, so that every state has a next one; of an accepted flow they are exact.
+// What may come next; the kind of flow, unknown until the first record 14; the dispositions so far and
+// the cents so far. The counts stop one above what the trailer's digits hold, so that every state has a
+// next one; of an accepted flow they are exact.
 pub struct Walk {
     pub place: Place,
+    pub kind: KindFound,
     pub dispositions: u64,
     pub cents: u64,
 }
@@ -44,6 +47,7 @@ impl Walk {
                 due: Due::OnlyIm,
                 further: 0,
             },
+            kind: KindFound::Unknown,
             dispositions: 0,
             cents: 0,
         }
@@ -72,39 +76,39 @@ impl Walk {
                     cents: self.cents,
                     records: n,
                 };
-                records::judge(rec, kind, counts, header, company)
+                let found = self.kind;
+                records::judge(rec, kind, counts, header, company, found)
             }
             TypeFound::Missing => Judged::Refused(WRONG_TYPE, 2),
         }
     }
 
     // The state after a right record.
-    pub fn next(self, right: Record) -> Walk
-        ensures { λ r. ⌜ r ≡ saturated (step self (right .kind) (right .cents)) ⌝ }
+    pub fn next(self, right: Record, rec: &[u8]) -> Walk
+        ensures { λ r. ⌜ r ≡ saturated (step self (right .kind) (right .cents) (now (rec .entry))) ⌝ }
     {
         let kind = right.kind;
         let place = self.place;
         let next = place_after(place.further, kind);
         Walk {
             place: next,
+            kind: self.kind_after(kind, rec),
             dispositions: self.dispositions_with(kind),
             cents: sum(self.cents, right.cents, CENTS_LIMIT),
         }
     }
 
-    // The same after a right record that opens no disposition: the counts stay, so that none need be
-    // compared with its limit.
-    pub(crate) fn pass(self, right: Record) -> Walk
-        requires { ⌜ opens (right .kind) ≡ false ⌝ }
-        requires { ⌜ right .cents ≡ 0 ⌝ }
-        requires { ⌜ saturated self ≡ self ⌝ }
-        ensures { λ r. ⌜ r ≡ saturated (step self (right .kind) (right .cents)) ⌝ }
+    // The state at the place after a record of the kind, for a right one that opens no disposition: the
+    // kind of flow and the counts stay, so that none need be compared with its limit.
+    pub(crate) fn pass(self, kind: RecordKind) -> Walk
+        ensures { λ r. ⌜ r ≡ atPlace self (placeAfter (self .place .further) kind) ⌝ }
     {
-        let kind = right.kind;
         let place = self.place;
         let next = place_after(place.further, kind);
+        let found = self.kind;
         Walk {
             place: next,
+            kind: found,
             dispositions: self.dispositions,
             cents: self.cents,
         }
@@ -134,11 +138,27 @@ impl Walk {
     {
         let dispositions = self.dispositions;
         let cents = self.cents;
+        let found = self.kind;
         Totals {
+            kind: records::or_requests(found),
             dispositions,
             cents,
             records: n,
         }
+    }
+
+    // The kind of flow after a record of the kind: the first record 14 decides it.
+    fn kind_after(self, kind: RecordKind, rec: &[u8]) -> KindFound
+        ensures { λ r. ⌜ r ≡ kindAfter (self .kind) kind (now (rec .entry)) ⌝ }
+    {
+        let found = self.kind;
+        if !records::opens(kind) {
+            return found;
+        }
+        if let KindFound::Of(_) = found {
+            return found;
+        }
+        records::kind_in(rec)
     }
 
     // The dispositions up to and with a record of the kind.

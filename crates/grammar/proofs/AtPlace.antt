@@ -29,7 +29,7 @@ use Rattle.grammar.proofs.Rules.{printable-exact, bad-byte-exact}
 
 -- what the checks of a record of the kind are asked with, at a state of the walk
 abbrev pub asks : Header → Walk → List ℕ → ℕ → RecordKind → Context
-asks h w company n k = context h company (countsAt w n k)
+asks h w company n k = context h company (w .kind) (countsAt w n k)
 
 abbrev pub May : Walk → RecordKind → Type 0
 May w k = In k (permitted (w .place .due))

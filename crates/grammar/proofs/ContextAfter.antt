@@ -92,7 +92,7 @@ module _ (f : List ℕ) (rs : List Typed) (walked : FromStart f rs) where
       let dispositions : stateAfter start rs .dispositions + opened ≡ openingCount (recordsIn rs) + opened = omega arith in
       let cents : stateAfter start rs .cents ≡ amountSum (recordsIn rs) = omega arith in
       let records : suc (0 + length rs) ≡ suc (length (recordsIn rs)) = omega (arith, length-map rs (λ (r : Typed). r .bytes)) in
-      λ i. record { header = headerOf (take 120 f); company = counts .2 i; counts = record { dispositions = dispositions i; cents = cents i; records = records i } }
+      λ i. record { header = headerOf (take 120 f); company = counts .2 i; kind = counts .3 i; counts = record { dispositions = dispositions i; cents = cents i; records = records i } }
 
   pub right-after : (k : RecordKind) (rec : List ℕ) → RightNext f rs k rec → RightRecord f (recordsIn rs) rec
   right-after k rec r =

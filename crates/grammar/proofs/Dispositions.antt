@@ -14,20 +14,23 @@ use Rattle.records.specs.Amount.{amountIn}
 use Rattle.records.specs.Checks.{isPresent, agrees}
 use Rattle.records.specs.Context.{Header}
 use Rattle.records.specs.Field.{field}
+use Rattle.records.specs.FlowKinds.{kindIn, firstKnown}
 use Rattle.records.specs.Judge.{asked}
 use Rattle.records.specs.Kinds.{opens, goesOn, opened}
+use Rattle.records.specs.declared.flow_kind.KindFound.{KindFound}
 use Rattle.records.specs.declared.kind.RecordKind.{RecordKind}
 use Rattle.records.specs.declared.kind.RecordKind.the-variants.{Im, R14, R16, R20, R30, R40, R50, R59, R51, R70, Ef}
-use Rattle.flow.specs.Walking.{step, latest}
+use Rattle.flow.specs.Walking.{kindAfter, step, latest}
 use Rattle.flow.specs.declared.order.Place.{Place}
 use Rattle.flow.specs.declared.walk.Walk.{Walk}
-use Rattle.grammar.specs.Grammar.{Typed, kindsOf, dispositionAmount, dispositionCode, RightDisposition, RightDispositions}
+use Rattle.grammar.specs.Grammar.{Typed, kindsOf, opening, dispositionAmount, dispositionCode, RightDisposition, RightDispositions}
 use Rattle.grammar.specs.Rules.{Formed, MemberRules}
 use Rattle.grammar.specs.Shape.{Coordinates, no-16, with-16, Reasons, one-50, some-59, Disposition, disposition}
 use Rattle.grammar.proofs.AtPlace.{asks, May, RightAt}
 use Rattle.grammar.proofs.Codes.{latestOf, Agreeing}
 use Rattle.grammar.proofs.Order.{Allowed, allowed-before, allowed-after}
-use Rattle.grammar.proofs.Rules.{CodeAgrees, member-rules}
+use Rattle.grammar.proofs.Rules.{Agrees, member-rules}
+use Rattle.grammar.proofs.KindsOfFlow.{SomeKind, kindThrough, Kindred}
 use Rattle.grammar.proofs.Walked.{stateAfter, codeAfter, Walked, walked-append, state-append, walked-allowed, state-place}
 
 -- a kind of record that stands in a disposition and does not open it
@@ -87,28 +90,31 @@ opened-so d order = go d (kindsOf d) refl order
 -- after details the state is as before, but for its place
 details-state :
     (w : Walk) (code : List ℕ) (rs : List Typed) → All Detail (kindsOf rs)
-    → (stateAfter w rs .dispositions ≡ w .dispositions) × (stateAfter w rs .cents ≡ w .cents) × (codeAfter code rs ≡ code)
-details-state w code [] details = (refl, refl, refl)
+    → (stateAfter w rs .dispositions ≡ w .dispositions) × (stateAfter w rs .cents ≡ w .cents) × (codeAfter code rs ≡ code) × (stateAfter w rs .kind ≡ w .kind)
+details-state w code [] details = (refl, refl, refl, refl)
 details-state w code (r ∷ rs) details =
     let k = r .kind in
     let shut = detail-opens k (details .0) in
     let count : opened k ≡ 0 = ap (λ (b : Bool). cond b 1 0) shut in
     let cents : asked k (r .bytes) ≡ 0 = ap (λ (b : Bool). cond b (number (amountIn (r .bytes))) 0) shut in
     let same : latest k code (r .bytes) ≡ code = ap (λ (b : Bool). cond (b && isPresent (field 92 96 (r .bytes))) (field 92 96 (r .bytes)) code) shut in
-    let rest = details-state (step w k (asked k (r .bytes))) (latest k code (r .bytes)) rs (details .1) in
-    (omega arith, omega arith, rest .2 ∙ same)
+    let rest = details-state (step w k (asked k (r .bytes)) (r .bytes)) (latest k code (r .bytes)) rs (details .1) in
+    let kind : kindAfter (w .kind) k (r .bytes) ≡ w .kind = ap (λ (b : Bool). cond b (firstKnown (w .kind) (kindIn (r .bytes))) (w .kind)) shut in
+    (omega arith, omega arith, rest .2 ∙ same, rest .3 ∙ kind)
 
--- after a disposition one more is counted, and its amount
+-- after a disposition one more is counted, and its amount; and the kind is known
 pub disposition-state :
     (w : Walk) (code : List ℕ) (d : List Typed) → Opened d
     → (stateAfter w d .dispositions ≡ suc (w .dispositions)) × (stateAfter w d .cents ≡ w .cents + dispositionAmount d) × (codeAfter code d ≡ latestOf code (dispositionCode d))
+    × (stateAfter w d .kind ≡ firstKnown (w .kind) (kindIn (opening d)))
 disposition-state w code d (opened-by r rs e details) =
     let k = r .kind in
     let count : opened k ≡ 1 = ap opened e in
     let cents : asked k (r .bytes) ≡ number (amountIn (r .bytes)) = ap (λ (l : RecordKind). asked l (r .bytes)) e in
     let code-so : latest k code (r .bytes) ≡ latestOf code (field 92 96 (r .bytes)) = ap (λ (l : RecordKind). latest l code (r .bytes)) e in
-    let rest = details-state (step w k (asked k (r .bytes))) (latest k code (r .bytes)) rs details in
-    (omega arith, omega arith, rest .2 ∙ code-so)
+    let rest = details-state (step w k (asked k (r .bytes)) (r .bytes)) (latest k code (r .bytes)) rs details in
+    let kind : kindAfter (w .kind) k (r .bytes) ≡ firstKnown (w .kind) (kindIn (r .bytes)) = ap (λ (l : RecordKind). kindAfter (w .kind) l (r .bytes)) e in
+    (omega arith, omega arith, rest .2 ∙ code-so, rest .3 ∙ kind)
 
 -- a record of the n-th disposition, as the grammar says it
 abbrev pub Member : List ℕ → ℕ → Typed → Type 0
@@ -117,7 +123,7 @@ Member abi n r = Formed (r .kind) (r .bytes) × MemberRules (r .kind) abi n (r .
 -- and as the walk finds it
 member-exact :
     (h : Header) (w : Walk) (code : List ℕ) (i n : ℕ) (r : Typed) → (r .kind ≡ Im → ⊥) → (r .kind ≡ Ef → ⊥) → w .dispositions + opened (r .kind) ≡ n
-    → RightAt h w code (suc i) (r .kind) (r .bytes) ↔ (May w (r .kind) × Member (h .abi) n r × CodeAgrees (r .kind) code (r .bytes))
+    → RightAt h w code (suc i) (r .kind) (r .bytes) ↔ (May w (r .kind) × Member (h .abi) n r × Agrees (r .kind) code (w .kind) (r .bytes))
 member-exact h w code i n r not-header not-trailer number-due =
     let k = r .kind in
     let rec = r .bytes in
@@ -132,8 +138,8 @@ member-exact h w code i n r not-header not-trailer number-due =
       },
     )
 
-detail-agrees : (k : RecordKind) (code rec : List ℕ) → Detail k → CodeAgrees k code rec
-detail-agrees k code rec = each-detail (λ (l : RecordKind). CodeAgrees l code rec) (tt, (tt, (tt, (tt, (tt, (tt, (tt, (tt, tt)))))))) k
+detail-agrees : (k : RecordKind) (code : List ℕ) (q : KindFound) (rec : List ℕ) → Detail k → Agrees k code q rec
+detail-agrees k code q rec = each-detail (λ (l : RecordKind). Agrees l code q rec) (tt, (tt, (tt, (tt, (tt, (tt, (tt, (tt, tt)))))))) k
 
 details-exact :
     (h : Header) (w : Walk) (code : List ℕ) (i n : ℕ) (rs : List Typed) → All Detail (kindsOf rs) → w .dispositions ≡ n
@@ -144,32 +150,32 @@ details-exact h w code i n (r ∷ rs) details same =
     let shut : opened k ≡ 0 = ap (λ (b : Bool). cond b 1 0) (detail-opens k (details .0)) in
     let due : w .dispositions + opened k ≡ n = omega arith in
     let one = member-exact h w code i n r (λ e. true≢false (sym (subst Detail e (details .0)))) (λ e. true≢false (sym (subst Detail e (details .0)))) due in
-    let rest = details-exact h (step w k (asked k (r .bytes))) (latest k code (r .bytes)) (suc i) n rs (details .1) due in (
+    let rest = details-exact h (step w k (asked k (r .bytes)) (r .bytes)) (latest k code (r .bytes)) (suc i) n rs (details .1) due in (
       λ walked.
           let front = one .0 (walked .0) in
           let back = rest .0 (walked .1) in
           ((front .0, back .0), (front .1, back .1)),
-      λ g. (one .1 (g .0 .0, g .1 .0, detail-agrees k code (r .bytes) (details .0)), rest .1 (g .0 .1, g .1 .1)),
+      λ g. (one .1 (g .0 .0, g .1 .0, detail-agrees k code (w .kind) (r .bytes) (details .0)), rest .1 (g .0 .1, g .1 .1)),
     )
 
 -- the n-th disposition
 disposition-exact :
     (h : Header) (w : Walk) (code : List ℕ) (i n : ℕ) (d : List Typed) → Disposition (kindsOf d) → suc (w .dispositions) ≡ n
-    → Walked h w code i d ↔ (Allowed (w .place) (kindsOf d) × RightDisposition (h .abi) n d × (agrees code (dispositionCode d) ≡ true))
+    → Walked h w code i d ↔ (Allowed (w .place) (kindsOf d) × RightDisposition (h .abi) n d × ((agrees code (dispositionCode d) ≡ true) × SomeKind (w .kind) (opening d)))
 disposition-exact h w code i n d order same = go d order (opened-so d order)
   where
-    go : (d : List Typed) → Disposition (kindsOf d) → Opened d → Walked h w code i d ↔ (Allowed (w .place) (kindsOf d) × RightDisposition (h .abi) n d × (agrees code (dispositionCode d) ≡ true))
+    go : (d : List Typed) → Disposition (kindsOf d) → Opened d → Walked h w code i d ↔ (Allowed (w .place) (kindsOf d) × RightDisposition (h .abi) n d × ((agrees code (dispositionCode d) ≡ true) × SomeKind (w .kind) (opening d)))
     go d order (opened-by r rs e details) =
         let k = r .kind in
         let opens-one : opened k ≡ 1 = ap opened e in
         let due : w .dispositions + opened k ≡ n = omega arith in
         let one = member-exact h w code i n r (λ s. apart (sym e ∙ s)) (λ s. apart-trailer (sym e ∙ s)) due in
-        let rest = details-exact h (step w k (asked k (r .bytes))) (latest k code (r .bytes)) (suc i) n rs details due in (
+        let rest = details-exact h (step w k (asked k (r .bytes)) (r .bytes)) (latest k code (r .bytes)) (suc i) n rs details due in (
           λ walked.
               let front = one .0 (walked .0) in
               let back = rest .0 (walked .1) in
-              ((front .0, back .0), record { order = order; records = (front .1, back .1) }, subst (λ (l : RecordKind). CodeAgrees l code (r .bytes)) e (front .2)),
-          λ g. (one .1 (g .0 .0, g .1 .records .0, subst (λ (l : RecordKind). CodeAgrees l code (r .bytes)) (sym e) (g .2)), rest .1 (g .0 .1, g .1 .records .1)),
+              ((front .0, back .0), record { order = order; records = (front .1, back .1) }, subst (λ (l : RecordKind). Agrees l code (w .kind) (r .bytes)) e (front .2)),
+          λ g. (one .1 (g .0 .0, g .1 .records .0, subst (λ (l : RecordKind). Agrees l code (w .kind) (r .bytes)) (sym e) (g .2)), rest .1 (g .0 .1, g .1 .records .1)),
         )
       where
         apart : R14 ≡ Im → ⊥
@@ -185,26 +191,28 @@ pub numbered-shape : (abi : List ℕ) (n : ℕ) (ds : List (List Typed)) → Rig
 numbered-shape abi n [] each = tt
 numbered-shape abi n (d ∷ ds) each = (each .0 .order, numbered-shape abi (suc n) ds (each .1))
 
--- after dispositions they are counted, and their amounts
+-- after dispositions they are counted, and their amounts; and the kind is known
 pub dispositions-state :
     (w : Walk) (ds : List (List Typed)) → InShape ds
     → (stateAfter w (flatten ds) .dispositions ≡ w .dispositions + length ds) × (stateAfter w (flatten ds) .cents ≡ w .cents + sum (map dispositionAmount ds))
+    × (stateAfter w (flatten ds) .kind ≡ kindThrough (w .kind) (map opening ds))
 unfolding flatten
-dispositions-state w [] shape = (omega arith, omega arith)
+dispositions-state w [] shape = (omega arith, omega arith, refl)
 dispositions-state w (d ∷ ds) shape =
     let one = disposition-state w [] d (opened-so d (shape .0)) in
     let rest = dispositions-state (stateAfter w d) ds (shape .1) in
     let same = state-append w d (flatten ds) in
     let count = ap (λ (v : Walk). v .dispositions) same in
     let cents = ap (λ (v : Walk). v .cents) same in
-    (omega arith, omega arith)
+    let kind = ap (λ (v : Walk). v .kind) same in
+    (omega arith, omega arith, kind ∙ rest .2 ∙ ap (λ (q : KindFound). kindThrough q (map opening ds)) (one .3))
 
 -- dispositions numbered after n
 pub dispositions-exact :
     (h : Header) (w : Walk) (code : List ℕ) (i n : ℕ) (ds : List (List Typed)) → InShape ds → suc (w .dispositions) ≡ n
-    → Walked h w code i (flatten ds) ↔ (Allowed (w .place) (kindsOf (flatten ds)) × RightDispositions (h .abi) n ds × Agreeing code (map dispositionCode ds))
+    → Walked h w code i (flatten ds) ↔ (Allowed (w .place) (kindsOf (flatten ds)) × RightDispositions (h .abi) n ds × (Agreeing code (map dispositionCode ds) × Kindred (w .kind) (map opening ds)))
 unfolding flatten
-dispositions-exact h w code i n [] shape same = (λ u. (tt, tt, tt), λ u. tt)
+dispositions-exact h w code i n [] shape same = (λ u. (tt, tt, (tt, tt)), λ u. tt)
 dispositions-exact h w code i n (d ∷ ds) shape same =
     let w′ = stateAfter w d in
     let code′ = codeAfter code d in
@@ -218,10 +226,10 @@ dispositions-exact h w code i n (d ∷ ds) shape same =
           let both = parts .0 walked in
           let front = one .0 (both .0) in
           let back = rest .0 (both .1) in
-          (walked-allowed h w code i (d ++ flatten ds) walked, (front .1, back .1), (front .2, subst (λ (c : List ℕ). Agreeing c (map dispositionCode ds)) (state .2) (back .2))),
+          (walked-allowed h w code i (d ++ flatten ds) walked, (front .1, back .1), ((front .2 .0, subst (λ (c : List ℕ). Agreeing c (map dispositionCode ds)) (state .2) (back .2 .0)), (front .2 .1, subst (λ (q : KindFound). Kindred q (map opening ds)) (state .3) (back .2 .1)))),
       λ g.
           let allowed = subst (Allowed (w .place)) kinds (g .0) in
-          let front = one .1 (allowed-before (w .place) (kindsOf d) (kindsOf (flatten ds)) allowed, g .1 .0, g .2 .0) in
+          let front = one .1 (allowed-before (w .place) (kindsOf d) (kindsOf (flatten ds)) allowed, g .1 .0, (g .2 .0 .0, g .2 .1 .0)) in
           let here = subst (λ (p : Place). Allowed p (kindsOf (flatten ds))) (sym (state-place w d)) (allowed-after (w .place) (kindsOf d) (kindsOf (flatten ds)) allowed) in
-          parts .1 (front, rest .1 (here, g .1 .1, subst (λ (c : List ℕ). Agreeing c (map dispositionCode ds)) (sym (state .2)) (g .2 .1))),
+          parts .1 (front, rest .1 (here, g .1 .1, (subst (λ (c : List ℕ). Agreeing c (map dispositionCode ds)) (sym (state .2)) (g .2 .0 .1), subst (λ (q : KindFound). Kindred q (map opening ds)) (sym (state .3)) (g .2 .1 .1)))),
     )

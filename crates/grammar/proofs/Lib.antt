@@ -5,6 +5,8 @@ pub mod ContextAfter
 pub mod Dispositions
 pub mod FirstFault
 pub mod Grammar
+pub mod KindKnown
+pub mod KindsOfFlow
 pub mod Order
 pub mod Parts
 pub mod Rules

@@ -1,6 +1,6 @@
 -- The dispositions found in a flow are those of the grammar; their parts are the bytes between header and trailer. Assumes nothing.
 use Prim.Native.Nat.{ℕ, zero, suc, _+_, _-_, _*_, _≤_, _<_}
-use mathlib.Core.Bool.{false}
+use mathlib.Core.Bool.{true, false, true≢false}
 use mathlib.Core.List.{List, [], _∷_, _++_, append-assoc, map, map-map, map-append, flatten, dropLast}
 use mathlib.Core.Path.{_≡_, refl, sym, _∙_, ap, subst}
 use native.Mathlib.Nat.{le-of-suc-le-suc, not-suc-le-zero}
@@ -11,7 +11,7 @@ use Rattle.sequences.specs.All.{All}
 use Rattle.sequences.specs.Groups.{groups}
 use Rattle.sequences.specs.Part.{part}
 use Rattle.sequences.specs.Sum.{sum, upTo}
-use Rattle.sequences.proofs.All.{all-before, all-after, all-getD}
+use Rattle.sequences.proofs.All.{all-append, all-before, all-after, all-getD}
 use Rattle.sequences.proofs.DropLast.{dropLast-append}
 use Rattle.sequences.proofs.Flatten.{flatten-append, flatten-flatten, map-flatten, flatten-next}
 use Rattle.sequences.proofs.Groups.{Opens, groups-joined}
@@ -35,8 +35,8 @@ use Rattle.flow.proofs.Accepted.{accepted-exact}
 use Rattle.flow.proofs.Cut.{Whole, flatten-length, part-joined}
 use Rattle.flow.proofs.Dispositions.{dispositions-counted, disposition-at, find-so, found-has}
 use Rattle.grammar.specs.Grammar.{Typed, kindsOf, recordsIn, opening, RightDisposition, RightDispositions, Grammar}
-use Rattle.grammar.specs.Laws.{DispositionsExact, centsAt, firstAt, endAt, PartsExact, PlacesExact, OpeningExact, PartEmpty}
-use Rattle.grammar.specs.Rules.{Digits, Says, Formed, MemberRules}
+use Rattle.grammar.specs.Laws.{OneKind, DispositionsExact, centsAt, firstAt, endAt, PartsExact, PlacesExact, OpeningExact, PartEmpty}
+use Rattle.grammar.specs.Rules.{Digits, Says, Formed, KindRules, MemberRules}
 use Rattle.grammar.proofs.Dispositions.{Detail, detail-opens, Opened, opened-by, opened-so, Member}
 use Rattle.grammar.proofs.Grammar.{grammar-records, grammar-whole, grammar-bytes, grammar-exact}
 
@@ -76,6 +76,39 @@ module _ (f : List ℕ) (t : Totals) (g : Grammar f t) where
       let bytes : Typed → List ℕ = λ r. r .bytes in
       grammar-records f t g
       ∙ ap (λ (l : List (List ℕ)). g .parts .header ∷ l) (map-append bytes ms (record { kind = Ef; bytes = g .parts .trailer } ∷ []) ∙ ap (λ (l : List (List ℕ)). l ++ (g .parts .trailer ∷ [])) (map-flatten bytes (g .parts .dispositions)))
+
+-- each record 14 is the one that opens a disposition, and has the flow's kind
+pub one-kind : OneKind
+unfolding flatten
+one-kind f t e =
+    subst (All Kept) (sym (between f t g))
+    (shut Im (g .parts .header) (g .right .header-formed) refl, all-append Kept (flatten (map recordsIn ds)) (g .parts .trailer ∷ []) (members 1 ds (g .right .each) kinds) (shut Ef (g .parts .trailer) (g .right .trailer-formed) refl, tt))
+  where
+    g : Grammar f t
+    g = grammar-exact f t .0 e
+
+    ds : List (List Typed)
+    ds = g .parts .dispositions
+
+    Kept : List ℕ → Type 0
+    Kept rec = isOpening rec ≡ true → KindRules (t .kind) rec
+
+    kinds : All (KindRules (t .kind)) (map opening ds)
+    kinds = subst (λ (u : Totals). All (KindRules (u .kind)) (map opening ds)) (g .totals) (g .right .kinds)
+
+    shut : (k : RecordKind) (rec : List ℕ) → Formed k rec → opens k ≡ false → Kept rec
+    shut k rec formed other opened = absurd (true≢false (sym opened ∙ opening-so k rec formed ∙ other))
+
+    others : (recs : List (List ℕ)) → All (λ (rec : List ℕ). isOpening rec ≡ false) recs → All Kept recs
+    others [] none = tt
+    others (rec ∷ recs) none = (λ opened. absurd (true≢false (sym opened ∙ none .0)), others recs (none .1))
+
+    members : (n : ℕ) (ds : List (List Typed)) → RightDispositions (headerOf (g .parts .header) .abi) n ds → All (KindRules (t .kind)) (map opening ds) → All Kept (flatten (map recordsIn ds))
+    members n [] each kinds = tt
+    members n (d ∷ ds) each kinds =
+        let o = opens-so (headerOf (g .parts .header) .abi) n d (each .0) in
+        let first : KindRules (t .kind) (o .first) = subst (KindRules (t .kind)) (ap (λ (l : List (List ℕ)). getD l 0 []) (o .whole)) (kinds .0) in
+        all-append Kept (recordsIn d) (flatten (map recordsIn ds)) (subst (All Kept) (sym (o .whole)) (λ opened. first, others (o .others) (o .none))) (members (suc n) ds (each .1) (kinds .1))
 
 pub dispositions-exact : DispositionsExact
 unfolding groups

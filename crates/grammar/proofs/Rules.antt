@@ -23,16 +23,21 @@ use Rattle.fields.proofs.Gregorian.{day-said, day-tested}
 use Rattle.records.specs.Amount.{amountIn}
 use Rattle.records.specs.Bytes.{isPrintable, badFrom, badByte}
 use Rattle.records.specs.Checks.{isPresent, isDate, isListed, agrees, numberChecks, dispositionChecks, coordinatesChecks, checks}
-use Rattle.records.specs.Constants.{causale, sign, currency}
+use Rattle.records.specs.Constants.{currency}
 use Rattle.records.specs.Context.{Context}
 use Rattle.records.specs.Field.{field, byteAt}
+use Rattle.records.specs.FlowKinds.{totalAt, orRequests}
 use Rattle.records.specs.RecordVerdict.{Check, check, Hold}
+use Rattle.records.specs.declared.flow_kind.FlowKind.{FlowKind}
+use Rattle.records.specs.declared.flow_kind.FlowKind.the-variants.{Requests, Recalls}
+use Rattle.records.specs.declared.flow_kind.KindFound.{KindFound}
 use Rattle.records.specs.declared.judged.Counts.{Counts}
 use Rattle.records.specs.declared.kind.RecordKind.{RecordKind}
 use Rattle.records.specs.declared.kind.RecordKind.the-variants.{Im, R14, R16, R20, R30, R40, R50, R59, R51, R70, Ef}
 use Rattle.records.proofs.Printable.{no-bad-byte}
 use Rattle.flow.specs.declared.answer.Totals.{Totals}
-use Rattle.grammar.specs.Rules.{Digits, Blank, Present, Says, Printable, HeaderRules, DispositionRules, CoordinatesRules, BesideNumber, MemberRules, TrailerRules}
+use Rattle.grammar.specs.Rules.{Digits, Blank, Present, Says, Printable, HeaderRules, DispositionRules, CoordinatesRules, BesideNumber, MemberRules, TotalRules, TrailerRules}
+use Rattle.grammar.proofs.KindsOfFlow.{SomeKind, some-kind}
 
 -- tests joined, and what they say
 either : {A B : Type 0} {a b : Bool} → (a ≡ true) ↔ A → (b ≡ true) ↔ B → ((a || b) ≡ true) ↔ (A ⊎ B)
@@ -170,28 +175,30 @@ header-rules ctx rec =
     part : {B A X : Type 0} → B ⊎ A → (A → X) → B ⊎ X
     part h f = ⊎-elim (λ b. inl b) (λ a. inr (f a)) h
 
--- the company code of row 14, compared with the latest one present; no other record has one
-abbrev pub CodeAgrees : RecordKind → List ℕ → List ℕ → Type 0
-CodeAgrees Im company rec = Unit
-CodeAgrees R14 company rec = agrees company (field 92 96 rec) ≡ true
-CodeAgrees R16 company rec = Unit
-CodeAgrees R20 company rec = Unit
-CodeAgrees R30 company rec = Unit
-CodeAgrees R40 company rec = Unit
-CodeAgrees R50 company rec = Unit
-CodeAgrees R59 company rec = Unit
-CodeAgrees R51 company rec = Unit
-CodeAgrees R70 company rec = Unit
-CodeAgrees Ef company rec = Unit
+-- what row 14 says of it beside the records before it: its company code is compared with the latest one present, its kind with the one found
+-- so far; no other record is
+abbrev pub Agrees : RecordKind → List ℕ → KindFound → List ℕ → Type 0
+Agrees Im company q rec = Unit
+Agrees R14 company q rec = (agrees company (field 92 96 rec) ≡ true) × SomeKind q rec
+Agrees R16 company q rec = Unit
+Agrees R20 company q rec = Unit
+Agrees R30 company q rec = Unit
+Agrees R40 company q rec = Unit
+Agrees R50 company q rec = Unit
+Agrees R59 company q rec = Unit
+Agrees R51 company q rec = Unit
+Agrees R70 company q rec = Unit
+Agrees Ef company q rec = Unit
 
-disposition-rules : (abi company rec : List ℕ) → Hold (dispositionChecks abi company rec) ↔ (DispositionRules abi rec × (agrees company (field 92 96 rec) ≡ true))
-disposition-rules abi company rec =
+disposition-rules : (abi company : List ℕ) (q : KindFound) (rec : List ℕ) → Hold (dispositionChecks abi company q rec) ↔ (DispositionRules abi rec × ((agrees company (field 92 96 rec) ≡ true) × SomeKind q rec))
+disposition-rules abi company q rec =
     Iff·trans
     (digits-exact (field 23 28 rec)
     then day-exact (field 23 28 rec)
-    then equal-exact (field 29 33 rec) causale
+    then Iff·rfl
+    then Iff·rfl
     then digits-exact (amountIn rec)
-    then equal-exact (field 47 47 rec) sign
+    then Iff·rfl
     then digits-exact (field 48 52 rec)
     then equal-exact (field 48 52 rec) abi
     then either (blanks-exact (field 53 57 rec)) (digits-exact (field 53 57 rec))
@@ -199,8 +206,10 @@ disposition-rules abi company rec =
     then listed-exact (byteAt 97 rec) (text " 1234569")
     then equal-exact (field 120 120 rec) currency
     then none) (
-      λ (d, (t, (c, (a, (s, (b, (e, (f, (g, (l, (v, u))))))))))). (record { payable = (d, t); causale-code = c; amount = a; sign-code = s; bank = (b, e); branch = f; code-type = l; currency-code = v }, g),
-      λ (h, g). (h .payable .0, (h .payable .1, (h .causale-code, (h .amount, (h .sign-code, (h .bank .0, (h .bank .1, (h .branch, (g, (h .code-type, (h .currency-code, tt))))))))))),
+      λ (d, (t, (k, (o, (a, (s, (b, (e, (f, (g, (l, (v, u)))))))))))). (record { payable = (d, t); amount = a; bank = (b, e); branch = f; code-type = l; currency-code = v }, (g, some-kind q rec .0 (k, o, s))),
+      λ (h, (g, kind)).
+          let row = some-kind q rec .1 kind in
+          (h .payable .0, (h .payable .1, (row .0, (row .1, (h .amount, (row .2, (h .bank .0, (h .bank .1, (h .branch, (g, (h .code-type, (h .currency-code, tt)))))))))))),
     )
 
 coordinates-rules : (abi rec : List ℕ) → Hold (coordinatesChecks abi rec) ↔ (CoordinatesRules abi rec × Unit {0})
@@ -221,8 +230,8 @@ coordinates-rules abi rec =
 
 -- a record's number, and then its other checks
 numbered :
-    (k : RecordKind) (ctx : Context) (rec : List ℕ) (cs : List Check) → Hold cs ↔ (BesideNumber k (ctx .header .abi) rec × CodeAgrees k (ctx .company) rec)
-    → Hold (numberChecks (ctx .counts .dispositions) rec ++ cs) ↔ (MemberRules k (ctx .header .abi) (ctx .counts .dispositions) rec × CodeAgrees k (ctx .company) rec)
+    (k : RecordKind) (ctx : Context) (rec : List ℕ) (cs : List Check) → Hold cs ↔ (BesideNumber k (ctx .header .abi) rec × Agrees k (ctx .company) (ctx .kind) rec)
+    → Hold (numberChecks (ctx .counts .dispositions) rec ++ cs) ↔ (MemberRules k (ctx .header .abi) (ctx .counts .dispositions) rec × Agrees k (ctx .company) (ctx .kind) rec)
 numbered k ctx rec cs e =
     Iff·trans
     (digits-exact (field 4 10 rec)
@@ -232,11 +241,11 @@ numbered k ctx rec cs e =
 
 pub member-rules :
     (k : RecordKind) (ctx : Context) (rec : List ℕ) → (k ≡ Im → ⊥) → (k ≡ Ef → ⊥)
-    → Hold (checks k ctx rec) ↔ (MemberRules k (ctx .header .abi) (ctx .counts .dispositions) rec × CodeAgrees k (ctx .company) rec)
+    → Hold (checks k ctx rec) ↔ (MemberRules k (ctx .header .abi) (ctx .counts .dispositions) rec × Agrees k (ctx .company) (ctx .kind) rec)
 unfolding checks
 member-rules Im ctx rec f g = absurd (f refl)
 member-rules R14 ctx rec f g =
-    numbered R14 ctx rec (dispositionChecks (ctx .header .abi) (ctx .company) rec) (disposition-rules (ctx .header .abi) (ctx .company) rec)
+    numbered R14 ctx rec (dispositionChecks (ctx .header .abi) (ctx .company) (ctx .kind) rec) (disposition-rules (ctx .header .abi) (ctx .company) (ctx .kind) rec)
 member-rules R16 ctx rec f g =
     numbered R16 ctx rec (coordinatesChecks (ctx .header .abi) rec) (coordinates-rules (ctx .header .abi) rec)
 member-rules R20 ctx rec f g =
@@ -253,11 +262,18 @@ member-rules R70 ctx rec f g =
 member-rules Ef ctx rec f g = absurd (g refl)
 
 -- the totals that a trailer is asked to tell
-abbrev pub countsTold : Counts → Totals
-countsTold c = record { dispositions = c .dispositions; cents = c .cents; records = c .records }
+abbrev pub countsTold : FlowKind → Counts → Totals
+countsTold q c = record { kind = q; dispositions = c .dispositions; cents = c .cents; records = c .records }
+
+-- the sum at the place of the kind, and zeros at the other
+total-rules :
+    (q : FlowKind) (cents : ℕ) (rec : List ℕ)
+    → ((Digits (field 53 67 rec) × (number (field 53 67 rec) ≡ totalAt q 53 cents)) × (Digits (field 68 82 rec) × (number (field 68 82 rec) ≡ totalAt q 68 cents))) ↔ TotalRules q cents rec
+total-rules Requests cents rec = Iff·rfl
+total-rules Recalls cents rec = Iff·rfl
 
 pub trailer-rules :
-    (ctx : Context) (rec : List ℕ) → Hold (checks Ef ctx rec) ↔ TrailerRules (ctx .header) (countsTold (ctx .counts)) rec
+    (ctx : Context) (rec : List ℕ) → Hold (checks Ef ctx rec) ↔ TrailerRules (ctx .header) (countsTold (orRequests (ctx .kind)) (ctx .counts)) rec
 unfolding checks
 trailer-rules ctx rec =
     Iff·trans
@@ -268,16 +284,18 @@ trailer-rules ctx rec =
     then digits-exact (field 46 52 rec)
     then number-exact (number (field 46 52 rec)) (ctx .counts .dispositions)
     then digits-exact (field 53 67 rec)
-    then number-exact (number (field 53 67 rec)) (ctx .counts .cents)
+    then number-exact (number (field 53 67 rec)) (totalAt (orRequests (ctx .kind)) 53 (ctx .counts .cents))
     then digits-exact (field 68 82 rec)
-    then number-exact (number (field 68 82 rec)) 0
+    then number-exact (number (field 68 82 rec)) (totalAt (orRequests (ctx .kind)) 68 (ctx .counts .cents))
     then digits-exact (field 83 89 rec)
     then number-exact (number (field 83 89 rec)) (ctx .counts .records)
     then equal-exact (field 114 114 rec) (ctx .header .currency)
     then none) (
       λ (m, (r, (d, (n, (a, (b, (e, (f, (g, (h, (j, (k, (c, u))))))))))))).
-          record { mittente = m; ricevente = r; created = d; name = n; dispositions-said = (a, b); cents-said = (e, f); zeros = (g, h); records-said = (j, k); currency-code = c },
-      λ h. (h .mittente, (h .ricevente, (h .created, (h .name, (h .dispositions-said .0, (h .dispositions-said .1, (h .cents-said .0, (h .cents-said .1, (h .zeros .0, (h .zeros .1, (h .records-said .0, (h .records-said .1, (h .currency-code, tt))))))))))))),
+          record { mittente = m; ricevente = r; created = d; name = n; dispositions-said = (a, b); cents-said = total-rules (orRequests (ctx .kind)) (ctx .counts .cents) rec .0 ((e, f), (g, h)); records-said = (j, k); currency-code = c },
+      λ h.
+          let total = total-rules (orRequests (ctx .kind)) (ctx .counts .cents) rec .1 (h .cents-said) in
+          (h .mittente, (h .ricevente, (h .created, (h .name, (h .dispositions-said .0, (h .dispositions-said .1, (total .0 .0, (total .0 .1, (total .1 .0, (total .1 .1, (h .records-said .0, (h .records-said .1, (h .currency-code, tt))))))))))))),
     )
 
 -- the digits of a number that a field says are the field

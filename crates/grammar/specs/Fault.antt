@@ -11,9 +11,10 @@ use Rattle.records.specs.Context.{Context, context, headerOf}
 use Rattle.records.specs.Field.{field}
 use Rattle.records.specs.RecordVerdict.{Hold, FirstBroken}
 use Rattle.records.specs.Kinds.{typeOf, isOpening, opens}
+use Rattle.records.specs.declared.flow_kind.KindFound.the-variants.{Unknown}
 use Rattle.records.specs.declared.kind.RecordKind.{RecordKind}
 use Rattle.flow.specs.Records.{RightLength, recordsOf}
-use Rattle.flow.specs.ExactTotals.{openingCount, amountSum}
+use Rattle.flow.specs.ExactTotals.{openingCount, amountSum, kindFrom}
 use Rattle.flow.specs.Verdict.{refusal, ofCall}
 use Rattle.flow.specs.declared.answer.Refusal.{Refusal}
 use Rattle.grammar.specs.Rules.{Printable}
@@ -38,7 +39,7 @@ latestCode code (rec ∷ recs) = latestCode (cond (isOpening rec && isPresent (f
 -- what the checks of a record of the kind are asked with, after the records `before` of the flow f
 abbrev pub contextAfter : List ℕ → List (List ℕ) → RecordKind → Context
 contextAfter f before k =
-    context (headerOf (take 120 f)) (latestCode [] before)
+    context (headerOf (take 120 f)) (latestCode [] before) (kindFrom Unknown before)
     (record { dispositions = openingCount before + cond (opens k) 1 0; cents = amountSum before; records = suc (length before) })
 
 -- the record keeps its rules where the records `before` of the flow f stand before it

@@ -1,5 +1,6 @@
--- The grammar of a request flow: a header; one or more dispositions in the stated order, numbered 1, 2, 3 ..; a trailer with their exact
--- count, sum and record count; and every field rule (document 01, "The flow as bytes"). Assumes nothing.
+-- The grammar of a flow of requests or of recalls: a header; one or more dispositions in the stated order, numbered 1, 2, 3 .., all of one
+-- kind; a trailer with their exact count, sum and record count; and every field rule (document 01, "The flow as bytes"; document 02, E1).
+-- Assumes nothing.
 use Prim.Native.Nat.{ℕ, _+_, _≤_}
 use mathlib.Core.List.{List, [], _++_, map, flatten, List·Memᴰ}
 use mathlib.Core.Path.{_≡_}
@@ -11,10 +12,11 @@ use Rattle.fields.specs.Digits.{number}
 use Rattle.records.specs.Amount.{amountIn}
 use Rattle.records.specs.Context.{headerOf}
 use Rattle.records.specs.Field.{field}
+use Rattle.records.specs.declared.flow_kind.FlowKind.{FlowKind}
 use Rattle.records.specs.declared.kind.RecordKind.{RecordKind}
 use Rattle.records.specs.declared.kind.RecordKind.the-variants.{Im, Ef}
 use Rattle.flow.specs.declared.answer.Totals.{Totals}
-use Rattle.grammar.specs.Rules.{Present, Formed, HeaderRules, MemberRules, TrailerRules}
+use Rattle.grammar.specs.Rules.{Present, Formed, HeaderRules, KindRules, MemberRules, TrailerRules}
 use Rattle.grammar.specs.Shape.{Disposition}
 
 -- a record with its kind
@@ -22,8 +24,9 @@ pub record Typed : Type 0 where
   pub kind : RecordKind
   pub bytes : List ℕ
 
--- a flow taken apart: the header, the dispositions as lists of records, the trailer
+-- a flow taken apart: its kind, the header, the dispositions as lists of records, the trailer
 pub record Parts : Type 0 where
+  pub kind : FlowKind
   pub header : List ℕ
   pub dispositions : List (List Typed)
   pub trailer : List ℕ
@@ -59,7 +62,7 @@ abbrev pub recordCount : Parts → ℕ
 recordCount p = 2 + sum (map (λ (d : List Typed). length d) (p .dispositions))
 
 abbrev pub partsTotals : Parts → Totals
-partsTotals p = record { dispositions = dispositionCount p; cents = totalCents p; records = recordCount p }
+partsTotals p = record { kind = p .kind; dispositions = dispositionCount p; cents = totalCents p; records = recordCount p }
 
 -- the n-th disposition of a flow whose header has the ABI
 pub record RightDisposition (abi : List ℕ) (n : ℕ) (d : List Typed) : Type 0 where
@@ -80,6 +83,8 @@ pub record RightParts (p : Parts) : Type 0 where
   pub some : 1 ≤ dispositionCount p
   pub each : RightDispositions (headerOf (p .header) .abi) 1 (p .dispositions)
   pub codes : AllEqual (map dispositionCode (p .dispositions))
+  -- "new requests and recalls may not share a flow"
+  pub kinds : All (KindRules (p .kind)) (map opening (p .dispositions))
   pub trailer-formed : Formed Ef (p .trailer)
   pub trailer-rules : TrailerRules (headerOf (p .header)) (partsTotals p) (p .trailer)
 

@@ -1,23 +1,25 @@
 -- What is proved of reading a flow and of finding a disposition, against statements that know neither the walk nor a search for the
 -- first fault. `proofs/` has its proof under the law's name in small letters. Assumes nothing.
 use Prim.Native.Nat.{ℕ, suc, _+_, _-_, _*_, _≤_, _<_}
+use mathlib.Core.Bool.{true}
 use mathlib.Core.List.{List, [], map, flatten}
 use mathlib.Core.Logic.{_↔_, _⊎_}
 use mathlib.Core.Path.{_≡_}
 use lib.ListN.{length}
+use Rattle.sequences.specs.All.{All}
 use Rattle.sequences.specs.Part.{part}
 use Rattle.sequences.specs.Sum.{sum, upTo}
 use Rattle.records.specs.Amount.{amountIn}
 use Rattle.records.specs.Context.{Header, context}
 use Rattle.records.specs.Field.{field}
 use Rattle.records.specs.RecordVerdict.{refused as RecordVerdict·refused}
-use Rattle.records.specs.Kinds.{typeOf}
+use Rattle.records.specs.Kinds.{typeOf, isOpening}
 use Rattle.records.specs.declared.kind.RecordKind.{RecordKind}
 use Rattle.records.specs.declared.kind.RecordKind.the-variants.{R14}
 use Rattle.flow.specs.Find.{dispositionsIn, find, partOf}
 use Rattle.flow.specs.Judge.{judge}
 use Rattle.flow.specs.Order.{In, permitted}
-use Rattle.flow.specs.Records.{recordAt}
+use Rattle.flow.specs.Records.{recordAt, recordsOf}
 use Rattle.flow.specs.Walking.{countsAt, judgeRecord}
 use Rattle.flow.specs.Verdict.{Verdict, accepted, refused}
 use Rattle.flow.specs.declared.answer.Refusal.{Refusal}
@@ -26,11 +28,15 @@ use Rattle.flow.specs.declared.location.Location.{Location}
 use Rattle.flow.specs.declared.walk.Walk.{Walk}
 use Rattle.grammar.specs.Fault.{Fault, FirstFault}
 use Rattle.grammar.specs.Grammar.{recordsIn, Grammar}
-use Rattle.grammar.specs.Rules.{Says}
+use Rattle.grammar.specs.Rules.{Says, KindRules}
 
 -- a flow is accepted exactly where it is one of the grammar, and its answer is the exact sums
 abbrev pub GrammarExact : Type 0
 GrammarExact = (f : List ℕ) (t : Totals) → (judge f ≡ accepted t) ↔ Grammar f t
+
+-- so a flow that is accepted has one kind: each of its records 14 has that kind's causale and sign
+abbrev pub OneKind : Type 0
+OneKind = (f : List ℕ) (t : Totals) → judge f ≡ accepted t → All (λ (rec : List ℕ). isOpening rec ≡ true → KindRules (t .kind) rec) (recordsOf f)
 
 -- a flow is refused exactly by its first fault
 abbrev pub FirstFaultExact : Type 0
@@ -41,7 +47,7 @@ FirstFaultExact = (f : List ℕ) (x : Refusal) → (judge f ≡ refused x) ↔ F
 abbrev pub PlaceFaultExact : Type 0
 PlaceFaultExact =
     (header : Header) (w : Walk) (company : List ℕ) (i : ℕ) (rec : List ℕ)
-    → (length rec ≡ 120 → (n p : ℕ) → (judgeRecord header w company i rec ≡ RecordVerdict·refused n p) ↔ Fault (λ (k : RecordKind). In k (permitted (w .place .due))) (λ (k : RecordKind). context header company (countsAt w i k)) rec n p)
+    → (length rec ≡ 120 → (n p : ℕ) → (judgeRecord header w company i rec ≡ RecordVerdict·refused n p) ↔ Fault (λ (k : RecordKind). In k (permitted (w .place .due))) (λ (k : RecordKind). context header company (w .kind) (countsAt w i k)) rec n p)
     × (¬ (length rec ≡ 120) → judgeRecord header w company i rec ≡ RecordVerdict·refused 1 0)
 
 -- so every list of bytes is the one or has the other, and never both

@@ -1,5 +1,5 @@
--- Document 01's table of checks as what is true of a right record: for each row a statement, field by field, with no order, no number and
--- no test. Assumes nothing.
+-- Document 01's table of checks, with the kinds of flow of document 02, E1, as what is true of a right record: for each row a statement,
+-- field by field, with no order, no number and no test. Assumes nothing.
 use Prim.Native.Nat.{ℕ, _≤_}
 use mathlib.Core.List.{List, List·Memᴰ}
 use mathlib.Core.Logic.{_⊎_}
@@ -10,10 +10,12 @@ use Rattle.fields.specs.Calendar.{Gregorian}
 use Rattle.fields.specs.Date.{dayOf}
 use Rattle.fields.specs.Digits.{number}
 use Rattle.records.specs.Amount.{amountIn}
-use Rattle.records.specs.Constants.{causale, sign, currency}
+use Rattle.records.specs.Constants.{currency}
 use Rattle.records.specs.Context.{Header}
 use Rattle.records.specs.Field.{field, byteAt}
 use Rattle.records.specs.Kinds.{typeOf}
+use Rattle.records.specs.declared.flow_kind.FlowKind.{FlowKind}
+use Rattle.records.specs.declared.flow_kind.FlowKind.the-variants.{Requests, Recalls}
 use Rattle.records.specs.declared.kind.RecordKind.{RecordKind}
 use Rattle.records.specs.declared.kind.RecordKind.the-variants.{Im, R14, R16, R20, R30, R40, R50, R59, R51, R70, Ef}
 use lib.ListN.{length}
@@ -56,16 +58,19 @@ pub record HeaderRules (rec : List ℕ) : Type 0 where
   pub qualifier : Blank (field 105 111 rec) ⊎ ((field 105 105 rec ≡ text "1") × (field 106 106 rec ≡ text "$") × Digits (field 107 111 rec))
   pub currency-code : field 114 114 rec ≡ currency
 
--- row 14 but for its number and its company code
+-- row 14 but for its number, its company code and what goes by the kind of flow
 pub record DispositionRules (abi rec : List ℕ) : Type 0 where
   pub payable : CalendarDay (field 23 28 rec)
-  pub causale-code : field 29 33 rec ≡ causale
   pub amount : Digits (amountIn rec)
-  pub sign-code : field 47 47 rec ≡ sign
   pub bank : Digits (field 48 52 rec) × (field 48 52 rec ≡ abi)
   pub branch : Blank (field 53 57 rec) ⊎ Digits (field 53 57 rec)
   pub code-type : List·Memᴰ (byteAt 97 rec) (text " 1234569")
   pub currency-code : field 120 120 rec ≡ currency
+
+-- which is the causale and the sign: a request debits the student, a recall takes that back (source document 003, section 3)
+abbrev pub KindRules : FlowKind → List ℕ → Type 0
+KindRules Requests rec = (field 29 33 rec ≡ text "07000") × (field 47 47 rec ≡ text "-")
+KindRules Recalls rec = (field 29 33 rec ≡ text "07100") × (field 47 47 rec ≡ text "+")
 
 -- row 16 but for its number
 pub record CoordinatesRules (abi rec : List ℕ) : Type 0 where
@@ -95,6 +100,11 @@ pub record MemberRules (k : RecordKind) (abi : List ℕ) (n : ℕ) (rec : List �
   pub number-said : Says n (field 4 10 rec)
   pub others : BesideNumber k abi rec
 
+-- 53-82 of row EF: the sum at the place of the kind, and zeros at the other
+abbrev pub TotalRules : FlowKind → ℕ → List ℕ → Type 0
+TotalRules Requests cents rec = Says cents (field 53 67 rec) × Says 0 (field 68 82 rec)
+TotalRules Recalls cents rec = Says 0 (field 53 67 rec) × Says cents (field 68 82 rec)
+
 -- row EF: copies of the header, and the exact totals
 pub record TrailerRules (header : Header) (t : Totals) (rec : List ℕ) : Type 0 where
   pub mittente : field 4 8 rec ≡ header .mittente
@@ -102,7 +112,6 @@ pub record TrailerRules (header : Header) (t : Totals) (rec : List ℕ) : Type 0
   pub created : field 14 19 rec ≡ header .date
   pub name : field 20 39 rec ≡ header .name
   pub dispositions-said : Says (t .dispositions) (field 46 52 rec)
-  pub cents-said : Says (t .cents) (field 53 67 rec)
-  pub zeros : Says 0 (field 68 82 rec)
+  pub cents-said : TotalRules (t .kind) (t .cents) rec
   pub records-said : Says (t .records) (field 83 89 rec)
   pub currency-code : field 114 114 rec ≡ header .currency

@@ -17,6 +17,7 @@ use Rattle.fields.proofs.Decimal.{written-length}
 use Rattle.records.specs.Checked.{checked, Alike}
 use Rattle.records.specs.Field.{Span, _to_, width, field}
 use Rattle.records.specs.Kinds.{Role, Heads, Opens, GoesOn, Closes, role, byRole}
+use Rattle.records.specs.declared.flow_kind.FlowKind.{FlowKind}
 use Rattle.records.specs.declared.kind.RecordKind.{RecordKind}
 use Rattle.records.proofs.EachKind.{each-kind}
 use Rattle.list.specs.Encode.{Placed, place, supplied, bodyPlaced}
@@ -24,6 +25,7 @@ use Rattle.list.specs.Table.{recordOf, carried}
 use Rattle.list.specs.declared.table.ItemKind.{ItemKind}
 use Rattle.list.proofs.Carried.{split-first}
 use Rattle.list.proofs.ItemKinds.{each-item}
+use Rattle.list.proofs.OneRecord.{causale-length, sign-length}
 use Rattle.list.proofs.Placing.{Fits, Covered}
 use Rattle.list.proofs.TableSpans.{Within, are-within, all-within}
 
@@ -91,25 +93,25 @@ suppliedSpans Opens = (4 to 10) ∷ (29 to 33) ∷ (47 to 47) ∷ (48 to 52) ∷
 suppliedSpans GoesOn = (4 to 10) ∷ []
 suppliedSpans Closes = []
 
-pub supplied-spanned : (n : ℕ) (abi : List ℕ) (r : Role) → (byRole r false true false false ≡ true → length abi ≡ 5) → Spanned (supplied r n abi) (suppliedSpans r)
-supplied-spanned n abi Heads five = ((refl, refl), tt)
-supplied-spanned n abi Opens five = ((refl, written-length 7 n), ((refl, refl), ((refl, refl), ((refl, five refl), ((refl, refl), tt)))))
-supplied-spanned n abi GoesOn five = ((refl, written-length 7 n), tt)
-supplied-spanned n abi Closes five = tt
+pub supplied-spanned : (q : FlowKind) (n : ℕ) (abi : List ℕ) (r : Role) → (byRole r false true false false ≡ true → length abi ≡ 5) → Spanned (supplied r q n abi) (suppliedSpans r)
+supplied-spanned q n abi Heads five = ((refl, refl), tt)
+supplied-spanned q n abi Opens five = ((refl, written-length 7 n), ((refl, causale-length q), ((refl, sign-length q), ((refl, five refl), ((refl, refl), tt)))))
+supplied-spanned q n abi GoesOn five = ((refl, written-length 7 n), tt)
+supplied-spanned q n abi Closes five = tt
 
 -- all that is written in the record of an item
 abbrev pub writtenSpans : ItemKind → List Span
 writtenSpans k = (2 to 3) ∷ (suppliedSpans (role (recordOf k)) ++ carried k)
 
 pub written-within : (k : ItemKind) → All Within (writtenSpans k)
-written-within k = all-within (writtenSpans k) (each-item (λ (k : ItemKind). are-within (writtenSpans k) ≡ true) (refl, (refl, (refl, (refl, (refl, (refl, (refl, (refl, (refl, (refl, tt)))))))))) k)
+written-within k = all-within (writtenSpans k) (each-item (λ (k : ItemKind). are-within (writtenSpans k) ≡ true) (refl, (refl, (refl, (refl, (refl, (refl, (refl, (refl, (refl, (refl, (refl, tt))))))))))) k)
 
 -- covers what is checked
 abbrev both-or-none : ItemKind → ℕ → Bool
 both-or-none k i = not (inSpans (checked (recordOf k)) i) || inSpans (writtenSpans k) i
 
 checked-covered : (k : ItemKind) → allBelow 120 (both-or-none k) ≡ true
-checked-covered = each-item (λ (k : ItemKind). allBelow 120 (both-or-none k) ≡ true) (refl, (refl, (refl, (refl, (refl, (refl, (refl, (refl, (refl, (refl, tt))))))))))
+checked-covered = each-item (λ (k : ItemKind). allBelow 120 (both-or-none k) ≡ true) (refl, (refl, (refl, (refl, (refl, (refl, (refl, (refl, (refl, (refl, (refl, tt)))))))))))
 
 pub checked-written : (k : ItemKind) (i : ℕ) → i < 120 → inSpans (checked (recordOf k)) i ≡ true → inSpans (writtenSpans k) i ≡ true
 checked-written k i h t = by (inSpans (checked (recordOf k)) i) t (below 120 (both-or-none k) (checked-covered k) i h)

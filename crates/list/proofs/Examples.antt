@@ -9,6 +9,8 @@ use Rattle.records.specs.Bytes.{badFrom}
 use Rattle.records.specs.Checks.{isListed, checks}
 use Rattle.records.specs.RecordVerdict.{firstFault}
 use Rattle.records.specs.Judge.{judgeAs}
+use Rattle.records.specs.FlowKinds.{kindAmong}
+use Rattle.flow.specs.ExactTotals.{kindFrom}
 use Rattle.flow.specs.Judge.{walkFrom, judge}
 use Rattle.flow.specs.Records.{cut}
 use Rattle.flow.specs.Order.{among}
@@ -21,7 +23,7 @@ use Rattle.list.specs.Table.{firstRow}
 use Rattle.list.specs.Write.{judgeItems, judgeList}
 
 pub examples : ListExamples
-unfolding judge walkFrom cut judgeRecord judgeTyped among judgeAs firstFault checks isListed badFrom isEqual numberFrom digits every isDay daysIn isLeap flatten fill bodyPlaced encodeItem encodeTrailer encodeFrom lastHeader listDispositions listCents itemsFrom judgeRoom firstRow judgeItems judgeList
+unfolding kindAmong kindFrom judge walkFrom cut judgeRecord judgeTyped among judgeAs firstFault checks isListed badFrom isEqual numberFrom digits every isDay daysIn isLeap flatten fill bodyPlaced encodeItem encodeTrailer encodeFrom lastHeader listDispositions listCents itemsFrom judgeRoom firstRow judgeItems judgeList
 examples =
     record {
       bodies = refl;
@@ -43,4 +45,11 @@ examples =
       room = refl;
       no-room = refl;
       refused-first = refl;
+      recall-trailer = (refl, refl);
+      two-recalls = refl;
+      recalls-written = refl;
+      recalls-read-back = refl;
+      recalls-canonical = refl;
+      other-header = refl;
+      no-14 = refl;
     }

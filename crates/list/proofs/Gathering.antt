@@ -21,12 +21,12 @@ use Rattle.list.proofs.TableSpans.{Within, spanAt, carried-within, four
 
 -- no body is longer than the positions after a record's number
 pub body-at-most : (k : ItemKind) → bodyLength k ≤ 110
-body-at-most k = leb-true (bodyLength k) 110 (each-item (λ (k : ItemKind). leb (bodyLength k) 110 ≡ true) (refl, (refl, (refl, (refl, (refl, (refl, (refl, (refl, (refl, (refl, tt)))))))))) k)
+body-at-most k = leb-true (bodyLength k) 110 (each-item (λ (k : ItemKind). leb (bodyLength k) 110 ≡ true) (refl, (refl, (refl, (refl, (refl, (refl, (refl, (refl, (refl, (refl, (refl, tt))))))))))) k)
 
 -- a span that is no position gathers nothing
 pub four-gathered : (k : ItemKind) (rec : List ℕ) → gather (fourOf (carried k)) rec ≡ gather (carried k) rec
 unfolding flatten
-four-gathered k rec = each-item (λ (k : ItemKind). gather (fourOf (carried k)) rec ≡ gather (carried k) rec) (refl, (refl, (refl, (refl, (refl, (refl, (refl, (refl, (refl, (refl, tt)))))))))) k
+four-gathered k rec = each-item (λ (k : ItemKind). gather (fourOf (carried k)) rec ≡ gather (carried k) rec) (refl, (refl, (refl, (refl, (refl, (refl, (refl, (refl, (refl, (refl, (refl, tt))))))))))) k
 
 -- the carried bytes are a body
 pub body-gathered : (rec : List ℕ) → length rec ≡ 120 → (k : ItemKind) → length (gather (carried k) rec) ≡ bodyLength k

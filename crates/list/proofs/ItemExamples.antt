@@ -13,6 +13,8 @@ unfolding isEqual digits flatten fill bodyPlaced encodeItem encodeTrailer itemsF
 item-examples =
     record {
       header = (refl, refl);
+      recall-header = (refl, refl);
+      recall = (refl, refl);
       disposition = (refl, refl);
       coordinates = (refl, refl);
       creditor = (refl, refl);
@@ -23,4 +25,5 @@ item-examples =
       creditor-data = (refl, refl);
       control = (refl, refl);
       trailer = refl;
+      recall-trailer = refl;
     }

@@ -29,7 +29,7 @@ use Rattle.flow.specs.declared.walk.Walk.{Walk}
 use Rattle.flow.proofs.Cut.{Whole, flatten-length}
 use Rattle.flow.proofs.Exact.{right-typed}
 use Rattle.flow.proofs.Reading.{Reading, one-at-most, begin, go-on, refuse, finish}
-use Rattle.list.specs.Encode.{carriedAt, headerAfter, lastHeader, listTotals, encodeItem, encodeFrom, recordsFor, trailerFor, encode}
+use Rattle.list.specs.Encode.{carriedAt, HeaderMeant, noHeader, headerAfter, lastHeader, listTotals, encodeItem, encodeFrom, recordsFor, trailerFor, encode}
 use Rattle.list.specs.Items.{Item, item, recordKind, isD, Proper, items, itemsFrom, itemsIn, Listed}
 use Rattle.list.specs.Table.{recordOf, carried, bodyLength, rowOf}
 use Rattle.list.specs.Write.{closed, judgeItems}
@@ -71,12 +71,12 @@ turn list n i k is next size sized =
 
 -- so the record that is built is the item's
 pub turn-record :
-    {list : List ℕ} {i : ℕ} {k : ItemKind} {size : ℕ} → Turn list i k size → (dispositions number : ℕ) (header rec : List ℕ) → number ≡ dispositions + opened (recordOf k)
+    {list : List ℕ} {i : ℕ} {k : ItemKind} {size : ℕ} → Turn list i k size → (dispositions number : ℕ) (header : HeaderMeant) (rec : List ℕ) → number ≡ dispositions + opened (recordOf k)
     → rec ≡ encodeItem number header (item k (part (i + 1) (i + 1 + size - (i + 1)) list)) → rec ≡ encodeItem (dispositions + opened (recordOf k)) header (itemAt list i k)
 turn-record {k = k} t dispositions number header rec counted built = built ∙ (λ j. encodeItem (counted j) header (item k (t .body-so j)))
 
 -- a record that is found right is of the item's kind, and its company code is the body's
-module _ (number : ℕ) (header : List ℕ) (it : Item) (proper : Proper it) where
+module _ (number : ℕ) (header : HeaderMeant) (it : Item) (proper : Proper it) where
   pub right-kind : (h : Header) (w : Walk) (company : List ℕ) (n : ℕ) (k : RecordKind) (c : ℕ) → judgeRecord h w company n (encodeItem number header it) ≡ right k c → k ≡ recordKind it
   right-kind h w company n k c e =
       types-differ k (recordKind it) (sym (type-said k (encodeItem number header it) (right-typed h w company n (encodeItem number header it) k c e .0)) ∙ encoded-type number header it proper)
@@ -102,19 +102,19 @@ none-judged [] e = refl
 none-judged (b ∷ bs) e = absurd (omega arith)
 
 -- after n right records, at index i of the list
-pub record JudgingAt (h : Header) (list : List ℕ) (i n dispositions : ℕ) (header : List ℕ) (w : Walk) (company : List ℕ) : Type 0 where
+pub record JudgingAt (h : Header) (list : List ℕ) (i n dispositions : ℕ) (header : HeaderMeant) (w : Walk) (company : List ℕ) : Type 0 where
   pub left : List Item
   pub said : itemsFrom n 0 (drop i list) ≡ items left
   pub count : n + length left ≡ length (itemsIn list)
   pub few : dispositions ≤ n
   pub reading : Reading closed h (recordsFor (itemsIn list)) w company n (encodeFrom dispositions header left)
 
-pub judging-begins : (h : Header) (list : List ℕ) → Listed list → JudgingAt h list 0 0 0 [] start []
+pub judging-begins : (h : Header) (list : List ℕ) → Listed list → JudgingAt h list 0 0 0 noHeader start []
 judging-begins h list listed =
     record { left = itemsIn list; said = listed .said; count = omega arith; few = omega arith; reading = begin closed h (recordsFor (itemsIn list)) }
 
 -- the next record and those after it
-module _ (list : List ℕ) (n i number : ℕ) (header : List ℕ) (k : ItemKind) (is : List Item) (next : Next list n i k is) where
+module _ (list : List ℕ) (n i number : ℕ) (header : HeaderMeant) (k : ItemKind) (is : List Item) (next : Next list n i k is) where
   abbrev pub recordAt : List ℕ
   recordAt = encodeItem (number + opened (recordOf k)) header (itemAt list i k)
 
@@ -126,19 +126,19 @@ module _ (list : List ℕ) (n i number : ℕ) (header : List ℕ) (k : ItemKind)
   records-next = ap (encodeFrom number header) (next .whole)
 
 -- the first record of all is the first 120 bytes
-pub first-record : (list : List ℕ) (k : ItemKind) → Next list 0 0 k (itemsIn list) → take 120 (flatten (recordsFor (itemsIn list))) ≡ encodeItem (0 + opened (recordOf k)) [] (itemAt list 0 k)
+pub first-record : (list : List ℕ) (k : ItemKind) → Next list 0 0 k (itemsIn list) → take 120 (flatten (recordsFor (itemsIn list))) ≡ encodeItem (0 + opened (recordOf k)) noHeader (itemAt list 0 k)
 unfolding flatten
 first-record list k next =
-    ap (λ (recs : List (List ℕ)). take 120 (flatten recs)) (records-next list 0 0 0 [] k (itemsIn list) next)
-    ∙ take-at (encodeItem (0 + opened (recordOf k)) [] (itemAt list 0 k)) _ 120 (encoded-length (0 + opened (recordOf k)) [] (itemAt list 0 k) (next-proper list 0 0 k (itemsIn list) next))
+    ap (λ (recs : List (List ℕ)). take 120 (flatten recs)) (records-next list 0 0 0 noHeader k (itemsIn list) next)
+    ∙ take-at (encodeItem (0 + opened (recordOf k)) noHeader (itemAt list 0 k)) _ 120 (encoded-length (0 + opened (recordOf k)) noHeader (itemAt list 0 k) (next-proper list 0 0 k (itemsIn list) next))
 
-module _ {h : Header} {list : List ℕ} {i n number : ℕ} {header : List ℕ} {w : Walk} {company : List ℕ} (j : JudgingAt h list i n number header w company) (within : i < length list) (k : ItemKind) (row : rowOf (getD list i 0) ≡ Of k) where
+module _ {h : Header} {list : List ℕ} {i n number : ℕ} {header : HeaderMeant} {w : Walk} {company : List ℕ} (j : JudgingAt h list i n number header w company) (within : i < length list) (k : ItemKind) (row : rowOf (getD list i 0) ≡ Of k) where
   abbrev pub next-judged : Next list n i k (j .left)
   next-judged = next-item list n i (j .left) (j .said) within k row
 
   pub judging-on :
       (l : RecordKind) (c : ℕ) → judgeRecord h w company (suc n) (recordAt list n i number header k (j .left) next-judged) ≡ right l c
-      → JudgingAt h list (i + 1 + bodyLength k) (suc n) (number + opened (recordOf k)) (headerAfter header (itemAt list i k)) (saturated (step w l c)) (latestOf (recordOf k) company (carriedAt D (92 to 96) (itemAt list i k .body)))
+      → JudgingAt h list (i + 1 + bodyLength k) (suc n) (number + opened (recordOf k)) (headerAfter header (itemAt list i k)) (saturated (step w l c (recordAt list n i number header k (j .left) next-judged))) (latestOf (recordOf k) company (carriedAt D (92 to 96) (itemAt list i k .body)))
   judging-on l c e =
       let next = next-judged in
       let it = itemAt list i k in
@@ -153,7 +153,7 @@ module _ {h : Header} {list : List ℕ} {i n number : ℕ} {header : List ℕ} {
         said = next .left;
         count = omega (arith, j .count);
         few = omega (arith, j .few, one-at-most (recordOf k));
-        reading = subst (λ (m : List ℕ). Reading closed h (recordsFor (itemsIn list)) (saturated (step w l c)) m (suc n) (recordsAfter list n i number header k (j .left) next)) code read;
+        reading = subst (λ (m : List ℕ). Reading closed h (recordsFor (itemsIn list)) (saturated (step w l c (recordAt list n i number header k (j .left) next))) m (suc n) (recordsAfter list n i number header k (j .left) next)) code read;
       }
 
   pub judging-refused :
@@ -178,28 +178,28 @@ closed-alike w n few = by (leb (w .cents) mostCents) refl
         let over : leb (min (w .cents) centsLimit) mostCents ≡ false = lt-leb (min (w .cents) centsLimit) mostCents (omega arith) in
         rw (over, t)
 
-pub judging-ends : {h : Header} {list : List ℕ} {i n number : ℕ} {header : List ℕ} {w : Walk} {company : List ℕ} (j : JudgingAt h list i n number header w company) → suc (length (itemsIn list)) ≤ mostRecords → length list ≤ i → closed w n ≡ walkFrom closed h start [] 0 (recordsFor (itemsIn list))
+pub judging-ends : {h : Header} {list : List ℕ} {i n number : ℕ} {header : HeaderMeant} {w : Walk} {company : List ℕ} (j : JudgingAt h list i n number header w company) → suc (length (itemsIn list)) ≤ mostRecords → length list ≤ i → closed w n ≡ walkFrom closed h start [] 0 (recordsFor (itemsIn list))
 unfolding encodeFrom
 judging-ends {list = list} {i = i} {n = n} {number = number} {header = header} j few past =
     let none : j .left ≡ [] = no-more list n i (j .left) (j .said) past in
     finish (j .reading) (ap (encodeFrom number header) none) (closed-alike (j .reading .exact) n (omega (arith, j .reading .few, j .count)))
 
 -- after n records stored, at index i of the list: what is left to store makes `all` of the output
-pub record StoringAt (list all : List ℕ) (i n dispositions : ℕ) (header out : List ℕ) : Type 0 where
+pub record StoringAt (list all : List ℕ) (i n dispositions : ℕ) (header : HeaderMeant) (out : List ℕ) : Type 0 where
   pub left : List Item
   pub said : itemsFrom n 0 (drop i list) ≡ items left
   pub proper : All Proper left
   pub count : n + length left ≡ length (itemsIn list)
   pub few : dispositions ≤ n
-  pub header-last : lastHeader header left ≡ lastHeader [] (itemsIn list)
+  pub header-last : lastHeader header left ≡ lastHeader noHeader (itemsIn list)
   pub room : 120 * suc (length (itemsIn list)) ≤ length out
   pub rest : put (120 * n) (flatten (encodeFrom dispositions header left ++ (trailerFor (itemsIn list) ∷ []))) out ≡ all
 
-pub storing-begins : (list out : List ℕ) → Listed list → 120 * suc (length (itemsIn list)) ≤ length out → StoringAt list (put 0 (encode (itemsIn list)) out) 0 0 0 [] out
+pub storing-begins : (list out : List ℕ) → Listed list → 120 * suc (length (itemsIn list)) ≤ length out → StoringAt list (put 0 (encode (itemsIn list)) out) 0 0 0 noHeader out
 storing-begins list out listed room =
     record { left = itemsIn list; said = listed .said; proper = items-exact list (itemsIn list) .0 (listed .said) .1; count = omega arith; few = omega arith; header-last = refl; room = room; rest = refl }
 
-module _ {list all : List ℕ} {i n number : ℕ} {header out : List ℕ} (s : StoringAt list all i n number header out) where
+module _ {list all : List ℕ} {i n number : ℕ} {header : HeaderMeant} {out : List ℕ} (s : StoringAt list all i n number header out) where
   pub next-stored : i < length list → (k : ItemKind) → rowOf (getD list i 0) ≡ Of k → Next list n i k (s .left)
   next-stored within k row = next-item list n i (s .left) (s .said) within k row
 
@@ -216,7 +216,7 @@ module _ {list all : List ℕ} {i n number : ℕ} {header out : List ℕ} (s : S
       let count = s .count in
       let room = s .room in
       let size : length rec ≡ 120 = encoded-length (number + opened (recordOf k)) header (itemAt list i k) (is .0) in
-      let whole : Whole after = all-append (λ (r : List ℕ). length r ≡ 120) (recordsAfter list n i number header k (s .left) next) (trailerFor (itemsIn list) ∷ []) (encoded-whole (number + opened (recordOf k)) (headerAfter header (itemAt list i k)) (next .others) (is .1)) (trailer-length (lastHeader [] (itemsIn list)) (listTotals (itemsIn list)), tt) in
+      let whole : Whole after = all-append (λ (r : List ℕ). length r ≡ 120) (recordsAfter list n i number header k (s .left) next) (trailerFor (itemsIn list) ∷ []) (encoded-whole (number + opened (recordOf k)) (headerAfter header (itemAt list i k)) (next .others) (is .1)) (trailer-length (lastHeader noHeader (itemsIn list) .body) (listTotals (itemsIn list)), tt) in
       let records : length after ≡ suc (length (next .others)) = length-append (recordsAfter list n i number header k (s .left) next) (trailerFor (itemsIn list) ∷ []) ∙ omega (arith, encoded-count (number + opened (recordOf k)) (headerAfter header (itemAt list i k)) (next .others)) in
       let bytes : length (flatten after) ≡ 120 * length after = flatten-length after whole in
       let fits : 120 * n + length rec + length (flatten after) ≤ length out = omega arith in
@@ -233,7 +233,7 @@ module _ {list all : List ℕ} {i n number : ℕ} {header out : List ℕ} (s : S
         rest = ap (λ (m : ℕ). put m (flatten after) (put (120 * n) rec out)) (sym on) ∙ sym (put-append (120 * n) rec (flatten after) out fits) ∙ ap (λ (l : List (List ℕ)). put (120 * n) (flatten l) out) (sym joined) ∙ s .rest;
       }
 
-  pub storing-ends : length list ≤ i → (n ≡ length (itemsIn list)) × (header ≡ lastHeader [] (itemsIn list)) × (put (120 * n) (trailerFor (itemsIn list)) out ≡ all)
+  pub storing-ends : length list ≤ i → (n ≡ length (itemsIn list)) × (header ≡ lastHeader noHeader (itemsIn list)) × (put (120 * n) (trailerFor (itemsIn list)) out ≡ all)
   unfolding encodeFrom flatten lastHeader
   storing-ends past =
       let none : s .left ≡ [] = no-more list n i (s .left) (s .said) past in

@@ -45,18 +45,18 @@ all-within (s ∷ ss) t =
     (within-so s (both .0), all-within ss (both .1))
 
 pub carried-within : (k : ItemKind) → All Within (carried k)
-carried-within k = all-within (carried k) (each-item (λ (k : ItemKind). are-within (carried k) ≡ true) (refl, (refl, (refl, (refl, (refl, (refl, (refl, (refl, (refl, (refl, tt)))))))))) k)
+carried-within k = all-within (carried k) (each-item (λ (k : ItemKind). are-within (carried k) ≡ true) (refl, (refl, (refl, (refl, (refl, (refl, (refl, (refl, (refl, (refl, (refl, tt))))))))))) k)
 
 -- each of the four spans of a kind
 pub four-within : (k : ItemKind) → All Within (fourOf (carried k))
-four-within k = all-within (fourOf (carried k)) (each-item (λ (k : ItemKind). are-within (fourOf (carried k)) ≡ true) (refl, (refl, (refl, (refl, (refl, (refl, (refl, (refl, (refl, (refl, tt)))))))))) k)
+four-within k = all-within (fourOf (carried k)) (each-item (λ (k : ItemKind). are-within (fourOf (carried k)) ≡ true) (refl, (refl, (refl, (refl, (refl, (refl, (refl, (refl, (refl, (refl, (refl, tt))))))))))) k)
 
 pub four-count : (k : ItemKind) → length (fourOf (carried k)) ≡ 4
-four-count = each-item (λ (k : ItemKind). length (fourOf (carried k)) ≡ 4) (refl, (refl, (refl, (refl, (refl, (refl, (refl, (refl, (refl, (refl, tt))))))))))
+four-count = each-item (λ (k : ItemKind). length (fourOf (carried k)) ≡ 4) (refl, (refl, (refl, (refl, (refl, (refl, (refl, (refl, (refl, (refl, (refl, tt)))))))))))
 
 -- the widths of the four are the body's length
 pub four-widths : (k : ItemKind) → sum (map width (fourOf (carried k))) ≡ bodyLength k
-four-widths = each-item (λ (k : ItemKind). sum (map width (fourOf (carried k))) ≡ bodyLength k) (refl, (refl, (refl, (refl, (refl, (refl, (refl, (refl, (refl, (refl, tt))))))))))
+four-widths = each-item (λ (k : ItemKind). sum (map width (fourOf (carried k))) ≡ bodyLength k) (refl, (refl, (refl, (refl, (refl, (refl, (refl, (refl, (refl, (refl, (refl, tt)))))))))))
 
 -- the span at index i by its two numbers
 pub bounds-first : (ss : List Span) (i : ℕ) → i < length ss → getD (bounds ss) (2 * i) 0 ≡ firstOf (getD ss i (1 to 0))
@@ -99,7 +99,7 @@ four-end k i h = let counted : length (fourOf (carried k)) ≤ i = rw four-count
 
 -- the four are the carried positions, and then spans of none
 pub four-padded : (k : ItemKind) → fourOf (carried k) ≡ carried k ++ replicate (4 - length (carried k)) (1 to 0)
-four-padded = each-item (λ (k : ItemKind). fourOf (carried k) ≡ carried k ++ replicate (4 - length (carried k)) (1 to 0)) (refl, (refl, (refl, (refl, (refl, (refl, (refl, (refl, (refl, (refl, tt))))))))))
+four-padded = each-item (λ (k : ItemKind). fourOf (carried k) ≡ carried k ++ replicate (4 - length (carried k)) (1 to 0)) (refl, (refl, (refl, (refl, (refl, (refl, (refl, (refl, (refl, (refl, (refl, tt)))))))))))
 
 -- spans one after the other
 abbrev pub Rising : List Span → Type 0
@@ -127,12 +127,12 @@ rising-so (s ∷ ss) t =
     (from-so (lastOf s) ss (both .0), rising-so ss (both .1))
 
 pub carried-rising : (k : ItemKind) → Rising (carried k)
-carried-rising k = rising-so (carried k) (each-item (λ (k : ItemKind). is-rising (carried k) ≡ true) (refl, (refl, (refl, (refl, (refl, (refl, (refl, (refl, (refl, (refl, tt)))))))))) k)
+carried-rising k = rising-so (carried k) (each-item (λ (k : ItemKind). is-rising (carried k) ≡ true) (refl, (refl, (refl, (refl, (refl, (refl, (refl, (refl, (refl, (refl, (refl, tt))))))))))) k)
 
 -- no kind carries position 3 or one before it
 pub carried-after : (k : ItemKind) → All (λ (t : Span). 3 ≤ firstOf t - 1) (carried k)
-carried-after k = from-so 3 (carried k) (each-item (λ (k : ItemKind). all-from 3 (carried k) ≡ true) (refl, (refl, (refl, (refl, (refl, (refl, (refl, (refl, (refl, (refl, tt)))))))))) k)
+carried-after k = from-so 3 (carried k) (each-item (λ (k : ItemKind). all-from 3 (carried k) ≡ true) (refl, (refl, (refl, (refl, (refl, (refl, (refl, (refl, (refl, (refl, (refl, tt))))))))))) k)
 
--- nor does one but H carry a position of the number
+-- nor does one but a header's carry a position of the number
 pub carried-after-number : (k : ItemKind) → heads (recordOf k) ≡ false → All (λ (t : Span). 10 ≤ firstOf t - 1) (carried k)
-carried-after-number k member = from-so 10 (carried k) (each-item (λ (k : ItemKind). heads (recordOf k) ≡ false → all-from 10 (carried k) ≡ true) (λ e. absurd (true≢false e), (λ e. refl, (λ e. refl, (λ e. refl, (λ e. refl, (λ e. refl, (λ e. refl, (λ e. refl, (λ e. refl, (λ e. refl, tt)))))))))) k member)
+carried-after-number k member = from-so 10 (carried k) (each-item (λ (k : ItemKind). heads (recordOf k) ≡ false → all-from 10 (carried k) ≡ true) (λ e. absurd (true≢false e), (λ e. absurd (true≢false e), (λ e. refl, (λ e. refl, (λ e. refl, (λ e. refl, (λ e. refl, (λ e. refl, (λ e. refl, (λ e. refl, (λ e. refl, tt))))))))))) k member)

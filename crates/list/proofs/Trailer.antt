@@ -14,21 +14,24 @@ use Rattle.records.specs.Bytes.{badFrom, badByte}
 use Rattle.records.specs.Constants.{currency}
 use Rattle.records.specs.Context.{headerOf}
 use Rattle.records.specs.Field.{_to_, width, field}
+use Rattle.records.specs.FlowKinds.{totalAt, orRequests}
 use Rattle.records.specs.Kinds.{typeOf, opened}
+use Rattle.records.specs.declared.flow_kind.FlowKind.{FlowKind}
+use Rattle.records.specs.declared.flow_kind.FlowKind.the-variants.{Requests, Recalls}
 use Rattle.records.specs.declared.kind.RecordKind.the-variants.{Ef}
 use Rattle.records.proofs.Checked.{field-within}
 use Rattle.flow.specs.Judge.{walkTotals}
 use Rattle.flow.specs.Walking.{countsAt}
 use Rattle.flow.specs.declared.answer.Totals.{Totals}
 use Rattle.flow.specs.declared.walk.Walk.{Walk}
-use Rattle.grammar.specs.Rules.{Says, Printable, Formed, TrailerRules}
+use Rattle.grammar.specs.Rules.{Says, Printable, Formed, TotalRules, TrailerRules}
 use Rattle.grammar.proofs.AtPlace.{asks, May, RightAt}
 use Rattle.grammar.proofs.Rules.{digits-exact, digits-printable, printable-exact, says-written, countsTold, trailer-rules}
 use Rattle.list.specs.Table.{carried}
 use Rattle.list.specs.Encode.{blanks, carriedAt, copiedIn, trailerPlaced, encodeTrailer}
 use Rattle.list.specs.declared.table.ItemKind.the-variants.{H}
 use Rattle.list.proofs.Carried.{inOne}
-use Rattle.list.proofs.AllRecords.{trailer-length, trailer-type, trailer-copied, trailer-dispositions, trailer-cents, trailer-zeros, trailer-records, trailer-currency}
+use Rattle.list.proofs.AllRecords.{trailer-length, trailer-type, trailer-copied, trailer-dispositions, trailer-asked, trailer-recalled, trailer-records, trailer-currency}
 use Rattle.list.proofs.Placing.{all-part, AllPlaced, fill-all}
 
 -- the counts that it says
@@ -37,12 +40,19 @@ pub record Counted (t : Totals) : Type 0 where
   pub cents : t .cents < 10 ^ 15
   pub records : t .records < 10 ^ 7
 
--- `header` is a body of H that carries what the record `im` has
+-- `header` is a body of H or Q that carries what the record `im` has
 pub record Meant (im header : List ℕ) : Type 0 where
   pub sized : length header ≡ 49
-  pub carries : (a e : ℕ) → inOne (carried H) a e ≡ true → field a e im ≡ carriedAt H (a to e) header
+  pub carries : (a e : ℕ) → inOne (carried (H Requests)) a e ≡ true → field a e im ≡ carriedAt (H Requests) (a to e) header
   pub printable : All Printable im
   pub code : field 114 114 im ≡ currency
+
+-- what is written at the two places of the total says the sum at the one and zeros at the other
+total-said :
+    (q : FlowKind) (cents : ℕ) (rec : List ℕ) → field 53 67 rec ≡ digits 15 (totalAt q 53 cents) → field 68 82 rec ≡ digits 15 (totalAt q 68 cents) → cents < 10 ^ 15
+    → TotalRules q cents rec
+total-said Requests cents rec asked recalled small = (subst (Says cents) (sym asked) (says-written 15 cents small), subst (Says 0) (sym recalled) (says-written 15 0 (omega arith)))
+total-said Recalls cents rec asked recalled small = (subst (Says 0) (sym asked) (says-written 15 0 (omega arith)), subst (Says cents) (sym recalled) (says-written 15 cents small))
 
 module _ (im header : List ℕ) (meant : Meant im header) (t : Totals) where
   abbrev trailer : List ℕ
@@ -65,7 +75,7 @@ module _ (im header : List ℕ) (meant : Meant im header) (t : Totals) where
       let fixed : (bs : List ℕ) → badByte bs ≡ 0 → All Printable bs = λ bs. printable-exact bs .0 in
       let number : (w v : ℕ) → All Printable (digits w v) = λ w v. digits-printable (digits w v) (digits-exact (digits w v) .0 (written-digits w v)) in
       let copied : All Printable (copiedIn header) = subst (All Printable) (meant .carries 4 45 refl) (all-part Printable 3 42 im (meant .printable)) in
-      let placed : All (AllPlaced Printable) (trailerPlaced (copiedIn header) t) = (fixed (typeOf Ef) refl, (copied, (number 7 (t .dispositions), (number 15 (t .cents), (number 15 0, (number 7 (t .records), (fixed currency refl, tt))))))) in
+      let placed : All (AllPlaced Printable) (trailerPlaced (copiedIn header) t) = (fixed (typeOf Ef) refl, (copied, (number 7 (t .dispositions), (number 15 (totalAt (t .kind) 53 (t .cents)), (number 15 (totalAt (t .kind) 68 (t .cents)), (number 7 (t .records), (fixed currency refl, tt))))))) in
       record {
         whole = trailer-length header t;
         printable = fill-all Printable (trailerPlaced (copiedIn header) t) blanks placed (fixed blanks refl);
@@ -80,8 +90,7 @@ module _ (im header : List ℕ) (meant : Meant im header) (t : Totals) where
         created = copied-at 14 19 (omega arith) (omega arith) (omega arith) ∙ sym (meant .carries 14 19 refl);
         name = copied-at 20 39 (omega arith) (omega arith) (omega arith) ∙ sym (meant .carries 20 39 refl);
         dispositions-said = subst (Says (t .dispositions)) (sym (trailer-dispositions header t)) (says-written 7 (t .dispositions) (counted .dispositions));
-        cents-said = subst (Says (t .cents)) (sym (trailer-cents header t)) (says-written 15 (t .cents) (counted .cents));
-        zeros = subst (Says 0) (sym (trailer-zeros header t)) (says-written 15 0 (omega arith));
+        cents-said = total-said (t .kind) (t .cents) trailer (trailer-asked header t) (trailer-recalled header t) (counted .cents);
         records-said = subst (Says (t .records)) (sym (trailer-records header t)) (says-written 7 (t .records) (counted .records));
         currency-code = trailer-currency header t ∙ sym (meant .code);
       }
@@ -91,6 +100,7 @@ module _ (im header : List ℕ) (meant : Meant im header) (t : Totals) where
       Counted t → (w : Walk) (company : List ℕ) (i : ℕ) → May w Ef → walkTotals w i ≡ t → RightAt (headerOf im) w company i Ef trailer
   trailer-right counted w company i may same =
       let none : w .dispositions ≡ w .dispositions + opened Ef = omega arith in
-      let told : t ≡ countsTold (countsAt w i Ef) = sym same ∙ (λ j. record { dispositions = none j; cents = w .cents; records = i }) in
-      let rules : TrailerRules (headerOf im) (countsTold (countsAt w i Ef)) trailer = subst (λ (u : Totals). TrailerRules (headerOf im) u trailer) told (trailer-keeps counted) in
+      let q = orRequests (w .kind) in
+      let told : t ≡ countsTold q (countsAt w i Ef) = sym same ∙ (λ j. record { kind = q; dispositions = none j; cents = w .cents; records = i }) in
+      let rules : TrailerRules (headerOf im) (countsTold q (countsAt w i Ef)) trailer = subst (λ (u : Totals). TrailerRules (headerOf im) u trailer) told (trailer-keeps counted) in
       record { may = may; formed = trailer-formed; keeps = trailer-rules (asks (headerOf im) w company i Ef) trailer .1 rules }

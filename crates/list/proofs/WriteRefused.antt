@@ -1,7 +1,7 @@
 -- Writing is refused exactly where document 01 says so, and by that number, and else accepted with the list's own sums. Assumes nothing.
 use Prim.Native.Nat.{ℕ, suc, _+_, _*_, _≤_}
 use mathlib.Core.Bool.{Bool, true, false, cond, true≢false}
-use mathlib.Core.List.{List, [], _∷_}
+use mathlib.Core.List.{List, _∷_}
 use mathlib.Core.Logic.{_↔_, _⊎_, inl, inr}
 use mathlib.Core.Path.{_≡_, refl, sym, _∙_, ap, subst}
 use native.Mathlib.Omega.{arith}
@@ -25,13 +25,13 @@ use Rattle.grammar.specs.Grammar.{recordsIn}
 use Rattle.grammar.proofs.ContextAfter.{may-follow, follows-may, walked-of, each-of}
 use Rattle.grammar.proofs.FirstFault.{judgeFrom, judged, ends-so, stops-so}
 use Rattle.grammar.proofs.Walked.{stateAfter}
-use Rattle.list.specs.Encode.{recordsFor}
+use Rattle.list.specs.Encode.{noHeader, recordsFor}
 use Rattle.list.specs.Items.{Item, Proper, Parsed, items, faulty, parse}
 use Rattle.list.specs.Laws.{Fitting, WriteFault, no-item, too-many, no-room, in-record, no-trailer, too-much, WriteRefused, WriteAccepts, WriteAccepted}
 use Rattle.list.specs.Write.{closed, judgeItems, judgeParsed, judgeList}
 use Rattle.list.proofs.AllRecords.{encoded-whole, encoded-count}
 use Rattle.list.proofs.Judging.{front, RightItems, FaultyItems, view-items, typed-count, right-judged, faulty-judged, right-sums, close-said, close-tested}
-use Rattle.list.proofs.Written.{accepted-list, accepted-items}
+use Rattle.list.proofs.Written.{accepted-list, accepted-items, kind-told}
 use Rattle.list.proofs.ListItems.{items-exact, faulty-exact}
 
 -- a refusal that says the same is for the same fault
@@ -41,17 +41,17 @@ renamed {list} {room} e fault = subst (WriteFault list room) (refused-same e) fa
 -- the records other than EF, judged by the reader itself
 module _ (is : List Item) (proper : All Proper is) (few : suc (length is) ≤ mostRecords) where
   front-length : length (front is) ≡ 120 * length is
-  front-length = flatten-length (recordsFor is) (encoded-whole 0 [] is proper) ∙ ap (λ (m : ℕ). 120 * m) (encoded-count 0 [] is)
+  front-length = flatten-length (recordsFor is) (encoded-whole 0 noHeader is proper) ∙ ap (λ (m : ℕ). 120 * m) (encoded-count 0 noHeader is)
 
   front-judged : 1 ≤ length is → judge (front is) ≡ judgeFrom (front is) (recordsFor is)
   front-judged some =
       let size = front-length in
       let sized : RightLength (length (front is)) = (omega arith, omega arith, omega arith) in
-      judged (front is) sized ∙ ap (judgeFrom (front is)) (joined-records (recordsFor is) (encoded-whole 0 [] is proper))
+      judged (front is) sized ∙ ap (judgeFrom (front is)) (joined-records (recordsFor is) (encoded-whole 0 noHeader is proper))
 
   fault-within : (f : FaultyItems is) → suc (length (recordsIn (f .typed))) ≤ length is
   fault-within f =
-      let all : length (recordsIn (f .typed)) + suc (length (f .rest)) ≡ length is = sym (length-append (recordsIn (f .typed)) (f .rec ∷ f .rest)) ∙ ap (λ (l : List (List ℕ)). length l) (sym (f .same)) ∙ encoded-count 0 [] is in
+      let all : length (recordsIn (f .typed)) + suc (length (f .rest)) ≡ length is = sym (length-append (recordsIn (f .typed)) (f .rec ∷ f .rest)) ∙ ap (λ (l : List (List ℕ)). length l) (sym (f .same)) ∙ encoded-count 0 noHeader is in
       omega arith
 
   fault-read : (f : FaultyItems is) → judge (front is) ≡ refused (refusal (f .number) (suc (length (recordsIn (f .typed)))) (f .position))
@@ -130,7 +130,7 @@ fitting-judged list room is fits = rw (fits .said, le-leb (suc (length is)) most
 -- all the records are right
 right-of : (is : List Item) → All Proper is → EachRight (front is) (recordsFor is) → RightItems is
 right-of is proper each =
-    let walked = walked-of (front is) (recordsFor is) (encoded-whole 0 [] is proper) each in
+    let walked = walked-of (front is) (recordsFor is) (encoded-whole 0 noHeader is proper) each in
     record { typed = walked .0; same = walked .1; walked = walked .2 }
 
 fault-refuses : (list : List ℕ) (room : ℕ) (x : Refusal) → WriteFault list room x → judgeList list room ≡ refused x
@@ -194,4 +194,4 @@ write-accepted list room t = (accepted-so, so-accepted)
         let sums = right-sums is proper q in
         let due : may q ≡ true = trailer-follows is q .1 (a .follows) in
         let small : leb (stateAfter start (q .typed) .cents) mostCents ≡ true = le-leb (stateAfter start (q .typed) .cents) mostCents (omega (arith, sums .1, a .small)) in
-        fitting-judged list room is (a .fits) ∙ right-judged is proper q ∙ rw (due, small) (ap accepted ((λ i. record { dispositions = sums .0 i; cents = sums .1 i; records = suc (length is) }) ∙ a .totals))
+        fitting-judged list room is (a .fits) ∙ right-judged is proper q ∙ rw (due, small) (ap accepted ((λ i. record { kind = kind-told is proper q due i; dispositions = sums .0 i; cents = sums .1 i; records = suc (length is) }) ∙ a .totals))

@@ -16,19 +16,23 @@ use Rattle.records.specs.Constants.{currency}
 use Rattle.records.specs.Context.{headerOf}
 use Rattle.records.specs.Field.{_to_, field}
 use Rattle.records.specs.RecordVerdict.{Hold}
+use Rattle.records.specs.FlowKinds.{orRequests}
 use Rattle.records.specs.Kinds.{heads, opened}
 use Rattle.records.specs.Limits.{mostCents, mostRecords}
+use Rattle.records.specs.declared.flow_kind.FlowKind.{FlowKind}
+use Rattle.records.specs.declared.flow_kind.FlowKind.the-variants.{Requests}
 use Rattle.records.specs.declared.kind.RecordKind.{RecordKind}
 use Rattle.records.specs.declared.kind.RecordKind.the-variants.{Im, Ef}
 use Rattle.flow.specs.Judge.{walkTotals, ended, judge}
 use Rattle.flow.specs.Order.{permitted, mayClose, placeDue}
-use Rattle.flow.specs.Records.{RightLength}
+use Rattle.flow.specs.ExactTotals.{kindOf}
+use Rattle.flow.specs.Records.{RightLength, recordsOf}
 use Rattle.flow.specs.Walking.{start}
 use Rattle.flow.specs.Verdict.{accepted, refused, refusal, ofCall}
 use Rattle.flow.specs.declared.answer.Totals.{Totals}
 use Rattle.flow.specs.declared.order.Due.the-variants.{OnlyIm}
 use Rattle.flow.specs.declared.walk.Walk.{Walk}
-use Rattle.flow.proofs.Accepted.{accepted-not-refused, accepted-same}
+use Rattle.flow.proofs.Accepted.{accepted-not-refused, accepted-same, accepted-exact}
 use Rattle.flow.proofs.Reading.{one-at-most}
 use Rattle.grammar.specs.Grammar.{Typed, recordsIn}
 use Rattle.grammar.specs.Rules.{Printable}
@@ -38,7 +42,7 @@ use Rattle.grammar.proofs.FirstFault.{judgeFrom, judged, ends-so}
 use Rattle.grammar.proofs.Order.{Allowed, header-only-first}
 use Rattle.grammar.proofs.Rules.{header-rules}
 use Rattle.grammar.proofs.Walked.{Walked, stateAfter, codeAfter, walked-append, walked-allowed, state-append}
-use Rattle.list.specs.Encode.{carriedAt, lastHeader, listDispositions, listCents, listTotals, encodeItem, encodeFrom, recordsFor, trailerFor, encode}
+use Rattle.list.specs.Encode.{carriedAt, HeaderMeant, noHeader, kindMeant, headerAfter, lastHeader, listDispositions, listCents, listTotals, encodeItem, encodeFrom, recordsFor, trailerFor, encode}
 use Rattle.list.specs.Items.{Item, recordKind, Proper, listBytes, Parsed, items, faulty, parse, itemsOr, itemsIn}
 use Rattle.list.specs.Laws.{Fitting, WrittenExact}
 use Rattle.list.specs.ReadBack.{listOf, Canonical}
@@ -48,8 +52,9 @@ use Rattle.list.specs.declared.table.ItemKind.{ItemKind}
 use Rattle.list.specs.declared.table.ItemKind.the-variants.{H}
 use Rattle.list.proofs.Carried.{inOne}
 use Rattle.list.proofs.OneRecord.{encoded-length, encoded-at}
-use Rattle.list.proofs.AllRecords.{records-differ, encode-records, encode-length, encode-items}
-use Rattle.list.proofs.Judging.{front, RightItems, FaultyItems, view-items, typed-count, right-judged, faulty-judged, kindsIn, right-kinds, right-sums, close-said, header-stays}
+use Rattle.list.proofs.AllRecords.{AllSuit, encode-records, encode-length, encode-items}
+use Rattle.list.proofs.Judging.{front, RightItems, FaultyItems, view-items, typed-count, right-judged, faulty-judged, kindsIn, right-kinds, right-sums, close-said, header-stays, right-kind-meant}
+use Rattle.list.proofs.ItemKinds.{heads-h, kind-stays}
 use Rattle.list.proofs.ListItems.{items-exact}
 use Rattle.list.proofs.Trailer.{Meant, Counted, trailer-right}
 
@@ -77,13 +82,13 @@ module _ (it : Item) (others : List Item) (proper : All Proper (it ∷ others)) 
   all = it ∷ others
 
   abbrev im : List ℕ
-  im = encodeItem (0 + opened (recordKind it)) [] it
+  im = encodeItem (0 + opened (recordKind it)) noHeader it
 
   abbrev after : Walk
   after = stateAfter start (r .typed)
 
   im-whole : length im ≡ 120
-  im-whole = encoded-length (0 + opened (recordKind it)) [] it (proper .0)
+  im-whole = encoded-length (0 + opened (recordKind it)) noHeader it (proper .0)
 
   first-of-front : take 120 (front all) ≡ im
   unfolding encodeFrom flatten
@@ -93,13 +98,31 @@ module _ (it : Item) (others : List Item) (proper : All Proper (it ∷ others)) 
   unfolding encodeFrom flatten
   first-of-all = take-at im _ 120 im-whole
 
-  -- the first item is the only H
+  -- the first item is the only H or Q
   kinds : (recordKind it ≡ Im) × All (λ (k : RecordKind). heads k ≡ false) (kindsIn others)
   kinds = header-only-first (recordKind it) (kindsIn others) (subst (Allowed (placeDue OnlyIm)) (sym (right-kinds all proper r)) (walked-allowed (headerOf (take 120 (front all))) start [] 0 (r .typed) (r .walked)))
 
-  pub header-meant : lastHeader [] all ≡ it .body
+  pub header-meant : lastHeader noHeader all .body ≡ it .body
   unfolding lastHeader
-  header-meant = ap (λ (k : RecordKind). lastHeader (cond (heads k) (it .body) []) others) (kinds .0) ∙ header-stays (it .body) others (kinds .1)
+  header-meant = ap (λ (h : HeaderMeant). h .body) (header-stays (headerAfter noHeader it) others (kinds .1)) ∙ ap (λ (k : RecordKind). cond (heads k) (it .body) []) (kinds .0)
+
+  -- it gives the kind, and all items suit it
+  first-head : heads (recordKind it) ≡ true
+  first-head = ap heads (kinds .0)
+
+  pub kind-meant : lastHeader noHeader all .kind ≡ kindMeant Requests (it .kind)
+  unfolding lastHeader
+  kind-meant = ap (λ (h : HeaderMeant). h .kind) (header-stays (headerAfter noHeader it) others (kinds .1))
+
+  pub all-suit : AllSuit (lastHeader noHeader all .kind) all
+  all-suit =
+      let q = lastHeader noHeader all .kind in
+      let own : it .kind ≡ H q = heads-h Requests (it .kind) first-head ∙ ap (λ (p : FlowKind). H p) (sym kind-meant) in
+      (ap (kindMeant q) own, rest others (kinds .1))
+    where
+      rest : (is : List Item) → All (λ (k : RecordKind). heads k ≡ false) (kindsIn is) → AllSuit (lastHeader noHeader all .kind) is
+      rest [] none = tt
+      rest (x ∷ is) none = (kind-stays (lastHeader noHeader all .kind) (x .kind) (none .0), rest is (none .1))
 
   -- its record is a right header
   first-right : (rs : List Typed) → recordsIn rs ≡ recordsFor all → FromStart (front all) rs → All Printable im × (field 114 114 im ≡ currency)
@@ -111,12 +134,12 @@ module _ (it : Item) (others : List Item) (proper : All Proper (it ∷ others)) 
       let keeps : Hold (checks Im (asks (headerOf (take 120 (front all))) start [] 1 Im) (t .bytes)) = subst (λ (k : RecordKind). Hold (checks k (asks (headerOf (take 120 (front all))) start [] 1 k) (t .bytes))) kind (walked .0 .keeps) in
       (subst (All Printable) bytes (walked .0 .formed .printable), ap (field 114 114) (sym bytes) ∙ header-rules (asks (headerOf (take 120 (front all))) start [] 1 Im) (t .bytes) .0 keeps .currency-code)
 
-  meant : Meant im (lastHeader [] all)
+  meant : Meant im (lastHeader noHeader all .body)
   meant =
-      let kind : it .kind ≡ H = records-differ (it .kind) H (kinds .0) in
+      let kind : it .kind ≡ H (kindMeant Requests (it .kind)) = heads-h Requests (it .kind) first-head in
       let first = first-right (r .typed) (r .same) (r .walked) in
-      let carries : (a e : ℕ) → inOne (carried H) a e ≡ true → field a e im ≡ carriedAt H (a to e) (it .body) = λ a e inside.
-      encoded-at (0 + opened (recordKind it)) [] it (proper .0) a e (subst (λ (k : ItemKind). inOne (carried k) a e ≡ true) (sym kind) inside) ∙ ap (λ (k : ItemKind). carriedAt k (a to e) (it .body)) kind in
+      let carries : (a e : ℕ) → inOne (carried (H Requests)) a e ≡ true → field a e im ≡ carriedAt (H Requests) (a to e) (it .body) = λ a e inside.
+      encoded-at (0 + opened (recordKind it)) noHeader it (proper .0) a e (subst (λ (k : ItemKind). inOne (carried k) a e ≡ true) (sym kind) inside) ∙ ap (λ (k : ItemKind). carriedAt k (a to e) (it .body)) kind in
       subst (Meant im) (sym header-meant) (record { sized = proper .0 .sized ∙ ap bodyLength kind; carries = carries; printable = first .0; code = first .1 })
 
   -- with EF after them they are a flow
@@ -127,10 +150,11 @@ module _ (it : Item) (others : List Item) (proper : All Proper (it ∷ others)) 
       let rs = r .typed ++ last in
       let same : recordsIn rs ≡ recordsFor all ++ (tr ∷ []) = map-append (λ (x : Typed). x .bytes) (r .typed) last ∙ ap (λ (l : List (List ℕ)). l ++ (tr ∷ [])) (r .same) in
       let sums = right-sums all proper r in
+      let kind = right-kind-meant it others proper r first-head (kinds .1) may in
       let count : length (r .typed) ≡ length all = typed-count all (r .typed) (r .same) in
       let ended-at : suc (0 + length (r .typed)) ≡ suc (length all) = omega arith in
       let counted : Counted (listTotals all) = record { dispositions = omega (arith, few-dispositions all); cents = omega arith; records = omega arith } in
-      let closing : RightAt (headerOf im) after (codeAfter [] (r .typed)) (suc (0 + length (r .typed))) Ef tr = trailer-right im (lastHeader [] all) meant (listTotals all) counted after (codeAfter [] (r .typed)) (suc (0 + length (r .typed))) (close-said (permitted (after .place .due)) may) (λ i. record { dispositions = sums .0 i; cents = sums .1 i; records = ended-at i }) in
+      let closing : RightAt (headerOf im) after (codeAfter [] (r .typed)) (suc (0 + length (r .typed))) Ef tr = trailer-right im (lastHeader noHeader all .body) meant (listTotals all) counted after (codeAfter [] (r .typed)) (suc (0 + length (r .typed))) (close-said (permitted (after .place .due)) may) (λ i. record { kind = kind i; dispositions = sums .0 i; cents = sums .1 i; records = ended-at i }) in
       let front-walked : Walked (headerOf im) start [] 0 (r .typed) = subst (λ (l : List ℕ). Walked (headerOf l) start [] 0 (r .typed)) first-of-front (r .walked) in
       let walked : FromStart (encode all) rs = subst (λ (l : List ℕ). Walked (headerOf l) start [] 0 rs) (sym first-of-all) (walked-append (headerOf im) start [] 0 (r .typed) last .1 (front-walked, (closing, tt))) in
       let size = encode-length all proper in
@@ -142,7 +166,7 @@ module _ (it : Item) (others : List Item) (proper : All Proper (it ∷ others)) 
       ∙ ap (judgeFrom (encode all)) (encode-records all proper ∙ sym same)
       ∙ ends-so ended (encode all) rs walked
       ∙ ap (λ (w : Walk). ended w (length rs)) (state-append start (r .typed) last)
-      ∙ (λ i. accepted (record { dispositions = dispositions i; cents = cents i; records = records i }))
+      ∙ (λ i. accepted (record { kind = kind i; dispositions = dispositions i; cents = cents i; records = records i }))
 
 -- a list of no items has none
 none-closes : (r : RightItems []) → mayClose (permitted (stateAfter start (r .typed) .place .due)) ≡ true → ⊥
@@ -152,6 +176,15 @@ none-closes r = by (r .typed) (r .same)
     by : (rs : List Typed) → recordsIn rs ≡ [] → mayClose (permitted (stateAfter start rs .place .due)) ≡ true → ⊥
     by [] same t = true≢false (sym t)
     by (t ∷ ts) same u = nil≢cons (sym same)
+
+-- of right items after which EF may follow: the kind is the one meant, and all suit it
+pub kind-told : (is : List Item) (proper : All Proper is) (r : RightItems is) → mayClose (permitted (stateAfter start (r .typed) .place .due)) ≡ true → orRequests (stateAfter start (r .typed) .kind) ≡ lastHeader noHeader is .kind
+kind-told [] proper r may = absurd (none-closes r may)
+kind-told (it ∷ is) proper r may = right-kind-meant it is proper r (first-head it is proper r) (kinds it is proper r .1) may
+
+suit-so : (is : List Item) (proper : All Proper is) (r : RightItems is) → mayClose (permitted (stateAfter start (r .typed) .place .due)) ≡ true → AllSuit (lastHeader noHeader is .kind) is
+suit-so [] proper r may = tt
+suit-so (it ∷ is) proper r may = all-suit it is proper r
 
 accepted-encoding :
     (is : List Item) (proper : All Proper is) (r : RightItems is) → mayClose (permitted (stateAfter start (r .typed) .place .due)) ≡ true → suc (length is) ≤ mostRecords → listCents is ≤ mostCents
@@ -192,7 +225,8 @@ accepted-items is proper t e = by (view-items is proper)
     by (inl r) =
         let so = closed-so (stateAfter start (r .typed)) (length is) (sym (right-judged is proper r) ∙ e) in
         let sums = right-sums is proper r in
-        record { right = r; may = so .0; small = omega (arith, sums .1, so .1); told = (λ i. record { dispositions = sym (sums .0) i; cents = sym (sums .1) i; records = suc (length is) }) ∙ so .2 }
+        let kind = kind-told is proper r (so .0) in
+        record { right = r; may = so .0; small = omega (arith, sums .1, so .1); told = (λ i. record { kind = sym kind i; dispositions = sym (sums .0) i; cents = sym (sums .1) i; records = suc (length is) }) ∙ so .2 }
     by (inr f) = absurd (accepted-not-refused (sym (faulty-judged is proper f) ∙ e))
 
 pub written-exact : WrittenExact
@@ -207,10 +241,12 @@ written-exact list room t e =
     let records = ap (λ (u : Totals). u .records) (so .told) in
     let size = encode-length is proper in
     let same : itemsIn list ≡ is = ap itemsOr (a .fits .said) in
+    let read = accepted-encoding is proper (so .right) (so .may) few (so .small) in
+    let suit : AllSuit (kindOf (recordsOf (encode is))) is = subst (λ (q : FlowKind). AllSuit q is) (accepted-exact (encode is) (listTotals is) read .3) (suit-so is proper (so .right) (so .may)) in
     subst (λ (l : List Item). (judge (encode l) ≡ accepted t) × (listOf (encode l) ≡ list) × Canonical (encode l) × (length (encode l) ≡ 120 * t .records) × (length (encode l) ≤ room)) (sym same) (
-      accepted-encoding is proper (so .right) (so .may) few (so .small) ∙ ap accepted (so .told),
-      ap listBytes (encode-items is proper) ∙ exact .0,
-      ap encode (encode-items is proper),
+      read ∙ ap accepted (so .told),
+      ap listBytes (encode-items is proper suit) ∙ exact .0,
+      ap encode (encode-items is proper suit),
       omega arith,
       omega arith,
     )

@@ -4,8 +4,10 @@ use Prim.Native.String.{String}
 use mathlib.Core.List.{List, [], _∷_, _++_, map}
 use mathlib.Core.Path.{_≡_}
 use lib.ListN.{length}
+use Rattle.sequences.specs.Part.{put}
 use Rattle.sequences.specs.Text.{text}
-use Rattle.flow.specs.Examples.{flowOf, trailerEf, twoRents, twoRentTotals}
+use Rattle.records.specs.Field.{field}
+use Rattle.flow.specs.Examples.{flowOf, headerIm, trailerEf, twoRents, twoRentTotals, twoRecalls, twoRecallTotals}
 use Rattle.flow.specs.Verdict.{accepted, refused, refusal, ofCall}
 use Rattle.list.specs.Encode.{trailerFor, encode}
 use Rattle.list.specs.Items.{itemsIn}
@@ -42,12 +44,16 @@ secondItems =
 abbrev pub twoRentList : List ℕ
 twoRentList = flowOf (headerItem ++ (firstItems ++ secondItems))
 
+-- the same with Q for H
+abbrev pub twoRecallList : List ℕ
+twoRecallList = put 0 (text "Q") twoRentList
+
 abbrev pub oneRentList : List ℕ
 oneRentList = flowOf (headerItem ++ firstItems)
 
 pub record ListExamples : Type 0 where
   -- the table's last column
-  pub bodies : map bodyLength rows ≡ 49 ∷ 58 ∷ 27 ∷ 96 ∷ 76 ∷ 110 ∷ 110 ∷ 110 ∷ 110 ∷ 26 ∷ []
+  pub bodies : map bodyLength rows ≡ 49 ∷ 49 ∷ 58 ∷ 27 ∷ 96 ∷ 76 ∷ 110 ∷ 110 ∷ 110 ∷ 110 ∷ 26 ∷ []
   -- document 01, example 1: this EF is what the list encodes; and so is the whole flow
   pub trailer : trailerFor (itemsIn twoRentList) ≡ text trailerEf
   pub two-rents : encode (itemsIn twoRentList) ≡ twoRents
@@ -66,7 +72,7 @@ pub record ListExamples : Type 0 where
   pub no-header : judgeList (flowOf firstItems) 960 ≡ refused (refusal 3 1 2)
   pub second-header : judgeList (flowOf (headerItem ++ headerItem)) 360 ≡ refused (refusal 3 2 2)
   -- an unknown kind, and a body cut short, are looked for first
-  pub unknown : judgeList (text "Q") 0 ≡ refused (refusal 20 1 0)
+  pub unknown : judgeList (text "E") 0 ≡ refused (refusal 20 1 0)
   pub cut-short : judgeList (flowOf (firstItems ++ ("Z" ∷ []))) 0 ≡ refused (refusal 20 8 0)
   -- read back
   pub read-back : listOf twoRents ≡ twoRentList
@@ -74,3 +80,12 @@ pub record ListExamples : Type 0 where
   pub room : judgeRoom twoRents 1236 ≡ accepted twoRentTotals
   pub no-room : judgeRoom twoRents 1235 ≡ refused (ofCall 21)
   pub refused-first : judgeRoom [] 0 ≡ refused (ofCall 1)
+  -- document 02, E1: the two-rent list with Q for H encodes the recall of both rents, which is accepted as recalls and gives the list back
+  pub recall-trailer : (field 53 67 (trailerFor (itemsIn twoRecallList)) ≡ text "000000000000000") × (field 68 82 (trailerFor (itemsIn twoRecallList)) ≡ text "000000000083050")
+  pub two-recalls : encode (itemsIn twoRecallList) ≡ twoRecalls
+  pub recalls-written : judgeList twoRecallList 1920 ≡ accepted twoRecallTotals
+  pub recalls-read-back : listOf twoRecalls ≡ twoRecallList
+  pub recalls-canonical : Canonical twoRecalls
+  -- the other kind's header in the midst of a list is a second header; and bytes without a 14 have an H
+  pub other-header : judgeList (twoRentList ++ twoRecallList) 3840 ≡ refused (refusal 3 16 2)
+  pub no-14 : listOf (flowOf (headerIm ∷ [])) ≡ flowOf headerItem

@@ -6,23 +6,39 @@ use Prim.Native.String.{String}
 use mathlib.Core.List.{List, [], _∷_, map}
 use mathlib.Core.Path.{_≡_}
 use Rattle.sequences.specs.Text.{text}
-use Rattle.list.specs.Encode.{encodeItem, encodeTrailer}
+use Rattle.records.specs.declared.flow_kind.FlowKind.{FlowKind}
+use Rattle.records.specs.declared.flow_kind.FlowKind.the-variants.{Requests, Recalls}
+use Rattle.list.specs.Encode.{HeaderMeant, encodeItem, encodeTrailer}
 use Rattle.list.specs.Items.{listBytes, itemsIn}
 use Rattle.list.specs.ReadBack.{itemOf}
 
--- the body of the header meant, which is not that of the header's own example
+-- the header meant, by its body, which is not that of the header's own example, and its kind of flow
 abbrev pub headerBody : List ℕ
 headerBody = text "TUVWXYZ[]^_`abcdefghijklmnopqrstuvwxyz{|}~!#$%&'("
 
--- an item encodes the record, with number 1234567, and is what the record gives back
+abbrev pub headerOf : FlowKind → HeaderMeant
+headerOf q = record { kind = q; body = headerBody }
+
+-- in a flow of the kind an item encodes the record, with number 1234567, and is what the record gives back
+abbrev pub CarriesIn : FlowKind → String → String → Type 0
+CarriesIn q it rec = (map (encodeItem 1234567 (headerOf q)) (itemsIn (text it)) ≡ text rec ∷ []) × (listBytes (itemOf q (text rec)) ≡ text it)
+
 abbrev pub Carries : String → String → Type 0
-Carries it rec = (map (encodeItem 1234567 headerBody) (itemsIn (text it)) ≡ text rec ∷ []) × (listBytes (itemOf (text rec)) ≡ text it)
+Carries = CarriesIn Requests
 
 pub record ItemExamples : Type 0 where
   pub header :
       Carries
       "H!#$%&'()*+,-./0123456789:;<=>?@ABCDEFGHIJKLMNOPQR"
       " IM!#$%&'()*+,-./0123456789:;<=>?@ABCDEFGHIJK                                                           LMNOPQR  E      "
+  pub recall-header :
+      CarriesIn Recalls
+      "Q!#$%&'()*+,-./0123456789:;<=>?@ABCDEFGHIJKLMNOPQR"
+      " IM!#$%&'()*+,-./0123456789:;<=>?@ABCDEFGHIJK                                                           LMNOPQR  E      "
+  pub recall :
+      CarriesIn Recalls
+      "D)*+,-./0123456789:;<=>?@ABCDEFGHIJKLMNOPQRSTUVWXYZ[]^_`abc"
+      " 141234567            )*+,-.07100/0123456789:;+YZ[]^<=>?@ABCDEFGHIJKL                      MNOPQRSTUVWXYZ[]^_`abc      E"
   pub disposition :
       Carries
       "D)*+,-./0123456789:;<=>?@ABCDEFGHIJKLMNOPQRSTUVWXYZ[]^_`abc"
@@ -61,5 +77,8 @@ pub record ItemExamples : Type 0 where
       " 701234567                                                                                   b cdefghijklmnopqrstuvwxyz{"
   -- EF copies 4-45 of the header, of which 40-45 are not compared
   pub trailer :
-      encodeTrailer headerBody (record { dispositions = 1234567; cents = 123456789012345; records = 7654321 })
+      encodeTrailer headerBody (record { kind = Requests; dispositions = 1234567; cents = 123456789012345; records = 7654321 })
       ≡ text " EFTUVWXYZ[]^_`abcdefghijklmnopqrstuvwxyz{|}~12345671234567890123450000000000000007654321                        E      "
+  pub recall-trailer :
+      encodeTrailer headerBody (record { kind = Recalls; dispositions = 1234567; cents = 123456789012345; records = 7654321 })
+      ≡ text " EFTUVWXYZ[]^_`abcdefghijklmnopqrstuvwxyz{|}~12345670000000000000001234567890123457654321                        E      "

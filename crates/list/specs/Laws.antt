@@ -11,6 +11,7 @@ use Rattle.records.specs.Checked.{checked, Alike}
 use Rattle.records.specs.Field.{field}
 use Rattle.records.specs.Kinds.{typeOf}
 use Rattle.records.specs.Limits.{mostCents, mostRecords}
+use Rattle.records.specs.declared.flow_kind.FlowKind.{FlowKind}
 use Rattle.records.specs.declared.kind.RecordKind.{RecordKind}
 use Rattle.records.specs.declared.kind.RecordKind.the-variants.{Ef}
 use Rattle.flow.specs.Judge.{judge}
@@ -97,6 +98,10 @@ WriteAccepted = (list : List ℕ) (room : ℕ) (t : Totals) → (judgeList list 
 abbrev pub NumbersSupplied : Type 0
 NumbersSupplied = (list : List ℕ) (room r p : ℕ) → ¬ (judgeList list room ≡ refused (refusal 9 r p))
 
+-- nor by 22: the writer itself gives each record 14 the causale of the header meant, and a flow has one header
+abbrev pub KindsSupplied : Type 0
+KindsSupplied = (list : List ℕ) (room r p : ℕ) → ¬ (judgeList list room ≡ refused (refusal 22 r p))
+
 -- what is judged is what is answered
 abbrev pub WriteAnswers : Type 0
 WriteAnswers = (list out : List ℕ) → write list out .answer ≡ judgeList list (length out)
@@ -118,12 +123,12 @@ WrittenExact =
     (list : List ℕ) (room : ℕ) (t : Totals) → judgeList list room ≡ accepted t → let flow = encode (itemsIn list) in
     (judge flow ≡ accepted t) × (listOf flow ≡ list) × Canonical flow × (length flow ≡ 120 * t .records) × (length flow ≤ room)
 
--- an accepted flow's own list has one item for each record but EF: its kind, then its carried bytes as they stand
-abbrev pub OwnItem : List ℕ → Item → Type 0
-OwnItem rec it = (rowIn rec ≡ Of (it .kind)) × (it .body ≡ gather (carried (it .kind)) rec)
+-- an accepted flow's own list has one item for each record but EF: its kind, by the flow's, then its carried bytes as they stand
+abbrev pub OwnItem : FlowKind → List ℕ → Item → Type 0
+OwnItem q rec it = (rowIn q rec ≡ Of (it .kind)) × (it .body ≡ gather (carried (it .kind)) rec)
 
 abbrev pub OwnList : Type 0
-OwnList = (f : List ℕ) (t : Totals) → judge f ≡ accepted t → Pairs OwnItem (dropLast (recordsOf f)) (itemsOf f)
+OwnList = (f : List ℕ) (t : Totals) → judge f ≡ accepted t → Pairs (OwnItem (t .kind)) (dropLast (recordsOf f)) (itemsOf f)
 
 -- and says these items
 abbrev pub OwnItems : Type 0

@@ -4,6 +4,8 @@ use mathlib.Core.List.{List, [], _∷_, map, flatten}
 use mathlib.Core.Path.{_≡_}
 use lib.ListN.{length}
 use Rattle.records.specs.Field.{Span, fieldAt}
+use Rattle.records.specs.declared.flow_kind.FlowKind.{FlowKind}
+use Rattle.flow.specs.ExactTotals.{kindOf}
 use Rattle.flow.specs.Judge.{judge}
 use Rattle.flow.specs.Output.{Output, output, withRoom}
 use Rattle.flow.specs.Records.{recordsOf}
@@ -19,17 +21,17 @@ use Rattle.list.specs.declared.table.Row.{Row}
 abbrev pub gather : List Span → List ℕ → List ℕ
 gather ss rec = flatten (map (λ (s : Span). fieldAt s rec) ss)
 
--- the item of a record: its kind, then its carried bytes as they stand; a record that the table does not have gives none
-abbrev pub itemOf : List ℕ → List Item
-itemOf rec = withRow (rowIn rec) (λ (k : ItemKind). item k (gather (carried k) rec) ∷ []) []
+-- the item of a record of a flow of the kind: its kind, then its carried bytes as they stand; a record that the table does not have gives none
+abbrev pub itemOf : FlowKind → List ℕ → List Item
+itemOf q rec = withRow (rowIn q rec) (λ (k : ItemKind). item k (gather (carried k) rec) ∷ []) []
 
 -- for the contracts of private functions: the length of the item of a record of the row
 abbrev pub itemLength : Row → ℕ
 itemLength row = withRow row (λ (k : ItemKind). suc (bodyLength k)) 0
 
--- a flow's own list, as items and as bytes
+-- a flow's own list, as items and as bytes: that of a flow of recalls opens with Q, and that of bytes without a 14 with H
 abbrev pub itemsOf : List ℕ → List Item
-itemsOf f = flatten (map itemOf (recordsOf f))
+itemsOf f = flatten (map (itemOf (kindOf (recordsOf f))) (recordsOf f))
 
 abbrev pub listOf : List ℕ → List ℕ
 listOf f = listBytes (itemsOf f)

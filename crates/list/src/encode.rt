@@ -5,7 +5,7 @@ ghost use mathlib.Core.Path.{_≡_};
 ghost use lib.ListN.{length};
 ghost use Rattle.sequences.specs.Part.{put};
 ghost use Rattle.records.specs.Kinds.{typeOf, role};
-ghost use Rattle.list.specs.Encode.{fill, supplied, bodyPlaced, encodeItem, encodeTrailer, trailerPlaced};
+ghost use Rattle.list.specs.Encode.{fill, supplied, bodyPlaced, encodeItem, encodeTrailer, totalsPlaced, trailerPlaced};
 ghost use Rattle.list.specs.Encode.{place as Encode·place};
 ghost use Rattle.list.specs.Items.{item};
 ghost use Rattle.list.specs.Table.{recordOf, bodyLength};
@@ -15,52 +15,63 @@ use crate::table::carried;
 use crate::table::record_of;
 use crate::table::width;
 use flow::Totals;
-use records::CAUSALE;
 use records::CURRENCY;
+use records::FlowKind;
 use records::RecordKind;
-use records::SIGN;
 use records::field;
+use records::total_at;
 use records::write_number;
 
-// The record of an item with the number; `header` is the body of the latest H before it, or empty.
-pub(crate) fn encode_item(kind: ItemKind, number: u64, header: &[u8], body: &[u8]) -> [u8; 120]
+// The record of an item with the number; `flow` and `header` are the kind and the body of the latest H
+// or Q before it, or requests and empty.
+pub(crate) fn encode_item(
+    kind: ItemKind,
+    number: u64,
+    flow: FlowKind,
+    header: &[u8],
+    body: &[u8],
+) -> [u8; 120]
     requires { ⌜ length (now body) ≡ bodyLength kind ⌝ }
-    ensures { λ r. ⌜ r ≡ encodeItem number (now (header .entry)) (item kind (now (body .entry))) ⌝ }
+    ensures { λ r. ⌜ r ≡ encodeItem number
+        (record { kind = flow; body = now (header .entry) })
+        (item kind (now (body .entry))) ⌝ }
 {
     let mut rec = [b' '; 120];
-    // 9-13 of the header, as its H carries them.
-    fill_item(&mut rec, kind, number, field(header, 6, 10), body);
+    // 9-13 of the header, as its item carries them.
+    fill_item(&mut rec, kind, number, flow, field(header, 6, 10), body);
     rec
 }
 
 // Its type, what is supplied, and the carried bytes.
-fn fill_item(rec: &mut [u8], kind: ItemKind, number: u64, abi: &[u8], body: &[u8])
+fn fill_item(rec: &mut [u8], kind: ItemKind, number: u64, flow: FlowKind, abi: &[u8], body: &[u8])
     requires { ⌜ length (now rec) ≡ 120 ⌝ }
     requires { ⌜ length (now abi) ≤ 5 ⌝ }
     requires { ⌜ length (now body) ≡ bodyLength kind ⌝ }
     ensures { λ _. ⌜ now (rec .exit) ≡ fill
-        (Encode·place 2 (typeOf (recordOf kind)) ∷ (supplied (role (recordOf kind)) number (now (abi .entry)) ++ bodyPlaced (Table·carried kind) (now (body .entry))))
+        (Encode·place 2 (typeOf (recordOf kind)) ∷ (supplied (role (recordOf kind)) flow number (now (abi .entry)) ++ bodyPlaced (Table·carried kind) (now (body .entry))))
         (now (rec .entry)) ⌝ }
 {
     let own = record_of(kind);
     let code = records::type_of(own);
     place(rec, 2, &code);
-    supply(rec, own, number, abi);
+    supply(rec, own, number, flow, abi);
     place_body(rec, kind, body);
 }
 
-// The number, the fixed values and the ABI, to a record of the kind.
-fn supply(rec: &mut [u8], kind: RecordKind, number: u64, abi: &[u8])
+// The number, the fixed values, those of the kind of flow and the ABI, to a record of the kind.
+fn supply(rec: &mut [u8], kind: RecordKind, number: u64, flow: FlowKind, abi: &[u8])
     requires { ⌜ length (now rec) ≡ 120 ⌝ }
     requires { ⌜ length (now abi) ≤ 5 ⌝ }
-    ensures { λ _. ⌜ now (rec .exit) ≡ fill (supplied (role kind) number (now (abi .entry))) (now (rec .entry)) ⌝ }
+    ensures { λ _. ⌜ now (rec .exit) ≡ fill (supplied (role kind) flow number (now (abi .entry))) (now (rec .entry)) ⌝ }
 {
     match kind {
         RecordKind::Im => place(rec, 114, &CURRENCY),
         RecordKind::R14 => {
             write_number(rec, 4, 10, number);
-            place(rec, 29, &CAUSALE);
-            place(rec, 47, &SIGN);
+            let causale = records::causale_of(flow);
+            place(rec, 29, &causale);
+            let sign = records::sign_of(flow);
+            place(rec, 47, &sign);
             place(rec, 48, abi);
             place(rec, 120, &CURRENCY);
         }
@@ -94,12 +105,12 @@ fn place_body(rec: &mut [u8], kind: ItemKind, body: &[u8])
     }
 }
 
-// EF: `header` is the body of the latest H, or empty.
+// EF: `header` is the body of the latest H or Q, or empty.
 pub(crate) fn encode_trailer(header: &[u8], totals: Totals) -> [u8; 120]
     ensures { λ r. ⌜ r ≡ encodeTrailer (now (header .entry)) totals ⌝ }
 {
     let mut rec = [b' '; 120];
-    // 4-45 of the header, as its H carries them.
+    // 4-45 of the header, as its item carries them.
     fill_trailer(&mut rec, field(header, 1, 42), totals);
     rec
 }
@@ -112,11 +123,20 @@ fn fill_trailer(rec: &mut [u8], copied: &[u8], totals: Totals)
     let code = records::type_of(RecordKind::Ef);
     place(rec, 2, &code);
     place(rec, 4, copied);
-    write_number(rec, 46, 52, totals.dispositions);
-    write_number(rec, 53, 67, totals.cents);
-    write_number(rec, 68, 82, 0);
-    write_number(rec, 83, 89, totals.records);
+    write_totals(rec, totals);
     place(rec, 114, &CURRENCY);
+}
+
+// The counts of EF, and the sum at the place of its kind; zeros at the other.
+fn write_totals(rec: &mut [u8], totals: Totals)
+    requires { ⌜ length (now rec) ≡ 120 ⌝ }
+    ensures { λ _. ⌜ now (rec .exit) ≡ fill (totalsPlaced totals) (now (rec .entry)) ⌝ }
+{
+    let kind = totals.kind;
+    write_number(rec, 46, 52, totals.dispositions);
+    write_number(rec, 53, 67, total_at(kind, 53, totals.cents));
+    write_number(rec, 68, 82, total_at(kind, 68, totals.cents));
+    write_number(rec, 83, 89, totals.records);
 }
 
 // Puts the bytes in a record, or in a flow, from a position on.

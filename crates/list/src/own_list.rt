@@ -3,7 +3,8 @@ ghost use Prim.Native.Nat.{_+_, _≤_};
 ghost use mathlib.Core.Path.{_≡_};
 ghost use lib.ListN.{length};
 ghost use Rattle.sequences.specs.Part.{put};
-ghost use Rattle.flow.specs.Records.{mostBytes};
+ghost use Rattle.flow.specs.ExactTotals.{kindOf};
+ghost use Rattle.flow.specs.Records.{mostBytes, recordsOf};
 ghost use Rattle.list.specs.Items.{listBytes};
 ghost use Rattle.list.specs.Output.{filledOutput};
 ghost use Rattle.list.specs.ReadBack.{gather, itemOf, itemLength, listOf, readBack};
@@ -19,6 +20,7 @@ use crate::table::row_in;
 use crate::table::width;
 use flow::Answer;
 use flow::NO_ROOM;
+use records::FlowKind;
 use records::field;
 
 // Writes the flow's list at the front of out, and answers the flow's totals and the list's length.
@@ -29,25 +31,27 @@ pub fn read_back(flow: &[u8], out: &mut [u8]) -> Filled
     match flow::read(flow) {
         Answer::Refused(refusal) => Filled::refused(refusal),
         Answer::Accepted(totals) => {
-            let length = list_length(flow);
+            let kind = totals.kind;
+            let length = list_length(flow, kind);
             if out.len() < length {
                 return Filled::refused(flow::refusal_of_call(NO_ROOM));
             }
-            store_list(flow, out);
+            store_list(flow, out, kind);
             Filled::accepted(totals, flow::as_count(length))
         }
     }
 }
 
 // The length of the flow's list.
-fn list_length(flow: &[u8]) -> usize
+fn list_length(flow: &[u8], kind: FlowKind) -> usize
     requires { ⌜ length (now flow) ≤ mostBytes ⌝ }
+    requires { ⌜ kind ≡ kindOf (recordsOf (now flow)) ⌝ }
     ensures { λ r. ⌜ r ≡ length (listOf (now (flow .entry))) ⌝ }
 {
     let mut length = 0;
     let mut i = 0;
     while i < flow.len() / 120 {
-        length += item_length(row_in(&flow[120 * i..120 * i + 120]));
+        length += item_length(row_in(&flow[120 * i..120 * i + 120], kind));
         i += 1;
     }
     length
@@ -64,27 +68,28 @@ fn item_length(row: Row) -> usize
 }
 
 // Each record's item in turn at the front of out.
-fn store_list(flow: &[u8], out: &mut [u8])
+fn store_list(flow: &[u8], out: &mut [u8], kind: FlowKind)
+    requires { ⌜ kind ≡ kindOf (recordsOf (now flow)) ⌝ }
     requires { ⌜ length (listOf (now flow)) ≤ length (now out) ⌝ }
     ensures { λ _. ⌜ now (out .exit) ≡ put 0 (listOf (now (flow .entry))) (now (out .entry)) ⌝ }
 {
     let mut at = 0;
     let mut i = 0;
     while i < flow.len() / 120 {
-        at = store_item(&flow[120 * i..120 * i + 120], out, at);
+        at = store_item(&flow[120 * i..120 * i + 120], kind, out, at);
         i += 1;
     }
 }
 
-// The item of a record at an index of out, and where it ends; nothing where the table does not have
-// the record.
-fn store_item(rec: &[u8], out: &mut [u8], at: usize) -> usize
+// The item of a record of a flow of the kind at an index of out, and where it ends; nothing where the
+// table does not have the record.
+fn store_item(rec: &[u8], flow: FlowKind, out: &mut [u8], at: usize) -> usize
     requires { ⌜ length (now rec) ≡ 120 ⌝ }
-    requires { ⌜ at + itemLength (rowIn (now rec)) ≤ length (now out) ⌝ }
-    ensures { λ r. ⌜ r ≡ at + itemLength (rowIn (now (rec .entry))) ⌝ }
-    ensures { λ _. ⌜ now (out .exit) ≡ put at (listBytes (itemOf (now (rec .entry)))) (now (out .entry)) ⌝ }
+    requires { ⌜ at + itemLength (rowIn flow (now rec)) ≤ length (now out) ⌝ }
+    ensures { λ r. ⌜ r ≡ at + itemLength (rowIn flow (now (rec .entry))) ⌝ }
+    ensures { λ _. ⌜ now (out .exit) ≡ put at (listBytes (itemOf flow (now (rec .entry)))) (now (out .entry)) ⌝ }
 {
-    let Row::Of(kind) = row_in(rec) else {
+    let Row::Of(kind) = row_in(rec, flow) else {
         return at;
     };
     out[at] = letter(kind);

@@ -1,18 +1,20 @@
-// Document 01's table of kinds: for each kind of item its kind byte, its record, its carried positions
-// and the length of its body.
+// Document 01's table of kinds, with the Q of document 02, E1: for each kind of item its kind byte, its
+// record, its carried positions and the length of its body.
 ghost use Prim.Native.Nat.{_-_, _≤_};
 ghost use mathlib.Core.Path.{_≡_};
 ghost use lib.ListN.{getD};
 ghost use Rattle.records.specs.Field.{_to_, width as Field·width};
-ghost use Rattle.list.specs.Table.{rows, recordOf, bodyLength, boundsOf, rowOf, rowIn, KindByte};
+ghost use Rattle.list.specs.Table.{rowsOf, headerLetter, recordOf, bodyLength, boundsOf, rowOf, rowIn, KindByte};
 ghost use Rattle.list.specs.Table.{letter as Table·letter};
 ghost use Rattle.list.specs.declared.table.ItemKind.the-variants.{Z};
 ghost use Rattle.list.specs.declared.table.Row.the-variants.{Of};
+use records::FlowKind;
 use records::RecordKind;
 
-// The kinds of item, by their kind bytes.
+// The kinds of item, by their kind bytes. The header's item tells the kind of flow: H is one of
+// requests, Q one of recalls.
 pub(crate) enum ItemKind {
-    H,
+    H(FlowKind),
     D,
     S,
     C,
@@ -35,7 +37,7 @@ pub(crate) fn letter(kind: ItemKind) -> u8
     ensures { λ r. ⌜ r ≡ Table·letter kind ⌝ }
 {
     match kind {
-        ItemKind::H => b'H',
+        ItemKind::H(flow) => header_letter(flow),
         ItemKind::D => b'D',
         ItemKind::S => b'S',
         ItemKind::C => b'C',
@@ -48,12 +50,22 @@ pub(crate) fn letter(kind: ItemKind) -> u8
     }
 }
 
+// That of the header's item.
+fn header_letter(flow: FlowKind) -> u8
+    ensures { λ r. ⌜ r ≡ headerLetter flow ⌝ }
+{
+    match flow {
+        FlowKind::Requests => b'H',
+        FlowKind::Recalls => b'Q',
+    }
+}
+
 // The record that an item of the kind encodes.
 pub(crate) fn record_of(kind: ItemKind) -> RecordKind
     ensures { λ r. ⌜ r ≡ recordOf kind ⌝ }
 {
     match kind {
-        ItemKind::H => RecordKind::Im,
+        ItemKind::H(_) => RecordKind::Im,
         ItemKind::D => RecordKind::R14,
         ItemKind::S => RecordKind::R16,
         ItemKind::C => RecordKind::R20,
@@ -72,7 +84,7 @@ pub(crate) fn carried(kind: ItemKind) -> [usize; 8]
     ensures { λ r. ⌜ r ≡ boundsOf kind ⌝ }
 {
     match kind {
-        ItemKind::H => [4, 45, 105, 111, 1, 0, 1, 0],
+        ItemKind::H(_) => [4, 45, 105, 111, 1, 0, 1, 0],
         ItemKind::D => [23, 28, 34, 46, 53, 69, 92, 113],
         ItemKind::S => [11, 37, 1, 0, 1, 0, 1, 0],
         ItemKind::C => [11, 106, 1, 0, 1, 0, 1, 0],
@@ -99,7 +111,7 @@ pub(crate) fn body_length(kind: ItemKind) -> usize
     ensures { λ r. ⌜ r ≡ bodyLength kind ⌝ }
 {
     match kind {
-        ItemKind::H => 49,
+        ItemKind::H(_) => 49,
         ItemKind::D => 58,
         ItemKind::S => 27,
         ItemKind::C => 96,
@@ -116,9 +128,12 @@ pub(crate) fn body_length(kind: ItemKind) -> usize
 pub(crate) fn row_of(byte: u8) -> Row
     ensures { λ r. ⌜ r ≡ rowOf byte ⌝ }
 {
+    if byte == header_letter(FlowKind::Recalls) {
+        return Row::Of(ItemKind::H(FlowKind::Recalls));
+    }
     let mut i = 0;
     while i < ROWS {
-        let kind = kind_at(i);
+        let kind = kind_at(i, FlowKind::Requests);
         if byte == letter(kind) {
             return Row::Of(kind);
         }
@@ -139,13 +154,13 @@ pub(crate) fn kind_of(byte: u8) -> ItemKind
     }
 }
 
-// The row of a record, by its type.
-pub(crate) fn row_in(rec: &[u8]) -> Row
-    ensures { λ r. ⌜ r ≡ rowIn (now (rec .entry)) ⌝ }
+// The row of a record of a flow of the kind, by its type.
+pub(crate) fn row_in(rec: &[u8], flow: FlowKind) -> Row
+    ensures { λ r. ⌜ r ≡ rowIn flow (now (rec .entry)) ⌝ }
 {
     let mut i = 0;
     while i < ROWS {
-        let kind = kind_at(i);
+        let kind = kind_at(i, flow);
         if records::has_type(rec, record_of(kind)) {
             return Row::Of(kind);
         }
@@ -156,12 +171,12 @@ pub(crate) fn row_in(rec: &[u8]) -> Row
 
 const ROWS: usize = 10;
 
-// The kinds in the table's order; Z is the last.
-fn kind_at(i: usize) -> ItemKind
-    ensures { λ r. ⌜ r ≡ getD rows i Z ⌝ }
+// The kinds of a flow of the kind, in the table's order; Z is the last.
+fn kind_at(i: usize, flow: FlowKind) -> ItemKind
+    ensures { λ r. ⌜ r ≡ getD (rowsOf flow) i Z ⌝ }
 {
     match i {
-        0 => ItemKind::H,
+        0 => ItemKind::H(flow),
         1 => ItemKind::D,
         2 => ItemKind::S,
         3 => ItemKind::C,

@@ -11,7 +11,7 @@ ghost use Rattle.records.specs.Limits.{countLimit, mostRecords};
 ghost use Rattle.flow.specs.Judge.{walkFrom};
 ghost use Rattle.flow.specs.Walking.{start};
 ghost use Rattle.flow.specs.Verdict.{answerVerdict};
-ghost use Rattle.list.specs.Encode.{listTotals, recordsFor, encode};
+ghost use Rattle.list.specs.Encode.{listTotals, recordsFor, encode, kindMeant};
 ghost use Rattle.list.specs.Items.{itemsIn, Listed};
 ghost use Rattle.list.specs.Output.{filledOutput};
 ghost use Rattle.list.specs.Table.{recordOf};
@@ -36,6 +36,7 @@ use flow::TOTAL_TOO_LARGE;
 use flow::Totals;
 use flow::WRONG_TYPE;
 use flow::Walk;
+use records::FlowKind;
 use records::Judged;
 use records::MOST_CENTS;
 use records::WRONG_LENGTH;
@@ -92,7 +93,13 @@ fn first_record(list: &[u8]) -> [u8; 120]
 {
     let kind = kind_of(list[0]);
     let body = &list[1..1 + body_length(kind)];
-    encode_item(kind, dispositions_with(0, kind), &list[0..0], body)
+    encode_item(
+        kind,
+        dispositions_with(0, kind),
+        FlowKind::Requests,
+        &list[0..0],
+        body,
+    )
 }
 
 // Each record in turn, built and judged, with the flow's header.
@@ -104,6 +111,7 @@ fn judge_records(list: &[u8], im: &[u8]) -> Answer
 {
     let mut walk = Walk::start();
     let mut company = &list[0..0];
+    let mut meant = FlowKind::Requests;
     let mut header = &list[0..0];
     let mut dispositions: u64 = 0;
     let mut n: u64 = 0;
@@ -113,7 +121,7 @@ fn judge_records(list: &[u8], im: &[u8]) -> Answer
         let end = at + 1 + body_length(kind);
         let body = &list[at + 1..end];
         dispositions = dispositions_with(dispositions, kind);
-        let rec = encode_item(kind, dispositions, header, body);
+        let rec = encode_item(kind, dispositions, meant, header, body);
         n += 1;
         match walk.judge(&rec, n, im, company) {
             Judged::Refused(number, position) => {
@@ -127,11 +135,12 @@ fn judge_records(list: &[u8], im: &[u8]) -> Answer
                 // 92-96 of a 14, as its D carries them: the record itself does not outlive this turn.
                 let latest = flow::latest_company(company, field(body, 37, 41), record_of(kind));
                 company = latest;
-                walk = walk.next(right);
+                walk = walk.next(right, &rec);
             }
         }
-        let meant = header_after(header, body, kind);
-        header = meant;
+        meant = kind_meant(meant, kind);
+        let latest_header = body_meant(header, body, kind);
+        header = latest_header;
         at = end;
     }
     close(walk, n)
@@ -148,8 +157,26 @@ fn dispositions_with(dispositions: u64, kind: ItemKind) -> u64
     dispositions
 }
 
-// The body of the header meant by what comes after an item: its own where it is an H.
-fn header_after<'a>(header: &'a [u8], body: &'a [u8], kind: ItemKind) -> &'a [u8]
+// The kind of flow meant by what comes after an item: its own where it is an H or a Q.
+fn kind_meant(flow: FlowKind, kind: ItemKind) -> FlowKind
+    ensures { λ r. ⌜ r ≡ kindMeant flow kind ⌝ }
+{
+    match kind {
+        ItemKind::H(own) => own,
+        ItemKind::D => flow,
+        ItemKind::S => flow,
+        ItemKind::C => flow,
+        ItemKind::B => flow,
+        ItemKind::A => flow,
+        ItemKind::R => flow,
+        ItemKind::X => flow,
+        ItemKind::K => flow,
+        ItemKind::Z => flow,
+    }
+}
+
+// The body of the header meant by what comes after an item: its own where it is an H or a Q.
+fn body_meant<'a>(header: &'a [u8], body: &'a [u8], kind: ItemKind) -> &'a [u8]
     ensures { λ r. ⌜ now r ≡ cond (heads (recordOf kind)) (now (body .entry)) (now (header .entry)) ⌝ }
 {
     if records::heads(record_of(kind)) {
@@ -183,6 +210,7 @@ fn store_items(list: &[u8], out: &mut [u8], totals: Totals)
     requires { ⌜ totals ≡ listTotals (itemsIn (now list)) ⌝ }
     ensures { λ _. ⌜ now (out .exit) ≡ put 0 (encode (itemsIn (now (list .entry)))) (now (out .entry)) ⌝ }
 {
+    let mut meant = FlowKind::Requests;
     let mut header = &list[0..0];
     let mut dispositions: u64 = 0;
     let mut n = 0;
@@ -192,10 +220,11 @@ fn store_items(list: &[u8], out: &mut [u8], totals: Totals)
         let end = at + 1 + body_length(kind);
         let body = &list[at + 1..end];
         dispositions = dispositions_with(dispositions, kind);
-        let rec = encode_item(kind, dispositions, header, body);
+        let rec = encode_item(kind, dispositions, meant, header, body);
         place(out, 120 * n + 1, &rec);
-        let meant = header_after(header, body, kind);
-        header = meant;
+        meant = kind_meant(meant, kind);
+        let latest_header = body_meant(header, body, kind);
+        header = latest_header;
         n += 1;
         at = end;
     }

@@ -16,9 +16,14 @@ pub fn line_feed() {
     io::write_all(STDOUT_FILENO, b"\n");
 }
 
+// Writes the bytes as they are.
+pub fn text(bytes: &[u8]) {
+    io::write_all(STDOUT_FILENO, bytes);
+}
+
 // Writes the bytes as they are, and a line feed.
 pub fn line(bytes: &[u8]) {
-    io::write_all(STDOUT_FILENO, bytes);
+    text(bytes);
     line_feed();
 }
 

@@ -100,6 +100,6 @@ right-amount k l ctx rec c o e = by (eqb (length rec) 120) refl (subst (λ (m : 
         (b : Bool) → eqb (length rec) 120 ≡ b → cond b (firstFault (checks R14 ctx rec) (right R14 (asked R14 rec))) (RecordVerdict·refused 1 0) ≡ right l c
         → HasAmount rec
     by true t x =
-        let rows = kept-front (amountChecks rec) _ (right R14 (asked R14 rec)) (after 5 (checks R14 ctx rec) (right R14 (asked R14 rec)) x) in
+        let rows = kept-front (amountChecks rec) _ (right R14 (asked R14 rec)) (after 6 (checks R14 ctx rec) (right R14 (asked R14 rec)) x) in
         amount-by rec (eqb-true (length rec) 120 t) .reads (number (amountIn rec)) .1 (rows, refl)
     by false t x = absurd (right-not-refused x)

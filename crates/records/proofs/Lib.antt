@@ -4,6 +4,7 @@ pub mod Checked
 pub mod EachKind
 pub mod FieldTests
 pub mod FirstFault
+pub mod FlowKinds
 pub mod Listed
 pub mod NumberWritten
 pub mod Numbers

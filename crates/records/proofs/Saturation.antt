@@ -11,11 +11,14 @@ use Rattle.fields.specs.Digits.{isDigits, number}
 use Rattle.fields.proofs.Decimal.{number-below}
 use Rattle.records.specs.Checks.{numberChecks, trailerChecks, checks}
 use Rattle.records.specs.Context.{Context}
-use Rattle.records.specs.Field.{field}
+use Rattle.records.specs.Field.{field, firstOf}
+use Rattle.records.specs.FlowKinds.{totalSpan, totalAt, orRequests}
 use Rattle.records.specs.RecordVerdict.{RecordVerdict, right, refused, Check, firstFault}
 use Rattle.records.specs.Judge.{asked, judgeAs}
 use Rattle.records.specs.Laws.{SaturationUnseen, TrailerExact}
 use Rattle.records.specs.Limits.{countLimit, centsLimit, saturatedContext}
+use Rattle.records.specs.declared.flow_kind.FlowKind.{FlowKind}
+use Rattle.records.specs.declared.flow_kind.FlowKind.the-variants.{Requests, Recalls}
 use Rattle.records.specs.declared.kind.RecordKind.{RecordKind}
 use Rattle.records.specs.declared.kind.RecordKind.the-variants.{Im, R14, R16, R20, R30, R40, R50, R59, R51, R70, Ef}
 use Rattle.records.proofs.FirstFault.{right-not-refused, kept, after}
@@ -36,6 +39,14 @@ below-limit n v l h = go (leb v l) refl
         let apart : n ≡ v → ⊥ = λ i. omega arith in
         let beyond : n ≡ l → ⊥ = λ i. omega arith in
         rw (stop, ne-eqb n v apart, ne-eqb n l beyond)
+
+-- what the trailer says at either place stops with the sum
+total-stops : (q : FlowKind) (p v l : ℕ) → totalAt q p (min v l) ≡ min (totalAt q p v) l
+total-stops q p v l = by (eqb p (firstOf (totalSpan q)))
+  where
+    by : (b : Bool) → cond b (min v l) 0 ≡ min (cond b v 0) l
+    by true = refl
+    by false = omega arith
 
 -- digits of a field are below the limit that their number sets
 digits-below : (a e : ℕ) (rec : List ℕ) → length rec ≡ 120 → 1 ≤ a → a ≤ e → e ≤ 120 → isDigits (field a e rec) ≡ true → number (field a e rec) < 10 ^ (e - (a - 1))
@@ -61,14 +72,24 @@ module _ (ctx : Context) (rec : List ℕ) (whole : length rec ≡ 120) where
   unfolding firstFault
   number-alike xs rest = limited 4 10 9 (ctx .counts .dispositions) (firstFault xs rest) (firstFault xs rest) (omega arith) (omega arith) (omega arith) refl
 
-  trailer-alike : (rest : RecordVerdict) → firstFault (trailerChecks (ctx .header) (saturatedContext ctx .counts) rec) rest ≡ firstFault (trailerChecks (ctx .header) (ctx .counts) rec) rest
+  -- the total at the place that starts at a
+  total-alike : (q : FlowKind) (a e : ℕ) (x x′ : RecordVerdict) → 1 ≤ a → a ≤ e → e ≤ 120 → e - (a - 1) ≡ 15 → x ≡ x′ → let f = field a e rec in
+      cond (isDigits f) (cond (eqb (number f) (totalAt q a (saturatedContext ctx .counts .cents))) x (refused 13 a)) (refused 5 a)
+      ≡ cond (isDigits f) (cond (eqb (number f) (totalAt q a (ctx .counts .cents))) x′ (refused 13 a)) (refused 5 a)
+  total-alike q a e x x′ h k l wide same =
+      let f = field a e rec in
+      let limit : 10 ^ (e - (a - 1)) ≡ centsLimit = ap (λ (n : ℕ). 10 ^ n) wide in
+      rw (total-stops q a (ctx .counts .cents) centsLimit, ← limit) (limited a e 13 (totalAt q a (ctx .counts .cents)) x x′ h k l same)
+
+  trailer-alike : (q : FlowKind) (rest : RecordVerdict) → firstFault (trailerChecks (ctx .header) q (saturatedContext ctx .counts) rec) rest ≡ firstFault (trailerChecks (ctx .header) q (ctx .counts) rec) rest
   unfolding firstFault
-  trailer-alike rest =
-      let exact = trailerChecks (ctx .header) (ctx .counts) rec in
-      let stops = trailerChecks (ctx .header) (saturatedContext ctx .counts) rec in
-      let after = firstFault (drop 8 exact) rest in
-      let cents = limited 53 67 13 (ctx .counts .cents) after after (omega arith) (omega arith) (omega arith) refl in
-      let count = limited 46 52 12 (ctx .counts .dispositions) (firstFault (drop 6 stops) rest) (firstFault (drop 6 exact) rest) (omega arith) (omega arith) (omega arith) cents in
+  trailer-alike q rest =
+      let exact = trailerChecks (ctx .header) q (ctx .counts) rec in
+      let stops = trailerChecks (ctx .header) q (saturatedContext ctx .counts) rec in
+      let after = firstFault (drop 10 exact) rest in
+      let recalled = total-alike q 68 82 after after (omega arith) (omega arith) (omega arith) refl refl in
+      let asked = total-alike q 53 67 (firstFault (drop 8 stops) rest) (firstFault (drop 8 exact) rest) (omega arith) (omega arith) (omega arith) refl recalled in
+      let count = limited 46 52 12 (ctx .counts .dispositions) (firstFault (drop 6 stops) rest) (firstFault (drop 6 exact) rest) (omega arith) (omega arith) (omega arith) asked in
       ap (firstFault (take 4 exact)) count
 
   checks-alike : (k : RecordKind) (rest : RecordVerdict) → firstFault (checks k (saturatedContext ctx) rec) rest ≡ firstFault (checks k ctx rec) rest
@@ -83,7 +104,7 @@ module _ (ctx : Context) (rec : List ℕ) (whole : length rec ≡ 120) where
   checks-alike R59 rest = number-alike _ rest
   checks-alike R51 rest = number-alike [] rest
   checks-alike R70 rest = number-alike _ rest
-  checks-alike Ef rest = trailer-alike rest
+  checks-alike Ef rest = trailer-alike (orRequests (ctx .kind)) rest
 
 -- counts that stop there are judged as the exact ones are
 pub saturation-unseen : SaturationUnseen
@@ -102,13 +123,24 @@ trailer-exact ctx rec k c = go (eqb (length rec) 120) refl
     equal : (a e v : ℕ) → length rec ≡ 120 → 1 ≤ a → a ≤ e → e ≤ 120 → isDigits (field a e rec) ≡ true → eqb (number (field a e rec)) v ≡ true → v < 10 ^ (e - (a - 1))
     equal a e v whole h i l t s = rw (← eqb-true (number (field a e rec)) v s) (digits-below a e rec whole h i l t)
 
-    counts : length rec ≡ 120 → firstFault (trailerChecks (ctx .header) (ctx .counts) rec) (right Ef 0) ≡ right k c → (ctx .counts .dispositions < countLimit) × (ctx .counts .cents < centsLimit)
+    -- the sum stands at one of the two places
+    either : (q : FlowKind) → totalAt q 53 (ctx .counts .cents) < centsLimit → totalAt q 68 (ctx .counts .cents) < centsLimit → ctx .counts .cents < centsLimit
+    either Requests asked recalled = asked
+    either Recalls asked recalled = recalled
+
+    counts : length rec ≡ 120 → firstFault (trailerChecks (ctx .header) (orRequests (ctx .kind)) (ctx .counts) rec) (right Ef 0) ≡ right k c → (ctx .counts .dispositions < countLimit) × (ctx .counts .cents < centsLimit)
     counts whole e =
-        let count-digits = kept _ _ _ _ _ (after 4 (trailerChecks (ctx .header) (ctx .counts) rec) (right Ef 0) e) in
+        let count-digits = kept _ _ _ _ _ (after 4 (trailerChecks (ctx .header) (orRequests (ctx .kind)) (ctx .counts) rec) (right Ef 0) e) in
         let count = kept _ _ _ _ _ (count-digits .1) in
-        let cents-digits = kept _ _ _ _ _ (count .1) in
-        let cents = kept _ _ _ _ _ (cents-digits .1) in
-        (equal 46 52 _ whole (omega arith) (omega arith) (omega arith) (count-digits .0) (count .0), equal 53 67 _ whole (omega arith) (omega arith) (omega arith) (cents-digits .0) (cents .0))
+        let asked-digits = kept _ _ _ _ _ (count .1) in
+        let asked = kept _ _ _ _ _ (asked-digits .1) in
+        let recalled-digits = kept _ _ _ _ _ (asked .1) in
+        let recalled = kept _ _ _ _ _ (recalled-digits .1) in (
+          equal 46 52 _ whole (omega arith) (omega arith) (omega arith) (count-digits .0) (count .0),
+          either (orRequests (ctx .kind))
+              (equal 53 67 _ whole (omega arith) (omega arith) (omega arith) (asked-digits .0) (asked .0))
+              (equal 68 82 _ whole (omega arith) (omega arith) (omega arith) (recalled-digits .0) (recalled .0)),
+        )
 
     go : (b : Bool) → eqb (length rec) 120 ≡ b → cond b (firstFault (checks Ef ctx rec) (right Ef 0)) (refused 1 0) ≡ right k c → (ctx .counts .dispositions < countLimit) × (ctx .counts .cents < centsLimit)
     go true e x = counts (eqb-true (length rec) 120 e) x

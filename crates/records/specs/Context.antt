@@ -2,6 +2,7 @@
 use Prim.Native.Nat.{ℕ}
 use mathlib.Core.List.{List}
 use Rattle.records.specs.Field.{field}
+use Rattle.records.specs.declared.flow_kind.KindFound.{KindFound}
 use Rattle.records.specs.declared.judged.Counts.{Counts}
 
 -- the header's fields that later records are compared with
@@ -16,12 +17,13 @@ pub record Header : Type 0 where
 abbrev pub headerOf : List ℕ → Header
 headerOf rec = record { mittente = field 4 8 rec; abi = field 9 13 rec; date = field 14 19 rec; name = field 20 39 rec; currency = field 114 114 rec }
 
--- the header; the latest company code present, blank or empty where there is none; and the counts: dispositions up to and with this
--- record, the cents of the amounts before it, records up to and with it
+-- the header; the latest company code present, blank or empty where there is none; the kind of flow, where a 14 before this record has told
+-- it; and the counts: dispositions up to and with this record, the cents of the amounts before it, records up to and with it
 pub record Context : Type 0 where
   pub header : Header
   pub company : List ℕ
+  pub kind : KindFound
   pub counts : Counts
 
-abbrev pub context : Header → List ℕ → Counts → Context
-context header company counts = record { header = header; company = company; counts = counts }
+abbrev pub context : Header → List ℕ → KindFound → Counts → Context
+context header company kind counts = record { header = header; company = company; kind = kind; counts = counts }

@@ -15,11 +15,14 @@ use Rattle.records.specs.Checked.{checked, Alike}
 use Rattle.records.specs.Checks.{checks}
 use Rattle.records.specs.Context.{Context}
 use Rattle.records.specs.Field.{field, firstOf}
+use Rattle.records.specs.FlowKinds.{causale, kindIn}
 use Rattle.records.specs.RecordVerdict.{right, refused, Check, Hold, FirstBroken, inOrder, checksAt, judgedVerdict}
 use Rattle.records.specs.Judge.{asked, judgeAs}
 use Rattle.records.specs.Kinds.{typeOf, opens, closes}
 use Rattle.records.specs.Limits.{countLimit, centsLimit, saturatedContext}
 use Rattle.records.specs.QuickTest.{passesQuickTest}
+use Rattle.records.specs.declared.flow_kind.FlowKind.{FlowKind}
+use Rattle.records.specs.declared.flow_kind.KindFound.the-variants.{Of}
 use Rattle.records.specs.declared.judged.Judged.{Judged}
 use Rattle.records.specs.declared.kind.RecordKind.{RecordKind}
 use Rattle.records.specs.declared.kind.RecordKind.the-variants.{Ef}
@@ -28,11 +31,16 @@ use Rattle.records.specs.declared.kind.RecordKind.the-variants.{Ef}
 abbrev pub TypesDiffer : Type 0
 TypesDiffer = (k l : RecordKind) → typeOf k ≡ typeOf l → k ≡ l
 
+-- the causale of a record tells the kind of flow, and each kind has its own
+abbrev pub KindTold : Type 0
+KindTold = (rec : List ℕ) (q : FlowKind) → (kindIn rec ≡ Of q) ↔ (field 29 33 rec ≡ causale q)
+
 -- a record that is right is of the kind that it was judged as, and asks for that kind's cents
 abbrev pub RightAsked : Type 0
 RightAsked = (k l : RecordKind) (ctx : Context) (rec : List ℕ) (c : ℕ) → judgeAs k ctx rec ≡ right l c → (k ≡ l) × (c ≡ asked k rec)
 
--- the checks of every kind stand in the order of document 01: rising position, and for one field 5 before what compares its digits
+-- the checks of every kind stand in the order of document 01: rising position, and for one field 5 before what compares its digits; and of
+-- document 02, E1: 6 before 22
 abbrev pub ChecksInOrder : Type 0
 ChecksInOrder = (k : RecordKind) (ctx : Context) (rec : List ℕ) → inOrder (checks k ctx rec) ≡ true
 

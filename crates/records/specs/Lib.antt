@@ -6,6 +6,7 @@ pub mod Constants
 pub mod Context
 pub mod Field
 pub mod FieldTests
+pub mod FlowKinds
 pub mod Judge
 pub mod Kinds
 pub mod Laws

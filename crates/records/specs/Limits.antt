@@ -22,4 +22,4 @@ abbrev pub saturatedCounts : Counts → Counts
 saturatedCounts c = record { dispositions = min (c .dispositions) countLimit; cents = min (c .cents) centsLimit; records = c .records }
 
 abbrev pub saturatedContext : Context → Context
-saturatedContext ctx = record { header = ctx .header; company = ctx .company; counts = saturatedCounts (ctx .counts) }
+saturatedContext ctx = record { header = ctx .header; company = ctx .company; kind = ctx .kind; counts = saturatedCounts (ctx .counts) }

@@ -32,15 +32,16 @@ Hold (check holds n p ∷ cs) = (holds ≡ true) × Hold cs
 abbrev pub FirstBroken : List Check → ℕ → ℕ → Type 0
 FirstBroken cs n p = (held others : List Check) × (cs ≡ held ++ (check false n p ∷ others)) × Hold held
 
--- a check with number n at position p may stand before one at position q: by rising position, and for one field 5 before the other
-abbrev pub precedes : ℕ → ℕ → ℕ → Bool
-precedes n p q = ltb p q || (eqb p q && eqb n 5)
+-- a check with number n at position p may stand before one with number m at position q: by rising position, and for one field by rising
+-- number: 5 comes before what compares the digits, and 6 before 22
+abbrev pub precedes : ℕ → ℕ → ℕ → ℕ → Bool
+precedes n p m q = ltb p q || (eqb p q && ltb n m)
 
 -- the checks stand in the order of document 01
 unfoldable pub inOrder : List Check → Bool
 inOrder [] = true
 inOrder (check holds n p ∷ []) = true
-inOrder (check holds n p ∷ check holds′ m q ∷ cs) = precedes n p q && inOrder (check holds′ m q ∷ cs)
+inOrder (check holds n p ∷ check holds′ m q ∷ cs) = precedes n p m q && inOrder (check holds′ m q ∷ cs)
 
 -- the checks at a position, in their order
 unfoldable pub checksAt : ℕ → List Check → List Check

@@ -1,5 +1,6 @@
 // The fixed contents of records, compared when a record is read and written when a list is encoded
-// (document 01, "Language forms in the code"), and the positions of the amount.
+// (document 01, "Language forms in the code"), and the positions of the amount. What depends on the
+// kind of flow is in `flow_kind`.
 
 // The types, as they stand at 2-3; `type_of` gives them to other crates.
 pub(crate) const TYPE_IM: [u8; 2] = *b"IM";
@@ -23,10 +24,6 @@ pub(crate) const TYPE_51: [u8; 2] = *b"51";
 pub(crate) const TYPE_70: [u8; 2] = *b"70";
 
 pub(crate) const TYPE_EF: [u8; 2] = *b"EF";
-
-pub const CAUSALE: [u8; 5] = *b"07000";
-
-pub const SIGN: [u8; 1] = *b"-";
 
 pub const CURRENCY: [u8; 1] = *b"E";
 

@@ -3,13 +3,14 @@
 // most records have none.
 //
 // A record is judged by its own bytes. What a rule needs from elsewhere in the flow, the header,
-// the company code so far and the counts so far, is handed in as slices and numbers. No
-// public function has a `requires`, and none but `write_number` changes a byte.
+// the company code, the kind of flow and the counts so far, is handed in. No public function has a
+// `requires`, and none but `write_number` changes a byte.
 mod bytes;
 mod constants;
 mod coordinates;
 mod detail;
 mod disposition;
+mod flow_kind;
 mod header;
 mod judged;
 mod kind;
@@ -24,9 +25,16 @@ mod trailer;
 pub use bytes::bad_byte;
 pub use constants::AMOUNT_FIRST;
 pub use constants::AMOUNT_LAST;
-pub use constants::CAUSALE;
 pub use constants::CURRENCY;
-pub use constants::SIGN;
+pub use flow_kind::FlowKind;
+pub use flow_kind::KindFound;
+pub use flow_kind::causale_of;
+pub use flow_kind::kind_in;
+pub use flow_kind::or_requests;
+pub use flow_kind::sign_of;
+pub use flow_kind::total_at;
+pub use flow_kind::total_first;
+pub use flow_kind::total_last;
 pub use judged::Counts;
 pub use judged::Judged;
 pub use judged::Record;

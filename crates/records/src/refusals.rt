@@ -1,4 +1,5 @@
-// The numbers of the refusals that the rules of a record give (document 01, "Numbers a clerk may see").
+// The numbers of the refusals that the rules of a record give (document 01, "Numbers a clerk may see";
+// document 02).
 
 pub const WRONG_LENGTH: u64 = 1;
 
@@ -17,3 +18,5 @@ pub(crate) const WRONG_COUNT: u64 = 12;
 pub(crate) const WRONG_TOTAL: u64 = 13;
 
 pub(crate) const WRONG_RECORDS: u64 = 14;
+
+pub(crate) const OTHER_KIND: u64 = 22;

@@ -5,6 +5,8 @@ ghost use Rattle.records.specs.Checks.{trailerChecks};
 ghost use Rattle.records.specs.Context.{headerOf};
 ghost use Rattle.records.specs.RecordVerdict.{right, firstFault, judgedVerdict};
 ghost use Rattle.records.specs.declared.kind.RecordKind.the-variants.{Ef};
+use crate::flow_kind::FlowKind;
+use crate::flow_kind::total_at;
 use crate::judged::Counts;
 use crate::judged::Judged;
 use crate::judged::Record;
@@ -17,10 +19,10 @@ use crate::rules::as_in_header;
 use crate::rules::digits_equal_to;
 use fields::Number;
 
-pub(crate) fn judge_trailer(rec: &[u8], counts: Counts, header: &[u8]) -> Judged
+pub(crate) fn judge_trailer(rec: &[u8], counts: Counts, header: &[u8], flow: FlowKind) -> Judged
     requires { ⌜ length (now rec) ≡ 120 ⌝ }
     ensures { λ r. ⌜ judgedVerdict r ≡ firstFault
-        (trailerChecks (headerOf (now (header .entry))) counts (now (rec .entry)))
+        (trailerChecks (headerOf (now (header .entry))) flow counts (now (rec .entry)))
         (right Ef 0) ⌝ }
 {
     if !as_in_header(rec, 4, 8, header) {
@@ -44,10 +46,12 @@ pub(crate) fn judge_trailer(rec: &[u8], counts: Counts, header: &[u8]) -> Judged
     ) {
         return Judged::Refused(number, 46);
     }
-    if let Number::Refused(number) = digits_equal_to(rec, 53, 67, counts.cents, WRONG_TOTAL) {
+    let asked = total_at(flow, 53, counts.cents);
+    if let Number::Refused(number) = digits_equal_to(rec, 53, 67, asked, WRONG_TOTAL) {
         return Judged::Refused(number, 53);
     }
-    if let Number::Refused(number) = digits_equal_to(rec, 68, 82, 0, WRONG_TOTAL) {
+    let recalled = total_at(flow, 68, counts.cents);
+    if let Number::Refused(number) = digits_equal_to(rec, 68, 82, recalled, WRONG_TOTAL) {
         return Judged::Refused(number, 68);
     }
     if let Number::Refused(number) = digits_equal_to(rec, 83, 89, counts.records, WRONG_RECORDS) {

@@ -3,7 +3,7 @@
 use std::hint::black_box;
 
 use mav::{Accepted, Refusal, Written};
-use oracle::{amend, list, reader, Answer};
+use oracle::{amend, list, reader, Answer, FlowKind};
 
 use crate::time::{side_by_side, Memory, Times};
 
@@ -70,12 +70,22 @@ fn answered(answer: Result<Accepted, Refusal>) -> Answer {
             dispositions: accepted.dispositions,
             cents: accepted.cents,
             records: accepted.records,
+            kind: kind(accepted.kind),
         },
         Err(refusal) => Answer::Refused {
             number: refusal.reason.number() as u8,
             record: refusal.record,
             position: refusal.position as u8,
         },
+    }
+}
+
+/// A kind of flow likewise.
+fn kind(kind: mav::FlowKind) -> FlowKind {
+    match kind {
+        mav::FlowKind::Requests => FlowKind::Requests,
+        mav::FlowKind::Recalls => FlowKind::Recalls,
+        other => panic!("the second program has no kind {other}"),
     }
 }
 
@@ -115,20 +125,26 @@ pub fn compared(call: Call, input: &[u8], rounds: usize) -> Times<2> {
 #[cfg(test)]
 mod tests {
     use super::*;
-    use crate::flows::usual;
+    use crate::flows::{recalled, usual};
 
     #[test]
     fn both_sides_agree_on_every_call() {
-        let flow = usual(3);
-        assert_eq!(agreed(Call::Read, &flow), (23, vec![]));
-        assert_eq!(agreed(Call::Change { k: 3, cents: 1 }, &flow).0, 23);
+        for (flow, letter) in [(usual(3), b'H'), (recalled(usual(3)), b'Q')] {
+            agree_on_every_call(&flow, letter);
+        }
+    }
+
+    /// A usual flow of three dispositions, whose list opens with the letter.
+    fn agree_on_every_call(flow: &[u8], letter: u8) {
+        assert_eq!(agreed(Call::Read, flow), (23, vec![]));
+        assert_eq!(agreed(Call::Change { k: 3, cents: 1 }, flow).0, 23);
         // One disposition less: 16 records of 120 bytes.
-        let (records, left) = agreed(Call::Withdraw { k: 1 }, &flow);
+        let (records, left) = agreed(Call::Withdraw { k: 1 }, flow);
         assert_eq!((records, left.len()), (16, 1_920));
         // 50 bytes, and 3 times 593 (document 01, "Our request list").
-        let (records, list) = agreed(Call::ReadBack, &flow);
-        assert_eq!((records, list.len()), (23, 1_829));
-        assert_eq!(agreed(Call::Write, &list), (23, flow));
+        let (records, list) = agreed(Call::ReadBack, flow);
+        assert_eq!((records, list.len(), list[0]), (23, 1_829, letter));
+        assert_eq!(agreed(Call::Write, &list), (23, flow.to_vec()));
     }
 
     #[test]

@@ -2,7 +2,7 @@
 //! a disposition, so that every run measures the same bytes.
 
 use oracle::fields::write_digits;
-use oracle::record::{field_mut, put, Record, BLANK_RECORD, RECORD_LEN};
+use oracle::record::{field_mut, put, record_type, Record, BLANK_RECORD, RECORD_LEN};
 
 /// The dispositions of the large flow.
 pub const LARGE: u64 = 100_000;
@@ -61,6 +61,24 @@ pub fn slow(dispositions: u64, indent: Indent) -> Vec<u8> {
             .chain([text(b"59", 65, indent); 5])
             .chain([reference(k), last])
     })
+}
+
+/// A flow of requests as one of recalls (document 02, E1): the causale and the
+/// sign of every record 14, and the total in the other field of the trailer.
+pub fn recalled(mut flow: Vec<u8>) -> Vec<u8> {
+    let (records, _) = flow.as_chunks_mut::<RECORD_LEN>();
+    for record in records {
+        match &record_type(record) {
+            b"14" => {
+                put(record, 29, b"07100");
+                put(record, 47, b"+");
+            }
+            // The two fields have 15 bytes each.
+            b"EF" => field_mut(record, 53, 82).rotate_left(15),
+            _ => {}
+        }
+    }
+    flow
 }
 
 /// The amount of disposition k in cents.
@@ -224,9 +242,17 @@ mod tests {
     use super::*;
     use oracle::list::is_canonical;
 
-    /// Both readers give these numbers.
+    /// Both readers give these numbers of a flow of requests, and the same of
+    /// it as one of recalls.
     fn accepted(flow: &[u8], dispositions: u64, cents: u64, records: u64) {
-        let line = format!("accepted dispositions {dispositions} cents {cents} records {records}");
+        let numbers =
+            format!("accepted dispositions {dispositions} cents {cents} records {records}");
+        read_as(flow, format!("{numbers} kind requests"));
+        let flow = recalled(flow.to_vec());
+        read_as(&flow, format!("{numbers} kind recalls"));
+    }
+
+    fn read_as(flow: &[u8], line: String) {
         assert_eq!(
             mav::read(flow).map(|found| found.to_string()),
             Ok(line.clone())
@@ -248,6 +274,24 @@ mod tests {
         // 10,137 + 10,274 + 10,411 cents; 3 times 7 records, and 2.
         accepted(&flow, 3, 30_822, 23);
         assert!(is_canonical(&flow));
+        assert!(is_canonical(&recalled(flow)));
+    }
+
+    #[test]
+    fn a_recall_differs_where_its_kind_is() {
+        let flow = usual(3);
+        let recalled = recalled(flow.clone());
+        let differs = |index: &usize| flow[*index] != recalled[*index];
+        let places: Vec<_> = (0..flow.len())
+            .filter(differs)
+            .map(|index| (index / RECORD_LEN + 1, index % RECORD_LEN + 1))
+            .collect();
+        // The third digit of the causale and the sign of each record 14; the
+        // five digits of 30,822 at the ends of both totals of the trailer, of
+        // which the fourth from the end is a 0 in either case.
+        let openings = [2, 9, 16].map(|record| [(record, 31), (record, 47)]);
+        let totals = [63, 65, 66, 67, 78, 80, 81, 82].map(|position| (23, position));
+        assert_eq!(places, [openings.as_flattened(), &totals].concat());
     }
 
     #[test]

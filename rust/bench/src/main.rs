@@ -20,11 +20,12 @@ use table::say;
 
 const USAGE: &str = "usage: bench, bench ROUNDS, or bench plain FOLDER THREADS.
 Measures the proved library (ours) and the second program (plain Rust) side by
-side on flows made in memory: reading, amount change, withdrawal, reading back
-to a list and writing a list. Before a call is measured, both have to answer
-it alike and to leave the same bytes. Then the command mavdesk, if it is built
-beside this program, and the plain reader check forty flows as files. ROUNDS
-is how often each is measured, 21 if not given; the best of them is printed.
+side on flows made in memory: reading, of requests and of recalls, amount
+change, withdrawal, reading back to a list and writing a list. Before a call is
+measured, both have to answer it alike and to leave the same bytes. Then the
+command mavdesk, if it is built beside this program, and the plain reader check
+forty flows as files. ROUNDS is how often each is measured, 21 if not given;
+the best of them is printed.
 Run it as
     cargo build --release --offline -p desk -p bench && target/release/bench
 With plain it judges the flows of a folder with the plain reader.";
@@ -69,6 +70,7 @@ fn run(rounds: usize) {
     }
     let large = flows::usual(flows::LARGE);
     sections::reading(&large, rounds);
+    sections::kinds(rounds);
     sections::growth(rounds);
     sections::amendments(rounds);
     sections::lists(&large, rounds);

@@ -9,7 +9,7 @@ use crate::calls::{agreed, compared, Call, OURS, PLAIN};
 use crate::flows::{self, Indent, LARGE, LARGE_BYTES};
 use crate::sum::sum;
 use crate::table::{grouped, micros, nanos_each, ratio, say, Table};
-use crate::time::{side_by_side, Memory, Times};
+use crate::time::{self, side_by_side, Memory, Times};
 
 /// The titles of the times of both sides.
 const BOTH: [&str; 6] = [
@@ -25,16 +25,11 @@ const BOTH: [&str; 6] = [
 pub fn reading(flow: &[u8], rounds: usize) {
     assert_eq!(flow.len(), LARGE_BYTES);
     agreed(Call::Read, flow);
-    let ours = |_: &mut [u8]| {
-        black_box(mav::read(black_box(flow))).ok();
-    };
-    let plain = |_: &mut [u8]| {
-        black_box(reader::read(black_box(flow)));
-    };
     let bytes = |_: &mut [u8]| {
         black_box(sum(black_box(flow)));
     };
-    let times = side_by_side(rounds, &mut Memory::none(), [&ours, &plain, &bytes]);
+    let calls: [time::Call; 3] = [&ours(flow), &plain(flow), &bytes];
+    let times = side_by_side(rounds, &mut Memory::none(), calls);
     let mut table = Table::new(&[
         "pass",
         "best us",
@@ -58,6 +53,44 @@ pub fn reading(flow: &[u8], rounds: usize) {
         grouped(LARGE),
         grouped(flow.len() as u64)
     ));
+}
+
+/// Reading by the proved library, as a call to be measured.
+fn ours(flow: &[u8]) -> impl Fn(&mut [u8]) + '_ {
+    move |_| {
+        black_box(mav::read(black_box(flow))).ok();
+    }
+}
+
+/// The same by the plain reader.
+fn plain(flow: &[u8]) -> impl Fn(&mut [u8]) + '_ {
+    move |_| {
+        black_box(reader::read(black_box(flow)));
+    }
+}
+
+/// Reading requests and recalls that are alike in all else, in the same
+/// rounds, so that one kind's times can be held against the other's.
+pub fn kinds(rounds: usize) {
+    let mut table = Table::new(&[&["flow", "dispositions"], &BOTH[..]].concat());
+    for dispositions in [10_000, LARGE] {
+        let requests = flows::usual(dispositions);
+        let recalls = flows::recalled(requests.clone());
+        agreed(Call::Read, &requests);
+        agreed(Call::Read, &recalls);
+        let calls: [time::Call; 4] = [
+            &ours(&requests),
+            &plain(&requests),
+            &ours(&recalls),
+            &plain(&recalls),
+        ];
+        let times = side_by_side(rounds, &mut Memory::none(), calls);
+        for (name, sides) in [("requests", [0, 1]), ("recalls", [2, 3])] {
+            let times = times.of(sides);
+            table.row(call_row(name, dispositions, &times, records(&requests)));
+        }
+    }
+    say(&format!("   Requests and recalls\n\n{table}"));
 }
 
 /// How the time of reading grows with the flow.

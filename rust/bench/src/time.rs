@@ -57,6 +57,12 @@ impl<const N: usize> Times<N> {
         of_side.fold(f64::INFINITY, f64::min)
     }
 
+    /// The times of some of the sides.
+    pub fn of<const M: usize>(&self, sides: [usize; M]) -> Times<M> {
+        let rounds = self.0.iter();
+        Times(rounds.map(|round| sides.map(|side| round[side])).collect())
+    }
+
     /// The best of one side by the best of another.
     pub fn ratio(&self, above: usize, below: usize) -> f64 {
         self.best(above) / self.best(below)
@@ -116,6 +122,9 @@ mod tests {
         assert_eq!(times.median_ratio(0, 1), 2.0);
         let even = Times(vec![[3.0, 1.0], [2.0, 2.0]]);
         assert_eq!(even.median_ratio(0, 1), 2.0);
+        let turned = times.of([1, 0]);
+        assert_eq!((turned.best(0), turned.best(1)), (1.0, 2.0));
+        assert_eq!(turned.median_ratio(0, 1), 0.5);
     }
 
     #[test]

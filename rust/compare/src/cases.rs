@@ -6,7 +6,7 @@ use oracle::record::{record_type, RECORD_LEN};
 use oracle::rng::Rng;
 
 use crate::calls::{agree, Agreed};
-use crate::entry::{Entry, Kind};
+use crate::entry::{Entry, Form};
 use crate::ledger;
 use crate::lent::{Buffer, Lent};
 use crate::sides::Sides;
@@ -63,10 +63,10 @@ impl Case {
     }
 
     /// What these bytes are.
-    pub fn kind(&self) -> Kind {
+    pub fn form(&self) -> Form {
         match self {
             Case::One { entry, .. } => entry.input(),
-            Case::Calls { .. } => Kind::Flow,
+            Case::Calls { .. } => Form::Flow,
         }
     }
 
@@ -85,8 +85,8 @@ impl Case {
 /// input.
 fn needed(entry: Entry, input: &[u8]) -> usize {
     match entry.output() {
-        Some(Kind::Flow) => (items(input).count() + 1) * RECORD_LEN,
-        Some(Kind::List) => {
+        Some(Form::Flow) => (items(input).count() + 1) * RECORD_LEN,
+        Some(Form::List) => {
             let (records, _) = input.as_chunks::<RECORD_LEN>();
             let layouts = records.iter().filter_map(layout_of_record);
             layouts.map(|layout| 1 + layout.body_len()).sum()

@@ -1,6 +1,9 @@
 //! The entry points of the C interface.
 
+use std::fmt;
+
 use oracle::ledger::Call;
+use oracle::FlowKind;
 
 /// An entry point, with the numbers that a call of it names.
 #[derive(Clone, Copy, Debug, Eq, PartialEq)]
@@ -18,7 +21,7 @@ pub enum Entry {
 
 /// What the bytes of a buffer are to be.
 #[derive(Clone, Copy, Debug, Eq, PartialEq)]
-pub enum Kind {
+pub enum Form {
     Field,
     Flow,
     List,
@@ -70,19 +73,19 @@ impl Entry {
     }
 
     /// What it is given.
-    pub fn input(self) -> Kind {
+    pub fn input(self) -> Form {
         match self {
-            Entry::Digits | Entry::Amount | Entry::Date => Kind::Field,
-            Entry::Write => Kind::List,
-            _ => Kind::Flow,
+            Entry::Digits | Entry::Amount | Entry::Date => Form::Field,
+            Entry::Write => Form::List,
+            _ => Form::Flow,
         }
     }
 
     /// What it fills an output with, if it has one.
-    pub fn output(self) -> Option<Kind> {
+    pub fn output(self) -> Option<Form> {
         match self {
-            Entry::Write => Some(Kind::Flow),
-            Entry::List => Some(Kind::List),
+            Entry::Write => Some(Form::Flow),
+            Entry::List => Some(Form::List),
             _ => None,
         }
     }
@@ -90,6 +93,15 @@ impl Entry {
     /// Whether it may write to its input.
     pub fn amends(self) -> bool {
         matches!(self, Entry::Change { .. } | Entry::Withdraw { .. })
+    }
+
+    /// Whether it tells the kind of flow where it is accepted.
+    pub fn tells_kind(self) -> bool {
+        match self {
+            Entry::Digits | Entry::Amount | Entry::Date | Entry::Find { .. } => false,
+            Entry::Read | Entry::Write | Entry::List => true,
+            Entry::Change { .. } | Entry::Withdraw { .. } => true,
+        }
     }
 
     /// What the numbers of an accepted call are.
@@ -102,20 +114,46 @@ impl Entry {
         }
     }
 
-    /// Whether it can give this refusal number in the memory lent here.
+    /// Whether it can be answered so in the memory lent here.
+    pub fn gives(self, answered: Answered) -> bool {
+        match answered {
+            Answered::Accepted(_) => self.tells_kind(),
+            Answered::Refused(number) => self.refuses_by(number),
+        }
+    }
+
     /// Writing gives 1 only for ten million items, which are not tried. It
-    /// numbers the records and writes the trailer itself, so that 4, 9 and 12
-    /// to 14 cannot come.
-    pub fn gives(self, number: u8) -> bool {
+    /// numbers the records, gives them their kind and writes the trailer
+    /// itself, so that 4, 9, 12 to 14 and 22 cannot come.
+    fn refuses_by(self, number: u8) -> bool {
         match self {
             Entry::Digits | Entry::Amount => number == 5,
             Entry::Date => matches!(number, 5 | 8),
-            Entry::Read => matches!(number, 1..=14),
-            Entry::Find { .. } => matches!(number, 1..=15),
+            Entry::Read => matches!(number, 1..=14 | 22),
+            Entry::Find { .. } => matches!(number, 1..=15 | 22),
             Entry::Write => matches!(number, 2 | 3 | 5..=8 | 10 | 11 | 17 | 20 | 21),
-            Entry::List => matches!(number, 1..=14 | 21),
-            Entry::Change { .. } => matches!(number, 1..=17),
-            Entry::Withdraw { .. } => matches!(number, 1..=15 | 18),
+            Entry::List => matches!(number, 1..=14 | 21 | 22),
+            Entry::Change { .. } => matches!(number, 1..=17 | 22),
+            Entry::Withdraw { .. } => matches!(number, 1..=15 | 18 | 22),
+        }
+    }
+}
+
+/// How a call is answered, as far as calls are counted by it.
+#[derive(Clone, Copy, Debug, Eq, PartialEq)]
+pub enum Answered {
+    /// Accepted, with this kind of flow.
+    Accepted(FlowKind),
+    /// Refused by this number.
+    Refused(u8),
+}
+
+/// The title of its row in the table.
+impl fmt::Display for Answered {
+    fn fmt(&self, f: &mut fmt::Formatter<'_>) -> fmt::Result {
+        match self {
+            Answered::Accepted(kind) => write!(f, "{kind}"),
+            Answered::Refused(number) => write!(f, "refused {number}"),
         }
     }
 }

@@ -1,5 +1,5 @@
 //! A list of calls on one flow, held against the ledger as well (document 01,
-//! "Questions and changes", from "The sheet of demand 3" on).
+//! "Questions and changes", from "The sheet of demand 3" on; document 02, E1).
 
 use oracle::ledger::{Call, Ledger};
 use oracle::list::{is_canonical, write_list};
@@ -91,9 +91,9 @@ impl Session<'_> {
         Ok(memory)
     }
 
-    /// The flow left is accepted with the ledger's numbers, its list is the
-    /// ledger's, and that list written is a flow with the same list: the flow
-    /// left itself where the first one was canonical.
+    /// The flow left is accepted with the ledger's numbers and kind, its list
+    /// is the ledger's, and that list written is a flow with the same list:
+    /// the flow left itself where the first one was canonical.
     fn end(&mut self, memory: &Buffer, canonical: bool) -> Agreed<()> {
         let told = of_answer(self.ledger.numbers().into());
         let list = self.ledger.list();

@@ -28,15 +28,15 @@ fn main() -> ExitCode {
     }
 }
 
-/// Prints what was compared. Where every number is due, one that never came
-/// fails the run, because it would not have been tested.
+/// Prints what was compared. Where every kind and number is due, one that
+/// never came fails the run, because it would not have been tested.
 fn agreed(tally: &Tally, all_due: bool) -> ExitCode {
     let mut text = format!("{tally}");
     text += "Number 1 for more than 9,999,999 records is not tried: \
         it needs more memory than is lent here.\n";
     if all_due {
-        if let Some((entry, number)) = tally.missed().first() {
-            text += &format!("The run never met number {number} of {}.", entry.name());
+        if let Some((entry, answered)) = tally.missed().first() {
+            text += &format!("The run never met {answered} in {}.", entry.name());
             return say(&text, 1);
         }
     }

@@ -4,7 +4,7 @@ use oracle::ledger::Call;
 use oracle::shrink::shrink;
 
 use crate::cases::{openings, Case};
-use crate::entry::{Entry, Kind};
+use crate::entry::{Entry, Form};
 use crate::report::rows;
 use crate::sides::Sides;
 use crate::tally::Tally;
@@ -13,10 +13,10 @@ use crate::tally::Tally;
 pub fn smallest(sides: &Sides, case: &Case) -> Case {
     let differs = |case: &Case| case.check(sides, &mut Tally::default()).is_err();
     let case = fewer_calls(case, differs);
-    match case.kind() {
-        Kind::Field => case,
-        Kind::Flow => fewer_calls(&smaller_flow(&case, differs), differs),
-        Kind::List => smaller_list(&case, differs),
+    match case.form() {
+        Form::Field => case,
+        Form::Flow => fewer_calls(&smaller_flow(&case, differs), differs),
+        Form::List => smaller_list(&case, differs),
     }
 }
 
@@ -68,13 +68,13 @@ fn lower(mut case: Case, by: u64) -> Case {
 /// Drops the items of whole dispositions, then single items.
 fn smaller_list(case: &Case, differs: impl Fn(&Case) -> bool) -> Case {
     let holds = |parts: &[Vec<u8>]| differs(&case.on(&parts.concat()));
-    let items = rows(Kind::List, case.input());
+    let items = rows(Form::List, case.input());
     let blocks: Vec<Vec<u8>> = items
         .chunk_by(|_, next| !next.starts_with(b"D"))
         .map(<[&[u8]]>::concat)
         .collect();
     let list = dropped(&blocks, holds).concat();
-    let items: Vec<Vec<u8>> = rows(Kind::List, &list)
+    let items: Vec<Vec<u8>> = rows(Form::List, &list)
         .into_iter()
         .map(<[u8]>::to_vec)
         .collect();

@@ -7,22 +7,23 @@ use oracle::record::RECORD_LEN;
 
 use crate::calls::{Against, Difference, Outcome};
 use crate::cases::Case;
-use crate::entry::{Entry, Kind};
+use crate::entry::{Entry, Form};
 use crate::lent::{Buffer, Lent};
+use crate::sides::{kind_entry, KINDS};
 
 /// The case, the call of it that differs, and both outcomes.
 pub fn report(case: &Case, difference: &Difference) -> String {
     let mut text = String::new();
     let input = difference.lent.input.lent();
     if let Case::Calls { flow, calls, .. } = case {
-        text += &contents("first flow", Kind::Flow, flow);
+        text += &contents("first flow", Form::Flow, flow);
         for (index, &call) in calls.iter().enumerate() {
             let _ = writeln!(text, "call {} on it: {}", index + 1, spoken(call.into()));
         }
     }
     if !matches!(case, Case::Calls { flow, .. } if flow == input) {
-        let kind = difference.entry.input();
-        text += &contents(name(kind), kind, input);
+        let form = difference.entry.input();
+        text += &contents(name(form), form, input);
     }
     text + &outcomes(difference)
 }
@@ -51,7 +52,7 @@ fn outcomes(difference: &Difference) -> String {
     let (found, wanted) = (&proved.after, &due.after);
     let input = first_byte(entry.input(), &found.input, &wanted.input);
     let output = first_byte(
-        entry.output().unwrap_or(Kind::Field),
+        entry.output().unwrap_or(Form::Field),
         &found.output,
         &wanted.output,
     );
@@ -92,11 +93,11 @@ fn placed(entry: Entry, lent: &Lent) -> String {
     }
 }
 
-fn name(kind: Kind) -> &'static str {
-    match kind {
-        Kind::Field => "field",
-        Kind::Flow => "flow",
-        Kind::List => "list",
+fn name(form: Form) -> &'static str {
+    match form {
+        Form::Field => "field",
+        Form::Flow => "flow",
+        Form::List => "list",
     }
 }
 
@@ -109,20 +110,32 @@ fn answer(entry: Entry, outcome: &Outcome) -> String {
         1 => {
             let numbers = entry.accepted().iter().zip(entries);
             let numbers = numbers.map(|(name, number)| format!(" {name} {number}"));
-            format!("accepted{}", numbers.collect::<String>())
+            let numbers: String = numbers.collect();
+            format!("accepted{numbers}{}", kind_told(entry, entries[4]))
         }
         other => format!("returned {other}"),
     };
     format!("{words}, entries {entries:?}")
 }
 
+/// The kind of flow that an accepted call tells, by its word if it has one.
+fn kind_told(entry: Entry, number: u64) -> String {
+    if !entry.tells_kind() {
+        return String::new();
+    }
+    match KINDS.iter().find(|kind| kind_entry(**kind) == number) {
+        Some(kind) => format!(" kind {kind}"),
+        None => format!(" kind {number}"),
+    }
+}
+
 /// The place of the first byte of a buffer that differs, and both values.
-fn first_byte(kind: Kind, found: &Buffer, wanted: &Buffer) -> Option<(String, u8, u8)> {
+fn first_byte(form: Form, found: &Buffer, wanted: &Buffer) -> Option<(String, u8, u8)> {
     let (index, found_byte, wanted_byte) = found.first_difference(wanted)?;
     let place = match usize::try_from(index) {
         Err(_) => String::from(" (in front of it)"),
         Ok(index) if index >= found.lent().len() => String::from(" (after it)"),
-        Ok(index) if kind == Kind::Flow => {
+        Ok(index) if form == Form::Flow => {
             let (record, position) = (index / RECORD_LEN + 1, index % RECORD_LEN + 1);
             format!(" (record {record}, position {position})")
         }
@@ -132,9 +145,9 @@ fn first_byte(kind: Kind, found: &Buffer, wanted: &Buffer) -> Option<(String, u8
 }
 
 /// Bytes row by row, in hex and below it as text.
-fn contents(title: &str, kind: Kind, bytes: &[u8]) -> String {
+fn contents(title: &str, form: Form, bytes: &[u8]) -> String {
     let mut text = format!("{title} of {} bytes\n", bytes.len());
-    for (index, row) in rows(kind, bytes).into_iter().enumerate() {
+    for (index, row) in rows(form, bytes).into_iter().enumerate() {
         let hex: String = row.iter().map(|byte| format!("{byte:02x}")).collect();
         let shown: String = row.iter().copied().map(printable).collect();
         let _ = writeln!(text, "{:>4}  {hex}\n      {shown}", index + 1);
@@ -151,8 +164,8 @@ fn printable(byte: u8) -> char {
 
 /// The records of a flow, the items of a list, or the whole of a field. What
 /// is left after whole ones is the last row.
-pub fn rows(kind: Kind, bytes: &[u8]) -> Vec<&[u8]> {
-    if kind != Kind::List {
+pub fn rows(form: Form, bytes: &[u8]) -> Vec<&[u8]> {
+    if form != Form::List {
         return bytes.chunks(RECORD_LEN).collect();
     }
     let mut rest = bytes;

@@ -157,20 +157,24 @@ fn new_amount(rng: &mut Rng, flow: &[u8], k: u64) -> u64 {
 fn list_round(rng: &mut Rng, seed: u64, turn: u64) -> Vec<Case> {
     let list = match rng.below(20) {
         0 => any_bytes(rng),
-        1..10 => carried(&generate::flow_case(seed, turn)),
+        1..10 => carried(rng, &generate::flow_case(seed, turn)),
         _ => generate::list(rng),
     };
     vec![one(rng, Entry::Write, &list), one(rng, Entry::Write, &list)]
 }
 
 /// The items of a flow's records, whether the flow is right or not, so that
-/// each field can be wrong in a list as well.
-fn carried(flow: &[u8]) -> Vec<u8> {
+/// each field can be wrong in a list as well. A header opens a list of either
+/// kind: the causale, which would tell it, is not carried.
+fn carried(rng: &mut Rng, flow: &[u8]) -> Vec<u8> {
     let (records, _) = flow.as_chunks::<RECORD_LEN>();
     let mut list = Vec::new();
     for record in records {
         if let Some(layout) = layout_of_record(record) {
-            list.push(layout.kind);
+            list.push(match layout.kind {
+                b'H' => rng.pick(b"HQ"),
+                kind => kind,
+            });
             for &(first, last) in layout.carried {
                 list.extend(field(record, first, last));
             }

@@ -6,7 +6,7 @@ use oracle::fields::{amount, date, digits};
 use oracle::find::find;
 use oracle::list::{write_flow, write_list};
 use oracle::reader::read;
-use oracle::Answer;
+use oracle::{Answer, FlowKind};
 
 use crate::entry::Entry;
 
@@ -53,7 +53,7 @@ pub fn second(entry: Entry, input: &mut [u8], output: &mut [u8], answer: &mut En
         Entry::Date => (of_field(date(input).map(|_| 0)), 0),
         Entry::Read => (of_answer(read(input)), 0),
         Entry::Find { k } => match find(input, k) {
-            Ok(found) => (Ok([found.first, found.records, found.cents]), 0),
+            Ok(found) => (Ok(([found.first, found.records, found.cents], None)), 0),
             Err(refusal) => (of_answer(refusal.into()), 0),
         },
         Entry::Write => with_length(write_flow(input, output)),
@@ -66,27 +66,40 @@ pub fn second(entry: Entry, input: &mut [u8], output: &mut [u8], answer: &mut En
     status
 }
 
-/// The three numbers of an accepted call, or of a refused one.
-pub type Told = Result<[u64; 3], [u64; 3]>;
+/// The three numbers of an accepted call and the kind of flow, if it tells
+/// one; or the three numbers of a refused call.
+pub type Told = Result<([u64; 3], Option<FlowKind>), [u64; 3]>;
 
 /// What a call of the C interface returns and the eight entries that it
 /// writes, as the description of that interface has them.
 pub fn reply(told: Told, length: usize) -> (u8, Entries) {
-    let (status, [first, second, third]) = match told {
-        Ok(numbers) => (1, numbers),
-        Err(numbers) => (0, numbers),
+    let (status, [first, second, third], kind) = match told {
+        Ok((numbers, kind)) => (1, numbers, kind.map_or(0, kind_entry)),
+        Err(numbers) => (0, numbers, 0),
     };
-    (status, [first, second, third, length as u64, 0, 0, 0, 0])
+    (status, [first, second, third, length as u64, kind, 0, 0, 0])
 }
 
-/// The three numbers of an answer.
+/// The kinds of flow.
+pub const KINDS: [FlowKind; 2] = [FlowKind::Requests, FlowKind::Recalls];
+
+/// Entry 4 of a call that tells this kind.
+pub fn kind_entry(kind: FlowKind) -> u64 {
+    match kind {
+        FlowKind::Requests => 1,
+        FlowKind::Recalls => 2,
+    }
+}
+
+/// What an answer tells.
 pub fn of_answer(answer: Answer) -> Told {
     match answer {
         Answer::Accepted {
             dispositions,
             cents,
             records,
-        } => Ok([dispositions, cents, records]),
+            kind,
+        } => Ok(([dispositions, cents, records], Some(kind))),
         Answer::Refused {
             number,
             record,
@@ -98,7 +111,7 @@ pub fn of_answer(answer: Answer) -> Told {
 /// The value of a field, or a refusal that is its number alone.
 fn of_field(value: Result<u64, u8>) -> Told {
     match value {
-        Ok(value) => Ok([value, 0, 0]),
+        Ok(value) => Ok(([value, 0, 0], None)),
         Err(number) => Err([number.into(), 0, 0]),
     }
 }

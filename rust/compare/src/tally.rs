@@ -5,22 +5,32 @@ use std::fmt;
 use oracle::tally::NUMBERS;
 
 use crate::calls::Outcome;
-use crate::entry::Entry;
+use crate::entry::{Answered, Entry};
+use crate::sides::{kind_entry, KINDS};
 
 /// The answers to one entry point.
 #[derive(Clone, Copy, Debug, Default, Eq, PartialEq)]
 struct Counts {
-    accepted: u64,
+    /// By entry 4, the kind of flow.
+    accepted: [u64; 3],
+    /// By entry 0, the number.
     refused: [u64; 32],
 }
 
 impl Counts {
-    fn compared(&self) -> u64 {
-        self.accepted + self.refused.iter().sum::<u64>()
+    fn accepted(&self) -> u64 {
+        self.accepted.iter().sum()
     }
 
-    fn of(&self, number: u8) -> u64 {
-        self.refused[usize::from(number)]
+    fn compared(&self) -> u64 {
+        self.accepted() + self.refused.iter().sum::<u64>()
+    }
+
+    fn of(&self, answered: Answered) -> u64 {
+        match answered {
+            Answered::Accepted(kind) => self.accepted[kind_entry(kind) as usize],
+            Answered::Refused(number) => self.refused[usize::from(number)],
+        }
     }
 }
 
@@ -29,17 +39,17 @@ impl Counts {
 pub struct Tally([Counts; 9]);
 
 impl Tally {
-    /// Counts a call on which both sides agree. A number far above those of
-    /// document 01's table is counted under 0.
+    /// Counts a call on which both sides agree. A kind or a number far above
+    /// those of the documents is counted under 0.
     pub fn add(&mut self, entry: Entry, outcome: &Outcome) {
         let counts = &mut self.0[entry.index()];
-        if outcome.status == 1 {
-            counts.accepted += 1;
-            return;
-        }
-        let number = outcome.after.entries[0] as usize;
-        let known = number < counts.refused.len();
-        counts.refused[if known { number } else { 0 }] += 1;
+        let [number, _, _, _, kind, ..] = outcome.after.entries;
+        let (counts, index) = match outcome.status {
+            1 => (&mut counts.accepted[..], kind as usize),
+            _ => (&mut counts.refused[..], number as usize),
+        };
+        let known = index < counts.len();
+        counts[if known { index } else { 0 }] += 1;
     }
 
     /// The number of calls compared.
@@ -47,23 +57,26 @@ impl Tally {
         self.0.iter().map(Counts::compared).sum()
     }
 
-    /// The numbers that an entry point can give and has not given.
-    pub fn missed(&self) -> Vec<(Entry, u8)> {
+    /// The kinds and the numbers that an entry point can give and has not
+    /// given.
+    pub fn missed(&self) -> Vec<(Entry, Answered)> {
         let mut missed = Vec::new();
-        for (entry, counts) in Entry::ALL.iter().zip(&self.0) {
-            let never = |number: &u8| entry.gives(*number) && counts.of(*number) == 0;
-            missed.extend(
-                NUMBERS
-                    .into_iter()
-                    .filter(never)
-                    .map(|number| (*entry, number)),
-            );
+        for (&entry, counts) in Entry::ALL.iter().zip(&self.0) {
+            let never = |answered: &Answered| entry.gives(*answered) && counts.of(*answered) == 0;
+            let answers = answers().filter(never);
+            missed.extend(answers.map(|answered| (entry, answered)));
         }
         missed
     }
 }
 
-/// A column for each entry point; `-` where it can give no such number.
+/// All kinds and numbers.
+fn answers() -> impl Iterator<Item = Answered> {
+    let accepted = KINDS.map(Answered::Accepted);
+    accepted.into_iter().chain(NUMBERS.map(Answered::Refused))
+}
+
+/// A column for each entry point; `-` where it can give no such answer.
 impl fmt::Display for Tally {
     fn fmt(&self, f: &mut fmt::Formatter<'_>) -> fmt::Result {
         let mut row = |title: &str, cell: &dyn Fn(Entry, &Counts) -> String| {
@@ -75,11 +88,11 @@ impl fmt::Display for Tally {
         };
         row("", &|entry, _| entry.name().to_string())?;
         row("compared", &|_, counts| counts.compared().to_string())?;
-        row("accepted", &|_, counts| counts.accepted.to_string())?;
-        for number in NUMBERS {
-            row(&format!("refused {number}"), &|entry, counts| match (
-                entry.gives(number),
-                counts.of(number),
+        row("accepted", &|_, counts| counts.accepted().to_string())?;
+        for answered in answers() {
+            row(&answered.to_string(), &|entry, counts| match (
+                entry.gives(answered),
+                counts.of(answered),
             ) {
                 (false, 0) => String::from("-"),
                 (_, count) => count.to_string(),

@@ -2,6 +2,7 @@
 
 use oracle::find::find;
 use oracle::generate::{disposition_number, draft, flow_to_amend, Draft, Size};
+use oracle::reader::read;
 use oracle::record::{field_mut, record_type, Record};
 use oracle::rng::Rng;
 
@@ -51,10 +52,14 @@ fn free(record: &Record) -> &'static [(usize, usize)] {
 #[test]
 fn the_dispositions_are_those_found() {
     let mut lengths = [0; 13];
+    let mut recalls = 0;
     for index in 0..10_000 {
         let flow = right_flow(index);
         let given = mav::dispositions(&flow).expect("a right flow");
         assert_eq!(Ok(given.accepted()), mav::read(&flow));
+        // Numbers and kind, by the line of the small program.
+        assert_eq!(given.accepted().to_string(), read(&flow).to_string());
+        recalls += u32::from(given.accepted().kind == mav::FlowKind::Recalls);
         let count = given.len() as u64;
         assert_eq!(count, given.accepted().dispositions);
         assert_eq!(given.clone().count() as u64, count);
@@ -72,19 +77,23 @@ fn the_dispositions_are_those_found() {
     }
     // Every number of records that a disposition can have.
     assert!(lengths[7..].iter().all(|&count| count > 100), "{lengths:?}");
+    assert!((4_000..6_000).contains(&recalls), "{recalls}");
 }
 
 /// A flow that is damaged is refused as by reading, and one that is not gives
 /// all of its bytes but header and trailer.
 #[test]
 fn damaged_flows_give_their_refusal() {
-    let mut refused = 0;
+    let (mut refused, mut mixed) = (0, 0);
     for index in 0..20_000 {
         let flow = flow_to_amend(&mut Rng::for_case(SEED, index));
         match mav::dispositions(&flow) {
             Err(refusal) => {
                 assert_eq!(mav::read(&flow), Err(refusal));
+                let line = format!("{}: {}", read(&flow), refusal.reason);
+                assert_eq!(refusal.to_string(), line);
                 refused += 1;
+                mixed += u32::from(refusal.reason == mav::Reason::OtherKind);
             }
             Ok(given) => {
                 assert_eq!(mav::read(&flow), Ok(given.accepted()));
@@ -94,12 +103,14 @@ fn damaged_flows_give_their_refusal() {
         }
     }
     assert!((2_000..8_000).contains(&refused), "{refused}");
+    assert!(mixed > 20, "{mixed}");
 }
 
 /// A vector is left with what stands in a slice before the blanks.
 #[test]
 fn a_vector_is_shortened_to_the_flow_left() {
-    let mut withdrawn = 0;
+    // Of requests, of recalls.
+    let mut withdrawn = [0; 2];
     for index in 0..20_000 {
         let mut rng = Rng::for_case(SEED, index);
         let before = flow_to_amend(&mut rng);
@@ -117,9 +128,12 @@ fn a_vector_is_shortened_to_the_flow_left() {
                 let (front, blanks) = memory.split_at(left.length);
                 assert_eq!(flow, front);
                 assert!(!blanks.is_empty() && blanks.iter().all(|&byte| byte == b' '));
-                withdrawn += 1;
+                withdrawn[usize::from(left.accepted.kind == mav::FlowKind::Recalls)] += 1;
             }
         }
     }
-    assert!(withdrawn > 5_000, "{withdrawn}");
+    assert!(
+        withdrawn.iter().all(|&count| count > 2_500),
+        "{withdrawn:?}"
+    );
 }

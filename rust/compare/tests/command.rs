@@ -15,7 +15,9 @@ fn the_last_line_tells_how_many_agree() {
     let last = text.lines().last().unwrap();
     let cases: u64 = last.strip_suffix(" cases agree").unwrap().parse().unwrap();
     assert!((3_000..3_020).contains(&cases));
-    assert!(text.contains("\nrefused 21 "));
+    for row in ["requests ", "recalls ", "refused 21 ", "refused 22 "] {
+        assert!(text.contains(&format!("\n{row}")), "{text}");
+    }
     assert_eq!(compare(&["7", "3000"]).stdout, text.into_bytes());
 }
 

@@ -43,6 +43,11 @@ fn check(report: &str, most: usize, texts: &[&str]) {
     assert!(last.contains("to repeat it: compare 1 "), "{report}");
 }
 
+/// Entry 4 of a call on a flow of requests.
+const REQUESTS: u64 = 1;
+/// The same of recalls.
+const RECALLS: u64 = 2;
+
 fn records(flow: &mut [u8]) -> &mut [Record] {
     flow.as_chunks_mut::<RECORD_LEN>().0
 }
@@ -118,9 +123,18 @@ fn copies_twice(entry: Entry, flow: &mut [u8], output: &mut [u8], answer: &mut E
         write_digits(field_mut(record, 4, 10), k + 1);
     }
     answer[1] = answer[1] - next.cents + block.cents;
+    let (first, last) = total_of(answer);
     let trailer = records(flow).last_mut().unwrap();
-    write_digits(field_mut(trailer, 53, 67), answer[1]);
+    write_digits(field_mut(trailer, first, last), answer[1]);
     status
+}
+
+/// Where the trailer's total stands in a flow of the kind told.
+fn total_of(answer: &Entries) -> (usize, usize) {
+    match answer[4] {
+        RECALLS => (68, 82),
+        _ => (53, 67),
+    }
 }
 
 #[test]
@@ -159,21 +173,23 @@ fn a_refused_call_writes() {
     check(&found_in_both(&writes_early), 21, &differs);
 }
 
-/// Leaves the last entry of the answer as it was.
-fn forgets_a_zero(entry: Entry, input: &mut [u8], output: &mut [u8], answer: &mut Entries) -> u8 {
-    let mark = answer[7];
-    let status = second(entry, input, output, answer);
-    answer[7] = mark;
-    status
-}
-
+/// Leaves an entry of the answer as it was: one that is 0 for a field.
 #[test]
 fn a_zero_entry_is_forgotten() {
     let differs = [
         "field of 6 bytes",
         "differs at mav_digits(), field at offset ",
     ];
-    check(&found(&forgets_a_zero), 1, &differs);
+    for index in 1..8 {
+        let forgets_a_zero: Side =
+            &|entry, input: &mut [u8], output: &mut [u8], answer: &mut Entries| {
+                let mark = answer[index];
+                let status = second(entry, input, output, answer);
+                answer[index] = mark;
+                status
+            };
+        check(&found(forgets_a_zero), 1, &differs);
+    }
 }
 
 /// Leaves the bytes after the flow as they were.
@@ -286,4 +302,136 @@ fn a_request_list_is_printed_by_its_items() {
         report.contains("proved library: refused 7 record "),
         "{report}"
     );
+}
+
+/// Answers requests for a recall.
+fn tells_requests(entry: Entry, input: &mut [u8], output: &mut [u8], answer: &mut Entries) -> u8 {
+    let status = second(entry, input, output, answer);
+    if answer[4] == RECALLS {
+        answer[4] = REQUESTS;
+    }
+    status
+}
+
+#[test]
+fn a_recall_is_told_as_requests() {
+    let report = found(&tells_requests);
+    check(
+        &report,
+        14,
+        &["proved library: accepted", " kind recalls, "],
+    );
+    let second = report.lines().find(|line| line.starts_with("second "));
+    assert!(second.unwrap().contains(" kind requests, "), "{report}");
+}
+
+/// Only the ledger tells: its list opens with Q.
+#[test]
+fn a_recall_is_told_as_requests_by_both() {
+    let report = found_in_both(&tells_requests);
+    check(&report, 14, &["first flow", "proved library: accepted"]);
+    let ledger = report.lines().find(|line| line.starts_with("ledger: "));
+    assert!(ledger.unwrap().contains(" kind recalls, "), "{report}");
+}
+
+/// Tells a kind where none is due: of a disposition found, and in a refusal.
+#[test]
+fn a_kind_is_told_where_none_is_due() {
+    for (found_by, status, differs) in [
+        (Entry::Find { k: 0 }, 1, "second program: accepted first "),
+        (Entry::Read, 0, "second program: refused "),
+    ] {
+        let wrong: Side = &|entry, input: &mut [u8], output: &mut [u8], answer: &mut Entries| {
+            let told = second(entry, input, output, answer);
+            if (entry.index(), told) == (found_by.index(), status) {
+                answer[4] = REQUESTS;
+            }
+            told
+        };
+        check(&found(wrong), 14, &[differs, ", 0, 1, 0, 0, 0]\n"]);
+    }
+}
+
+/// Writes the total of a change where requests have it.
+fn changes_requests(entry: Entry, flow: &mut [u8], output: &mut [u8], answer: &mut Entries) -> u8 {
+    let before = flow.to_vec();
+    let status = second(entry, flow, output, answer);
+    if let (Entry::Change { .. }, 1, RECALLS) = (entry, status, answer[4]) {
+        let place = flow.len() - RECORD_LEN;
+        flow[place..].copy_from_slice(&before[place..]);
+        let trailer = records(flow).last_mut().unwrap();
+        write_digits(field_mut(trailer, 53, 67), answer[1]);
+    }
+    status
+}
+
+#[test]
+fn a_recall_is_changed_at_the_total_of_requests() {
+    let differs = [
+        "differs at mav_change(k ",
+        "proved library: accepted",
+        " kind recalls, ",
+        "flow afterwards, byte ",
+    ];
+    check(&found(&changes_requests), 14, &differs);
+}
+
+/// Only what the flow left says of itself tells.
+#[test]
+fn a_recall_is_changed_at_the_total_of_requests_by_both() {
+    let report = found_in_both(&changes_requests);
+    let differs = [
+        "call 1 on it: mav_change(k ",
+        "proved library: refused 13 record ",
+        " kind recalls, ",
+    ];
+    check(&report, 28, &differs);
+    assert!(!report.contains("call 2"), "{report}");
+}
+
+/// Reads every disposition as one of the first one's kind.
+fn accepts_both(entry: Entry, flow: &mut [u8], output: &mut [u8], answer: &mut Entries) -> u8 {
+    let status = second(entry, flow, output, answer);
+    if (entry, status, answer[0]) != (Entry::Read, 0, 22) {
+        return status;
+    }
+    let mut flow = flow.to_vec();
+    let openings = records(&mut flow).iter_mut();
+    let mut openings = openings.filter(|record| record_type(record) == *b"14");
+    let first = *openings.next().unwrap();
+    for opening in openings {
+        field_mut(opening, 29, 33).copy_from_slice(field(&first, 29, 33));
+        field_mut(opening, 47, 47).copy_from_slice(field(&first, 47, 47));
+    }
+    second(entry, &mut flow, output, answer)
+}
+
+#[test]
+fn a_mixed_flow_is_accepted() {
+    let differs = [
+        "differs at mav_read()",
+        "proved library: refused 22 record ",
+        "second program: accepted dispositions 2 ",
+    ];
+    check(&found(&accepts_both), 26, &differs);
+}
+
+/// Holds a causale against the flow's kind before it asks whether it is one.
+fn gives_22_first(entry: Entry, flow: &mut [u8], output: &mut [u8], answer: &mut Entries) -> u8 {
+    let status = second(entry, flow, output, answer);
+    // The first record 14 is record 2.
+    if let (Entry::Read, 0, [6, (3..), 29, ..]) = (entry, status, &*answer) {
+        answer[0] = 22;
+    }
+    status
+}
+
+#[test]
+fn number_22_comes_before_6() {
+    let differs = [
+        "proved library: refused 6 record ",
+        " position 29, entries [6, ",
+        "second program: refused 22 record ",
+    ];
+    check(&found(&gives_22_first), 26, &differs);
 }

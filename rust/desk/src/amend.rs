@@ -9,6 +9,7 @@ use mav::{Accepted, Dispositions, Refusal};
 use crate::euro::{grouped, shown as euro};
 use crate::failure::{Failure, Outcome};
 use crate::input::copy;
+use crate::kind::{counted, one};
 use crate::name::shown;
 use crate::output::{confirm, saved};
 use crate::refusal;
@@ -31,7 +32,8 @@ pub fn amount(named: &Path, k: u64, cents: u64, yes: bool, out: &mut impl Write)
     let left = mav::change(&mut amended, k, cents).map_err(|refusal| open.refused(&refusal, k))?;
     let found = mav::find(&flow, k).map_err(|refusal| open.refused(&refusal, k))?;
     let request = Request::of(found);
-    writeln!(out, "{}: {}\n", shown(named), request.named())?;
+    let kind = open.numbers().kind;
+    writeln!(out, "{}: {}\n", shown(named), request.named(kind))?;
     if amended == flow {
         writeln!(
             out,
@@ -40,42 +42,38 @@ pub fn amount(named: &Path, k: u64, cents: u64, yes: bool, out: &mut impl Write)
         )?;
         return Ok(());
     }
-    let amount = format!("request {k}, amount");
+    let amount = format!("{} {k}, amount", one(kind));
     let rows = [[amount, euro(request.cents), euro(cents)]];
     open.save(&rows, left, &amended, yes, out)
 }
 
-/// Takes requests out, all or none. The numbers are those of the flow as it is.
+/// Takes requests out, all or none. The numbers are those of the flow as it is, rising.
 pub fn withdraw(named: &Path, numbers: &[u64], yes: bool, out: &mut impl Write) -> Outcome {
-    let mut falling = numbers.to_vec();
-    falling.sort_unstable_by(|a, b| b.cmp(a));
-    if let Some(twice) = falling.windows(2).find(|pair| pair[0] == pair[1]) {
-        return Err(Failure::trouble(format!(
-            "request {} is named twice.",
-            twice[0]
-        )));
-    }
     let (target, flow) = locked(named)?;
     let open = Open::new(named, &target, &flow)?;
     let mut amended = copy(&flow)?;
     let mut left = open.numbers();
     // From the last one on: a withdrawal gives later requests new numbers, and the earlier ones keep theirs.
-    for &k in &falling {
+    for &k in numbers.iter().rev() {
         left = mav::withdraw(&mut amended, k).map_err(|refusal| open.refused(&refusal, k))?;
     }
-    writeln!(out, "{}: to be withdrawn\n\n{}", shown(named), titles())?;
+    let gone = counted(numbers.len() as u64, left.kind);
+    writeln!(
+        out,
+        "{}: {gone} to be withdrawn\n\n{}",
+        shown(named),
+        titles()
+    )?;
     for request in open.requests.clone().map(Request::of) {
-        if falling.binary_search_by(|k| request.number.cmp(k)).is_ok() {
+        if numbers.binary_search(&request.number).is_ok() {
             writeln!(out, "{}", request.row())?;
         }
     }
     writeln!(out)?;
-    let first = falling.last().copied().unwrap_or(0);
+    let first = numbers.first().copied().unwrap_or(0);
     if first <= left.dispositions {
-        writeln!(
-            out,
-            "The requests left are numbered anew from {first} on.\n"
-        )?;
+        let kind = left.kind;
+        writeln!(out, "The {kind} left are numbered anew from {first} on.\n")?;
     }
     open.save(&[], left, &amended, yes, out)
 }
@@ -109,8 +107,8 @@ impl<'a> Open<'a> {
 
     /// What the clerk is told where the library refuses the amendment of request `k`.
     fn refused(&self, refusal: &Refusal, k: u64) -> Failure {
-        let count = self.numbers().dispositions;
-        refusal::of_request(refusal, self.named, k, count, "; nothing was changed")
+        let also = "; nothing was changed";
+        refusal::of_request(refusal, self.named, k, self.numbers(), also)
     }
 
     /// Shows what will change, asks, and saves.
@@ -142,7 +140,7 @@ fn trailer(before: Accepted, after: Accepted) -> [[String; 3]; 3] {
         [what.to_owned(), shown(before), shown(after)]
     };
     [
-        row("trailer, requests", &|numbers| {
+        row(&format!("trailer, {}", before.kind), &|numbers| {
             grouped(numbers.dispositions)
         }),
         row("trailer, total", &|numbers| euro(numbers.cents)),

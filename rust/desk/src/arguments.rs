@@ -5,8 +5,10 @@ use std::path::PathBuf;
 
 use crate::euro;
 use crate::failure::{Failure, Outcome};
+use crate::header;
 use crate::help;
 use crate::name::told;
+use crate::recall::Recall;
 
 /// What a command line asks for.
 pub enum Command {
@@ -35,15 +37,32 @@ pub enum Saving {
     Withdraw { flow: PathBuf, numbers: Vec<u64> },
     List { flow: PathBuf, list: PathBuf },
     Write { list: PathBuf, flow: PathBuf },
+    Recall(Recall),
 }
+
+/// The options that have a value, and what it is.
+const VALUED: [(&str, &str); 3] = [
+    ("--find", "a text"),
+    ("--name", "a name"),
+    ("--date", "a date"),
+];
 
 /// The words after a command's name: its options, which may stand anywhere, and the others in order.
 #[derive(Default)]
 struct Words {
     operands: Vec<OsString>,
     yes: bool,
-    find: Option<String>,
+    values: Vec<(&'static str, OsString)>,
     help: bool,
+}
+
+impl Words {
+    /// The value of an option; where it is there twice, the last one.
+    fn value(&self, option: &str) -> Option<&OsStr> {
+        let mut values = self.values.iter().rev();
+        let found = values.find(|(name, _)| *name == option);
+        found.map(|(_, value)| value.as_os_str())
+    }
 }
 
 /// The page and the options of a command.
@@ -55,6 +74,7 @@ fn known(name: &OsStr) -> Outcome<(&'static str, &'static [&'static str])> {
         Some("withdraw") => (help::WITHDRAW, &["--yes"]),
         Some("list") => (help::LIST, &["--yes"]),
         Some("write") => (help::WRITE, &["--yes"]),
+        Some("recall") => (help::RECALL, &["--yes", "--name", "--date"]),
         Some("explain") => (help::EXPLAIN, &[]),
         Some("help") => (help::ALL, &[]),
         _ => {
@@ -111,15 +131,12 @@ fn sorted(name: &str, options: &[&str], rest: &[OsString]) -> Outcome<Words> {
             Some("--") => words.operands.extend(rest.by_ref().cloned()),
             Some("--help" | "-h") => words.help = true,
             Some("--yes") if options.contains(&"--yes") => words.yes = true,
-            Some("--find") if options.contains(&"--find") => {
-                words.find = Some(text(rest.next().and_then(|text| text.to_str()))?);
-            }
-            Some(option) if options.contains(&"--find") && option.starts_with("--find=") => {
-                words.find = Some(text(option.strip_prefix("--find="))?);
-            }
             Some(option) if option.starts_with("--") => {
-                let option = told(option.as_ref());
-                return Err(Failure::trouble(format!("{name} has no option {option}.")));
+                let found = valued(options, option, &mut rest)?;
+                words.values.push(found.ok_or_else(|| {
+                    let option = told(option.as_ref());
+                    Failure::trouble(format!("{name} has no option {option}."))
+                })?);
             }
             _ => words.operands.push(word.clone()),
         }
@@ -127,39 +144,53 @@ fn sorted(name: &str, options: &[&str], rest: &[OsString]) -> Outcome<Words> {
     Ok(words)
 }
 
-/// The text of `--find`.
-fn text(word: Option<&str>) -> Outcome<String> {
-    match word {
-        Some(text) if !text.is_empty() => Ok(text.to_owned()),
-        _ => Err(Failure::trouble("--find needs a text.")),
+/// An option with its value, which stands after a sign `=` or is the next word; nothing where the word is no
+/// such option.
+fn valued<'a>(
+    options: &[&str],
+    word: &str,
+    rest: &mut impl Iterator<Item = &'a OsString>,
+) -> Outcome<Option<(&'static str, OsString)>> {
+    let (option, behind) = match word.split_once('=') {
+        Some((option, behind)) => (option, Some(behind.into())),
+        None => (word, None),
+    };
+    let mut known = VALUED.iter().filter(|(name, _)| options.contains(name));
+    let Some((name, what)) = known.find(|(name, _)| *name == option) else {
+        return Ok(None);
+    };
+    match behind.or_else(|| rest.next().cloned()) {
+        Some(value) => Ok(Some((name, value))),
+        None => Err(Failure::trouble(format!("{name} needs {what}."))),
     }
 }
 
 /// The command of this name on these words, or nothing where there are too few or too many.
 fn command(name: &str, words: Words) -> Outcome<Option<Command>> {
     let paths = |words: &[OsString]| words.iter().map(PathBuf::from).collect();
+    let find = words.value("--find").map(text).transpose()?;
     Ok(Some(match (name, &words.operands[..]) {
         ("check", [_, ..]) => Command::Check(paths(&words.operands)),
         ("show", [flow]) => Command::Table {
             flow: flow.into(),
-            wanted: words.find,
+            wanted: find,
         },
-        ("show", [flow, k]) if words.find.is_none() => Command::Request {
+        ("show", [flow, k]) if find.is_none() => Command::Request {
             flow: flow.into(),
             k: request(k)?,
         },
         ("explain", []) => Command::Explain(None),
         ("explain", [number]) => Command::Explain(Some(parsed(number, euro::number, "a number")?)),
-        (_, operands) => {
+        _ => {
             let yes = words.yes;
-            return Ok(saving(name, operands)?.map(|saving| Command::Save { saving, yes }));
+            return Ok(saving(name, &words)?.map(|saving| Command::Save { saving, yes }));
         }
     }))
 }
 
 /// The same of the commands that save.
-fn saving(name: &str, operands: &[OsString]) -> Outcome<Option<Saving>> {
-    Ok(Some(match (name, operands) {
+fn saving(name: &str, words: &Words) -> Outcome<Option<Saving>> {
+    Ok(Some(match (name, &words.operands[..]) {
         ("amount", [flow, k, euros]) => Saving::Amount {
             flow: flow.into(),
             k: request(k)?,
@@ -167,7 +198,7 @@ fn saving(name: &str, operands: &[OsString]) -> Outcome<Option<Saving>> {
         },
         ("withdraw", [flow, numbers @ ..]) if !numbers.is_empty() => Saving::Withdraw {
             flow: flow.into(),
-            numbers: numbers.iter().map(|k| request(k)).collect::<Outcome<_>>()?,
+            numbers: requests(numbers)?,
         },
         ("list", [flow, list]) => Saving::List {
             flow: flow.into(),
@@ -177,8 +208,36 @@ fn saving(name: &str, operands: &[OsString]) -> Outcome<Option<Saving>> {
             list: list.into(),
             flow: flow.into(),
         },
+        ("recall", [sent, new, numbers @ ..]) if !numbers.is_empty() => Saving::Recall(Recall {
+            sent: sent.into(),
+            new: new.into(),
+            numbers: requests(numbers)?,
+            name: words.value("--name").map(header::name).transpose()?,
+            date: words.value("--date").map(header::date).transpose()?,
+        }),
         _ => return Ok(None),
     }))
+}
+
+/// The text of `--find`.
+fn text(word: &OsStr) -> Outcome<String> {
+    match word.to_str() {
+        Some(text) if !text.is_empty() => Ok(text.to_owned()),
+        _ => Err(Failure::trouble("--find needs a text.")),
+    }
+}
+
+/// The numbers of requests, rising, each once.
+fn requests(words: &[OsString]) -> Outcome<Vec<u64>> {
+    let mut numbers: Vec<u64> = words.iter().map(|k| request(k)).collect::<Outcome<_>>()?;
+    numbers.sort_unstable();
+    match numbers.windows(2).find(|pair| pair[0] == pair[1]) {
+        Some(twice) => Err(Failure::trouble(format!(
+            "number {} is named twice.",
+            twice[0]
+        ))),
+        None => Ok(numbers),
+    }
 }
 
 /// The number of a request, with zeros in front or without: both are seen, in a flow and in the table.

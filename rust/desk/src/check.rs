@@ -10,11 +10,12 @@ use std::sync::atomic::{AtomicUsize, Ordering};
 use std::sync::mpsc::{self, RecvTimeoutError, Sender};
 use std::thread;
 
-use mav::{Accepted, Reason, Refusal};
+use mav::{Accepted, FlowKind, Reason, Refusal};
 
 use crate::euro::{grouped, shown as euro};
 use crate::failure::{Failure, Outcome};
 use crate::input::{read_into, Unread};
+use crate::kind;
 use crate::name::{is_no_flow, shown};
 use crate::output::counted;
 use crate::progress::Progress;
@@ -65,9 +66,9 @@ fn table<'a>(
 ) -> Outcome {
     let names = rows.clone().map(|(path, _)| shown(path).chars().count());
     let width = names.max().unwrap_or(0).max("FLOW".len());
-    let titles = cells("REQUESTS", "TOTAL", "RECORDS");
+    let titles = cells("KIND", "COUNT", "TOTAL", "RECORDS");
     writeln!(out, "{:<width$}{titles}", "FLOW")?;
-    let mut sum = Sum::default();
+    let mut sum = Sum::new();
     for (path, verdict) in rows {
         sum.add(verdict);
         writeln!(out, "{:<width$}{}", shown(path), row(verdict))?;
@@ -80,6 +81,7 @@ fn table<'a>(
 fn row(verdict: &Verdict) -> String {
     match verdict {
         Verdict::Accepted(numbers) => cells(
+            &numbers.kind.to_string(),
             &grouped(numbers.dispositions),
             &euro(numbers.cents),
             &grouped(numbers.records),
@@ -89,43 +91,84 @@ fn row(verdict: &Verdict) -> String {
     }
 }
 
-fn cells(requests: &str, total: &str, records: &str) -> String {
-    format!("{requests:>11}{total:>23}{records:>11}")
+fn cells(kind: &str, count: &str, total: &str, records: &str) -> String {
+    format!("   {kind:<8}{count:>10}{total:>22}{records:>11}")
 }
 
-/// All flows together.
-#[derive(Default)]
+/// All flows together. What is asked of tenants and what is recalled are never added up to one sum.
 struct Sum {
     accepted: u64,
-    requests: u64,
-    cents: u128,
+    kinds: Vec<OfKind>,
     refused: u64,
     unread: u64,
 }
 
+/// The accepted flows of a kind.
+struct OfKind {
+    kind: FlowKind,
+    count: u64,
+    cents: u128,
+}
+
+impl OfKind {
+    fn none(kind: FlowKind) -> OfKind {
+        OfKind {
+            kind,
+            count: 0,
+            cents: 0,
+        }
+    }
+}
+
 impl Sum {
+    /// No flow yet. Requests come first, whatever is met first.
+    fn new() -> Sum {
+        Sum {
+            accepted: 0,
+            kinds: vec![OfKind::none(FlowKind::Requests)],
+            refused: 0,
+            unread: 0,
+        }
+    }
+
     fn add(&mut self, verdict: &Verdict) {
         match verdict {
             Verdict::Accepted(numbers) => {
                 self.accepted += 1;
-                self.requests += numbers.dispositions;
-                self.cents += u128::from(numbers.cents);
+                let sum = self.of_kind(numbers.kind);
+                sum.count += numbers.dispositions;
+                sum.cents += u128::from(numbers.cents);
             }
             Verdict::Refused(..) => self.refused += 1,
             Verdict::Unread(_) => self.unread += 1,
         }
+    }
+
+    fn of_kind(&mut self, kind: FlowKind) -> &mut OfKind {
+        let met = self.kinds.iter().position(|sum| sum.kind == kind);
+        let index = met.unwrap_or_else(|| {
+            self.kinds.push(OfKind::none(kind));
+            self.kinds.len() - 1
+        });
+        &mut self.kinds[index]
+    }
+
+    /// The kinds that there are, each as `2 requests, 830,50 euro`.
+    fn told(&self) -> String {
+        let met = |sum: &&OfKind| sum.count > 0 || self.accepted == 0;
+        let told = |sum: &OfKind| {
+            let counted = kind::counted(sum.count, sum.kind);
+            format!("{counted}, {} euro", euro(sum.cents))
+        };
+        let kinds: Vec<String> = self.kinds.iter().filter(met).map(told).collect();
+        kinds.join("; ")
     }
 }
 
 impl fmt::Display for Sum {
     fn fmt(&self, f: &mut fmt::Formatter<'_>) -> fmt::Result {
         let flows = counted(self.accepted, "flow", "flows");
-        let requests = counted(self.requests, "request", "requests");
-        write!(
-            f,
-            "{flows} accepted: {requests}, {} euro.",
-            euro(self.cents)
-        )?;
+        write!(f, "{flows} accepted: {}.", self.told())?;
         if self.refused > 0 {
             write!(f, " {} refused.", grouped(self.refused))?;
         }

@@ -12,8 +12,26 @@ pub fn number(number: u64, out: &mut impl Write) -> Outcome {
         Some(reason) => row(reason, out),
         None if number == 19 => Err(Failure::trouble("number 19 is not used.")),
         None => Err(Failure::trouble(format!(
-            "there is no number {number}; the numbers are 1 to 18, 20 and 21."
+            "there is no number {number}; the numbers are {}.",
+            all_numbers()
         ))),
+    }
+}
+
+/// The numbers that there are, in runs, as `1 to 18 and 20 to 22`.
+fn all_numbers() -> String {
+    let numbers: Vec<u64> = Reason::ALL.iter().map(|reason| reason.number()).collect();
+    let runs = numbers.chunk_by(|a, b| a + 1 == *b);
+    let mut runs: Vec<String> = runs
+        .map(|run| match run {
+            [first, .., last] => format!("{first} to {last}"),
+            _ => run.iter().map(u64::to_string).collect(),
+        })
+        .collect();
+    let last = runs.pop().unwrap_or_default();
+    match runs.is_empty() {
+        true => last,
+        false => format!("{} and {last}", runs.join(", ")),
     }
 }
 
@@ -41,7 +59,7 @@ fn row(reason: Reason, out: &mut impl Write) -> Outcome {
     Ok(())
 }
 
-/// The place that a refusal by the number gives (document 01, "Numbers a clerk may see").
+/// The place that a refusal by the number gives (document 01, "Numbers a clerk may see"; document 02 for 22).
 fn place(reason: Reason) -> Option<&'static str> {
     Some(match reason {
         Reason::Byte => "the record, and the position of the byte",
@@ -58,6 +76,7 @@ fn place(reason: Reason) -> Option<&'static str> {
         Reason::Total => "the trailer, position 53 or 68",
         Reason::RecordCount => "the trailer, position 83",
         Reason::Item => "the item of the list, counted from 1",
+        Reason::OtherKind => "the record, position 29",
         Reason::Length
         | Reason::NoSuchDisposition
         | Reason::AmountTooLarge
@@ -90,6 +109,7 @@ fn remedy(reason: Reason) -> Option<&'static str> {
         Reason::OnlyDisposition => "A flow has at least one request. Keep the flow back instead.",
         Reason::Item => "The list was cut short or is no list. Make it again from its flow.",
         Reason::Room => "Programs that use the library see it. mavdesk makes the room.",
+        Reason::OtherKind => "The flow has new requests and recalls. Have it sent as two.",
         _ => return None,
     })
 }

@@ -12,6 +12,7 @@ SYNOPSIS
     mavdesk withdraw FILE K..       take requests out
     mavdesk list FLOW LIST          write the request list of a flow
     mavdesk write LIST FLOW         write the flow of a request list
+    mavdesk recall SENT OUT K..     recall requests of a flow already sent
     mavdesk explain [N]             say what a refusal's number means
 
 DESCRIPTION
@@ -19,7 +20,8 @@ DESCRIPTION
     change is made by a library whose rules are proved. No file is ever written
     to in place: after an amendment either the old flow or the new one stands
     under its name, whole, and the old one is kept as NAME.before. A request is
-    what the standard calls a disposition.
+    what the standard calls a disposition. A flow holds requests, or recalls of
+    requests already sent: what is said here of requests goes for recalls too.
 
     The commands that save ask first, and with --yes they do not; show has
     --find TEXT. mavdesk COMMAND --help tells more. A word -- ends the options.
@@ -37,9 +39,10 @@ SYNOPSIS
     mavdesk check FILE..
 
 DESCRIPTION
-    Prints a line for each flow: its name, its requests, their total in euro and
-    its records; or why it is refused. Under the lines every refused record is
-    shown below a ruler, with the position marked. The flows are judged on all
+    Prints a line for each flow: its name, whether it holds requests or recalls,
+    how many, their total in euro and its records; or why it is refused. Under
+    the lines every refused record is shown below a ruler, with the position
+    marked. Requests and recalls are added up apart. The flows are judged on all
     cores at once, and at a terminal a line tells how far it is.
 
     FILE may be a folder: all plain files in it are judged but hidden ones and
@@ -64,10 +67,10 @@ SYNOPSIS
     mavdesk show FILE K
 
 DESCRIPTION
-    Prints a row for each request: its number, when it is due, its amount in
-    euro, the debtor (record 30, positions 11-40) and the creditor's number for
-    it (record 51, positions 11-20). With K it prints request K with all its
-    records, each below a ruler.
+    Prints what the flow holds, and a row for each request: its number, when it
+    is due, its amount in euro, the debtor (record 30, positions 11-40) and the
+    creditor's number for it (record 51, positions 11-20). With K it prints
+    request K with all its records, each below a ruler.
 
 OPTIONS
     --find TEXT
@@ -183,6 +186,45 @@ EXIT STATUS
 
 EXAMPLE
     mavdesk write house-07.list house-07.flow
+";
+
+pub const RECALL: &str = "\
+NAME
+    mavdesk recall - recall requests of a flow already sent
+
+SYNOPSIS
+    mavdesk recall [--yes] [--name NAME] [--date GGMMAA] SENT OUT K..
+
+DESCRIPTION
+    Makes the flow by which the bank recalls requests K of the flow SENT, in the
+    order in which they stand there. It shows the requests and what the recall
+    flow is, asks, and saves it as the file OUT. SENT is only read, and an OUT
+    that is there already is left alone.
+
+    The numbers K are those that mavdesk show SENT prints. In the recall flow
+    they begin with 1 again.
+
+    A bank knows a flow by its sender, its date and its name. The sender is that
+    of SENT; the date or the name, or both, have to be others. At a terminal
+    they are asked for where they are not given.
+
+OPTIONS
+    --name NAME
+        The name of the recall flow, of at most 20 characters.
+
+    --date GGMMAA
+        Its date: day, month and year in two digits each.
+
+    --yes
+        Save without asking.
+
+EXIT STATUS
+    0 if it is saved; 1 if it is refused or not wanted; 2 if a file cannot be
+    read, locked or saved, OUT is there already, the name or the date is missing
+    or a K is named twice.
+
+EXAMPLE
+    mavdesk recall --name RECALL-07 --date 170326 house-07.flow recall.flow 3 17
 ";
 
 pub const EXPLAIN: &str = "\

@@ -88,7 +88,8 @@ pub fn zeros(length: usize) -> Outcome<Vec<u8>> {
     Ok(zeros)
 }
 
-fn with_room(length: usize) -> Outcome<Vec<u8>> {
+/// No bytes yet, and room for so many.
+pub fn with_room(length: usize) -> Outcome<Vec<u8>> {
     let mut bytes = Vec::new();
     match bytes.try_reserve_exact(length) {
         Ok(()) => Ok(bytes),

@@ -1,4 +1,5 @@
-//! The command `mavdesk`: a clerk checks flows of payment requests, looks into them, amends and saves them.
+//! The command `mavdesk`: a clerk checks flows of payment requests, looks into them, amends and saves them,
+//! and recalls requests already sent.
 //!
 //! It is thin. Every change of a flow is made by the proved library, through the bindings `mav`, and every
 //! judgement but one: a file above the ceiling is not read, and `check` gives its number, 1, by itself. This
@@ -13,13 +14,16 @@ mod check;
 mod euro;
 mod explain;
 mod failure;
+mod header;
 mod help;
 mod input;
+mod kind;
 mod list;
 mod lock;
 mod name;
 mod output;
 mod progress;
+mod recall;
 mod record;
 mod refusal;
 mod request;
@@ -63,5 +67,6 @@ fn save(saving: &Saving, yes: bool, out: &mut impl Write) -> Outcome {
         Saving::Withdraw { flow, numbers } => amend::withdraw(flow, numbers, yes, out),
         Saving::List { flow, list } => list::list(flow, list, yes, out),
         Saving::Write { list, flow } => list::write(list, flow, yes, out),
+        Saving::Recall(asked) => recall::recall(asked, yes, out),
     }
 }

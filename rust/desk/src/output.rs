@@ -1,4 +1,4 @@
-//! Standard output, and the question before a save.
+//! Standard output, and the questions to the clerk.
 
 use std::io::{self, BufRead, IsTerminal, Read, Write};
 use std::path::Path;
@@ -10,21 +10,29 @@ use crate::name::shown;
 /// More of an answer is not read.
 const LONGEST_ANSWER: u64 = 1_000;
 
-/// Asks whether to go on, and takes `y` or `yes` for yes. Everything written before is seen first; where
-/// nobody answers, the answer is no.
+/// Asks whether to go on, and takes `y` or `yes` for yes. Where nobody answers, the answer is no.
 pub fn confirm(out: &mut impl Write, question: &str, otherwise: &str) -> Outcome {
-    write!(out, "{question} [y/N] ")?;
+    match ask(out, &format!("{question} [y/N]"))?.as_str() {
+        "y" | "Y" | "yes" | "Yes" | "YES" => Ok(()),
+        _ => Err(Failure::refused(otherwise)),
+    }
+}
+
+/// Asks, and gives the answer without the blanks around it. Everything written before is seen first; where
+/// nobody answers, the answer is empty.
+pub fn ask(out: &mut impl Write, question: &str) -> Outcome<String> {
+    write!(out, "{question} ")?;
     out.flush()?;
-    let mut answer = String::new();
+    let mut answer = Vec::new();
     let stdin = io::stdin();
-    // What is no text, or longer than any answer, is no yes either.
-    let read = stdin.lock().take(LONGEST_ANSWER).read_line(&mut answer);
-    if !stdin.is_terminal() || !answer.ends_with('\n') {
+    let mut line = stdin.lock().take(LONGEST_ANSWER);
+    let read = line.read_until(b'\n', &mut answer);
+    if !stdin.is_terminal() || !answer.ends_with(b"\n") {
         writeln!(out)?;
     }
-    match (read, answer.trim()) {
-        (Ok(_), "y" | "Y" | "yes" | "Yes" | "YES") => Ok(()),
-        _ => Err(Failure::refused(otherwise)),
+    match read {
+        Ok(_) => Ok(String::from_utf8_lossy(&answer).trim().to_owned()),
+        Err(_) => Ok(String::new()),
     }
 }
 

@@ -3,10 +3,11 @@
 use std::fmt::Write;
 use std::path::Path;
 
-use mav::{Dispositions, ItemKind, Reason, Refusal, RECORD_LENGTH};
+use mav::{Accepted, Dispositions, ItemKind, Reason, Refusal, RECORD_LENGTH};
 
 use crate::euro::grouped;
 use crate::failure::{Failure, Outcome};
+use crate::kind::one;
 use crate::name::shown;
 use crate::output::counted;
 use crate::record::{characters, drawn, text, ROW};
@@ -42,21 +43,40 @@ pub fn of_flow(refusal: &Refusal, named: &Path, flow: &[u8]) -> Failure {
     told(refusal, named, &in_flow(refusal, flow))
 }
 
-/// The end of a command that is refused request `k` of an accepted flow with so many, and what else to say.
-pub fn of_request(refusal: &Refusal, named: &Path, k: u64, count: u64, also: &str) -> Failure {
+/// The end of a command that is refused request or recall `k` of an accepted flow with these numbers, and
+/// what else to say.
+pub fn of_request(
+    refusal: &Refusal,
+    named: &Path,
+    k: u64,
+    numbers: Accepted,
+    also: &str,
+) -> Failure {
+    let (count, kind) = (numbers.dispositions, numbers.kind);
+    let one = one(kind);
     let why = match (refusal.reason, count) {
-        (Reason::NoSuchDisposition, 1) => "; it has request 1 alone".to_owned(),
-        (Reason::NoSuchDisposition, _) => format!("; it has the requests 1 to {count}"),
+        (Reason::NoSuchDisposition, 1) => format!("; it has {one} 1 alone"),
+        (Reason::NoSuchDisposition, _) => format!("; it has the {kind} 1 to {count}"),
         (Reason::OnlyDisposition, 2..) => "; all that it has are named".to_owned(),
         _ => String::new(),
     };
     let (named, line) = (shown(named), line(refusal));
-    Failure::refused(format!("request {k} of {named}: {line}{why}{also}."))
+    Failure::refused(format!("{one} {k} of {named}: {line}{why}{also}."))
 }
 
 /// The end of a command whose request list is refused.
 pub fn of_list(refusal: &Refusal, named: &Path, list: &[u8]) -> Failure {
     told(refusal, named, &in_list(refusal, list))
+}
+
+/// The end of a command whose own list is refused, of which the clerk knows the flow alone, and what to do.
+pub fn of_new_flow(refusal: &Refusal, named: &Path, list: &[u8], advice: &str) -> Failure {
+    let title = |kind: &ItemKind| {
+        let record_type = text(&kind.record_type);
+        format!("Record {}, type {record_type}:", refusal.record)
+    };
+    let picture = item(refusal, list, title).unwrap_or_default();
+    told(refusal, named, &format!("{picture}{advice}\n"))
 }
 
 fn told(refusal: &Refusal, named: &Path, picture: &str) -> Failure {
@@ -105,19 +125,27 @@ pub fn in_list(refusal: &Refusal, list: &[u8]) -> String {
     if refusal.reason == Reason::Item {
         return cut_item(number, list);
     }
-    let found = nth(mav::items(list), number)
-        .and_then(|item| Some((ItemKind::of(*item.first()?)?, item.get(1..)?)));
-    let Some((kind, body)) = found else {
-        let items = counted(number - 1, "item", "items");
-        return format!("The list has {items}, and a flow may not end there.\n");
+    let title = |kind: &ItemKind| {
+        format!(
+            "Item {number}, kind {}, at the positions of its record {}:",
+            char::from(kind.kind),
+            text(&kind.record_type),
+        )
     };
-    let title = format!(
-        "Item {number}, kind {}, at the positions of its record {}:",
-        char::from(kind.kind),
-        text(&kind.record_type),
-    );
+    item(refusal, list, title).unwrap_or_else(|| {
+        let items = counted(number - 1, "item", "items");
+        format!("The list has {items}, and a flow may not end there.\n")
+    })
+}
+
+/// What an item gives to the record refused, under a title; nothing where the list has no such item.
+fn item(refusal: &Refusal, list: &[u8], title: impl Fn(&ItemKind) -> String) -> Option<String> {
+    let item = nth(mav::items(list), refusal.record)?;
+    let (letter, body) = item.split_first()?;
+    let kind = ItemKind::of(*letter)?;
     let record = kind.placed(body);
-    picture(&title, &record, refusal.position, byte(refusal, &record))
+    let byte = byte(refusal, &record);
+    Some(picture(&title(kind), &record, refusal.position, byte))
 }
 
 /// The item that is of unknown kind or cut short: what is left of the list, as much as a row holds.

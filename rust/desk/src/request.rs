@@ -1,9 +1,11 @@
-//! What is shown of a request. All of it is read from a flow that the library has accepted: its records
-//! stand in the order of document 01 and its fields keep the table of checks (`GrammarExact`).
+//! What is shown of a request, which in a recall flow is a recall. All of it is read from a flow that the
+//! library has accepted: its records stand in the order of document 01 and its fields keep the table of
+//! checks (`GrammarExact`).
 
-use mav::{Disposition, RECORD_LENGTH};
+use mav::{Disposition, FlowKind, RECORD_LENGTH};
 
 use crate::euro;
+use crate::kind::one;
 use crate::record::{characters, field, record_type, text};
 
 /// A request as a row of the table.
@@ -61,14 +63,16 @@ impl Request {
         line(&self.cells.each_ref().map(String::as_str))
     }
 
-    /// The request in words.
-    pub fn named(&self) -> String {
+    /// The request in words, by the kind of its flow.
+    pub fn named(&self, kind: FlowKind) -> String {
         let [number, due, _, debtor, reference] = &self.cells;
         let reference = match reference.as_str() {
             "" => String::new(),
             text => format!(", reference {text}"),
         };
-        format!("Request {number}, due {due}, {debtor}{reference}")
+        let mut one = one(kind).to_owned();
+        one[..1].make_ascii_uppercase();
+        format!("{one} {number}, due {due}, {debtor}{reference}")
     }
 }
 

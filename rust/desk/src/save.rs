@@ -63,6 +63,24 @@ impl Target {
         })
     }
 
+    /// The same of a file that is to be new: one that is there already is never replaced.
+    pub fn lock_new(named: &Path) -> Outcome<Target> {
+        let there = || {
+            let named = shown(named);
+            Failure::trouble(format!("{named} is there already; name a new file."))
+        };
+        // Said before the lock: who amends that file need not be waited for.
+        if fs::metadata(named).is_ok_and(|found| !found.is_dir()) {
+            return Err(there());
+        }
+        let target = Target::lock(named)?;
+        // Another clerk may have made it until the lock was free.
+        match target.old {
+            Some(_) => Err(there()),
+            None => Ok(target),
+        }
+    }
+
     /// The bytes of the file as it was locked, or nothing where there was none.
     pub fn read(&self) -> Outcome<Option<Vec<u8>>> {
         let Some(file) = &self.old else {

@@ -3,13 +3,13 @@
 use std::io::Write;
 use std::path::Path;
 
-use mav::RECORD_LENGTH;
+use mav::{FlowKind, RECORD_LENGTH};
 
 use crate::euro::{grouped, shown as euro};
 use crate::failure::{Failure, Outcome};
 use crate::input::read;
+use crate::kind::{counted, one, summary};
 use crate::name::{plain, shown};
-use crate::output::counted;
 use crate::record::{drawn, field, record_type, text};
 use crate::refusal;
 use crate::request::{date, titles, Request};
@@ -23,28 +23,24 @@ pub fn table(named: &Path, wanted: Option<&str>, out: &mut impl Write) -> Outcom
     for request in requests.map(Request::of) {
         if wanted.is_none_or(|wanted| request.has(wanted)) {
             if found == 0 {
-                heading(named, &flow, out)?;
-                writeln!(out, "{}", titles())?;
+                let heading = heading(named, &flow, numbers.kind);
+                writeln!(out, "{heading}\n\n{}", titles())?;
             }
             found += 1;
             cents += request.cents;
             writeln!(out, "{}", request.row())?;
         }
     }
-    let all = counted(numbers.dispositions, "request", "requests");
     match wanted {
-        None => {
-            let (total, records) = (euro(numbers.cents), grouped(numbers.records));
-            writeln!(out, "\n{all}, {total} euro, {records} records.")?;
-        }
+        None => writeln!(out, "\n{}.", summary(numbers))?,
         Some(_) if found > 0 => {
+            let all = counted(numbers.dispositions, numbers.kind);
             writeln!(out, "\n{} of {all}, {} euro.", grouped(found), euro(cents))?;
         }
         Some(wanted) => {
-            let wanted = plain(wanted);
-            let named = shown(named);
+            let (one, named, wanted) = (one(numbers.kind), shown(named), plain(wanted));
             return Err(Failure::refused(format!(
-                "no request of {named} has \"{wanted}\" in its row."
+                "no {one} of {named} has \"{wanted}\" in its row."
             )));
         }
     }
@@ -56,9 +52,10 @@ pub fn request(named: &Path, k: u64, out: &mut impl Write) -> Outcome {
     let flow = read(named)?;
     let numbers = refusal::accepted(named, &flow)?.accepted();
     let found = mav::find(&flow, k)
-        .map_err(|refusal| refusal::of_request(&refusal, named, k, numbers.dispositions, ""))?;
-    heading(named, &flow, out)?;
-    writeln!(out, "{}\n{}", titles(), Request::of(found).row())?;
+        .map_err(|refusal| refusal::of_request(&refusal, named, k, numbers, ""))?;
+    let heading = heading(named, &flow, numbers.kind);
+    let row = Request::of(found).row();
+    writeln!(out, "{heading}\n\n{}\n{row}", titles())?;
     for (record, number) in found
         .part
         .chunks_exact(RECORD_LENGTH)
@@ -74,11 +71,10 @@ pub fn request(named: &Path, k: u64, out: &mut impl Write) -> Outcome {
     Ok(())
 }
 
-/// What the header says: who sends, when, under what name.
-fn heading(named: &Path, flow: &[u8], out: &mut impl Write) -> Outcome {
+/// What a flow is, and what its header says: who sends, when, under what name.
+pub fn heading(named: &Path, flow: &[u8], kind: FlowKind) -> String {
     let sender = text(field(flow, 4, 8));
     let day = date(field(flow, 14, 19));
     let name = text(field(flow, 20, 39));
-    writeln!(out, "{}: {sender}, {day}, {name}\n", shown(named))?;
-    Ok(())
+    format!("{}: {kind} of {sender}, {day}, {name}", shown(named))
 }

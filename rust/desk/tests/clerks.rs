@@ -18,7 +18,7 @@ use std::sync::atomic::{AtomicBool, Ordering};
 use std::thread;
 use std::time::{Duration, SystemTime};
 
-use common::{amended, are_root, interrupt_library, run_as_clerk, sample, Ended, Folder};
+use common::{amended, are_root, interrupt_library, recalled, run_as_clerk, sample, Ended, Folder};
 use oracle::ledger::Call;
 use oracle::record::put;
 use oracle::{reader, samples, Answer};
@@ -649,7 +649,136 @@ fn who_only_reads_needs_no_lock() {
     let list = folder.run(&["list", "house.flow", "house.list"]);
     assert_eq!((list.status, &list.err[..]), (Some(0), ""));
     assert!(folder.read("house.list") == sample("forty-rents.list"));
+    // And its requests can be recalled.
+    let recall = recall_of(7).try_by(&folder, "bruno");
+    assert_eq!((recall.status, &recall.err[..]), (Some(0), ""));
+    assert!(folder.read(NEW) == recall_of(7).due());
     assert_saved(&anna.answer("y\n"));
+}
+
+/// The file that is to be a recall flow.
+const NEW: &str = "new.flow";
+const NEW_THERE: &str = "mavdesk: new.flow is there already; name a new file.\n";
+const NEW_CHANGED: &str = "mavdesk: new.flow is not saved: \
+                           another program has changed it since it was read.\n";
+
+/// The recall of a request of house.flow, the forty rents.
+#[derive(Clone, Copy)]
+struct RecallOf(u64);
+
+fn recall_of(k: u64) -> RecallOf {
+    RecallOf(k)
+}
+
+impl RecallOf {
+    fn words(self) -> Vec<String> {
+        let words = format!("recall house.flow {NEW} {} --name=R --date=170326", self.0);
+        words.split(' ').map(str::to_owned).collect()
+    }
+
+    /// The same, to be saved without a question, by a clerk.
+    fn command(self, folder: &Folder, clerk: &str) -> Command {
+        let mut command = folder.command(&[self.words(), vec!["--yes".to_owned()]].concat());
+        command.env("LOGNAME", clerk);
+        command
+    }
+
+    fn try_by(self, folder: &Folder, clerk: &str) -> Ended {
+        let mut command = self.command(folder, clerk);
+        Ended::of(command.stdin(Stdio::null()).output().unwrap())
+    }
+
+    /// The recall flow due.
+    fn due(self) -> Vec<u8> {
+        recalled(&sample("forty-rents.flow"), &[self.0], "170326", "R")
+    }
+}
+
+#[test]
+fn who_recalls_to_a_name_that_another_clerk_is_about_to_save_is_told() {
+    for (answer, there) in [("y\n", true), ("n\n", false)] {
+        let (folder, flow) = forty();
+        let anna = Asked::try_new(&folder, "anna", &recall_of(1).words());
+        let anna = anna.unwrap_or_else(|ended| panic!("{ended:?}"));
+        let refused = recall_of(2).try_by(&folder, "bruno");
+        let holder = holder(&refused, NEW).unwrap_or_else(|| panic!("{refused:?}"));
+        assert_eq!(holder.process, Some(("anna".to_owned(), anna.process())));
+        // The flow sent is not locked: it can be amended meanwhile.
+        assert_saved(&amount(3, 333).try_by(&folder, "carla"));
+        assert_eq!(anna.answer(answer).status, Some(i32::from(!there)));
+        let bruno = recall_of(2).try_by(&folder, "bruno");
+        if there {
+            assert_eq!((bruno.status, &bruno.err[..]), (Some(2), NEW_THERE));
+            assert!(folder.read(NEW) == recall_of(1).due());
+        } else {
+            assert_eq!((bruno.status, &bruno.err[..]), (Some(0), ""));
+            assert!(folder.read(NEW) == recall_of(2).due());
+        }
+        assert_flow(&folder, &amended(&flow, &[amount(3, 333).0]));
+        let left = ["house.flow", "house.flow.before", NEW];
+        assert_eq!(folder.names(), left);
+    }
+}
+
+/// What a clerk is told who comes too late to save a new file: by the lock, the file, or its name at the
+/// last moment.
+fn is_too_late(ended: &Ended) -> bool {
+    let is_told = [NEW_THERE, NEW_CHANGED].contains(&&ended.err[..]);
+    ended.status == Some(2) && (is_told || holder(ended, NEW).is_some())
+}
+
+/// Anna waits before each of her calls in turn, and meanwhile Bruno recalls another request to the same
+/// name. One of them saves, whole, and the other is told.
+#[test]
+fn of_two_recalls_to_one_name_one_is_saved_at_every_moment() {
+    let mut met = BTreeSet::new();
+    for at in 1..=MOST_CALLS {
+        let (folder, flow) = forty();
+        let mut command = recall_of(1).command(&folder, "anna");
+        command.env("INTERRUPT_AT", at.to_string());
+        let anna = match Waiting::of(command) {
+            Ok(anna) => anna,
+            Err(ended) => {
+                assert_eq!((ended.status, &ended.err[..]), (Some(0), ""));
+                assert_eq!(met, BTreeSet::from([false, true]));
+                return;
+            }
+        };
+        let bruno = recall_of(2).try_by(&folder, "bruno");
+        let anna = anna.go_on();
+        let is_annas = anna.status == Some(0);
+        met.insert(is_annas);
+        let (saved, late, due) = match is_annas {
+            true => (anna, bruno, recall_of(1).due()),
+            false => (bruno, anna, recall_of(2).due()),
+        };
+        assert_eq!((saved.status, &saved.err[..]), (Some(0), ""), "call {at}");
+        assert!(is_too_late(&late), "Anna before call {at}: {late:?}");
+        assert!(folder.read(NEW) == due, "Anna before call {at}");
+        assert_flow(&folder, &flow);
+        assert_eq!(folder.names(), ["house.flow", NEW], "call {at}");
+    }
+    panic!("more than {MOST_CALLS} calls");
+}
+
+#[test]
+fn a_recall_flow_whose_name_is_taken_at_the_last_moment_is_not_saved() {
+    // Also on a disk without hard links, where the file gets its name by a renaming.
+    for links in ["yes", "no"] {
+        let (folder, flow) = forty();
+        let mut command = recall_of(1).command(&folder, "anna");
+        command
+            .env("INTERRUPT_LINKS", links)
+            .env("INTERRUPT_ONLY", "link")
+            .env("INTERRUPT_AT", "1");
+        let anna = Waiting::of(command).unwrap_or_else(|ended| panic!("{ended:?}"));
+        fs::write(folder.path(NEW), "of another program").unwrap();
+        let ended = anna.go_on();
+        assert_eq!((ended.status, &ended.err[..]), (Some(2), NEW_CHANGED));
+        assert_eq!(folder.read(NEW), b"of another program");
+        assert_flow(&folder, &flow);
+        assert_eq!(folder.names(), ["house.flow", NEW]);
+    }
 }
 
 const CHANGED: &str = "mavdesk: house.flow is not saved: \

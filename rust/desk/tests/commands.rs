@@ -10,19 +10,9 @@ use std::os::unix::fs::symlink;
 use std::process::{Command, Stdio};
 
 use common::{
-    amended, change, drawn, flow_of, left, list_of, record, replaced, sample, withdraw, Ended,
-    Folder,
+    amended, change, drawn, flow_of, left, list_of, record, replaced, sample, student, withdraw,
+    Ended, Folder, BIANCHI, DATE, NAME, ROSSI, TITLES,
 };
-
-/// The line over the requests.
-const TITLES: &str =
-    " NUMBER  DUE                   AMOUNT  DEBTOR                         REFERENCE\n";
-
-/// The two requests of two-rents.flow, as their rows.
-const ROSSI: &str =
-    "      1  31/03/2026            450,00  ROSSI GIULIA                   0000000017\n";
-const BIANCHI: &str =
-    "      2  31/03/2026            380,50  BIANCHI MARCO                  0000000023\n";
 
 /// What `amount two-rents.flow 2 400` shows before it asks. The total is that of document 01's example 2.
 const TO_400: &str = "\
@@ -39,7 +29,7 @@ trailer, records                              16                      16
 /// What `withdraw two-rents.flow 1` shows before it asks. The numbers are those of document 01's example 3:
 /// 1,080 bytes are 9 records.
 const WITHOUT_1: &str = "\
-two-rents.flow: to be withdrawn
+two-rents.flow: 1 request to be withdrawn
 
  NUMBER  DUE                   AMOUNT  DEBTOR                         REFERENCE
       1  31/03/2026            450,00  ROSSI GIULIA                   0000000017
@@ -56,7 +46,7 @@ trailer, records                              16                       9
 const SAVED: &str = "Saved. The flow as it was is kept as two-rents.flow.before.\n";
 
 /// The commands, each with what its page says that it does, and its forms.
-const PAGES: [(&str, &str, &[&str]); 7] = [
+const PAGES: [(&str, &str, &[&str]); 8] = [
     ("check", "judge flows", &["mavdesk check FILE.."]),
     (
         "show",
@@ -84,6 +74,11 @@ const PAGES: [(&str, &str, &[&str]); 7] = [
         &["mavdesk write [--yes] LIST FLOW"],
     ),
     (
+        "recall",
+        "recall requests of a flow already sent",
+        &["mavdesk recall [--yes] [--name NAME] [--date GGMMAA] SENT OUT K.."],
+    ),
+    (
         "explain",
         "say what a refusal's number means",
         &["mavdesk explain [N]"],
@@ -98,15 +93,6 @@ fn unwanted(ended: &Ended, out: &str, err: &str) {
     assert_eq!(ended.status, Some(1));
 }
 
-/// The row of request `number` of forty-rents.flow: 300,00 euro and 12,50 more for each.
-fn student(number: u64) -> String {
-    let cents = 30_000 + 1_250 * number;
-    let amount = format!("{},{:02}", cents / 100, cents % 100);
-    format!(
-        "{number:7}  31/03/2026 {amount:>17}  STUDENTE {number:02}                    {number:010}\n"
-    )
-}
-
 #[test]
 fn accepted_flows_are_judged_in_the_order_named_and_added_up() {
     let folder = Folder::with(&["two-rents.flow", "one-rent.flow", "forty-rents.flow"]);
@@ -118,10 +104,10 @@ fn accepted_flows_are_judged_in_the_order_named_and_added_up() {
     ];
     folder.run(&words).printed(
         "\
-FLOW               REQUESTS                  TOTAL    RECORDS
-two-rents.flow            2                 830,50         16
-one-rent.flow             1                 450,00          9
-forty-rents.flow         40              22.250,00        368
+FLOW               KIND         COUNT                 TOTAL    RECORDS
+two-rents.flow     requests         2                830,50         16
+one-rent.flow      requests         1                450,00          9
+forty-rents.flow   requests        40             22.250,00        368
 
 3 flows accepted: 43 requests, 23.530,50 euro.
 ",
@@ -133,8 +119,8 @@ fn one_flow_and_one_request_are_told_in_the_singular() {
     let folder = Folder::with(&["one-rent.flow"]);
     folder.run(&["check", "one-rent.flow"]).printed(
         "\
-FLOW            REQUESTS                  TOTAL    RECORDS
-one-rent.flow          1                 450,00          9
+FLOW            KIND         COUNT                 TOTAL    RECORDS
+one-rent.flow   requests         1                450,00          9
 
 1 flow accepted: 1 request, 450,00 euro.
 ",
@@ -148,9 +134,9 @@ fn one_refused_flow_among_accepted_ones_gives_status_1() {
     assert_eq!(
         ended.out,
         "\
-FLOW                      REQUESTS                  TOTAL    RECORDS
+FLOW                      KIND         COUNT                 TOTAL    RECORDS
 refused-14-records.flow   refused 14 at record 16, position 83
-two-rents.flow                   2                 830,50         16
+two-rents.flow            requests         2                830,50         16
 
 1 flow accepted: 2 requests, 830,50 euro. 1 refused.
 
@@ -174,7 +160,7 @@ fn where_all_are_refused_none_is_accepted() {
     assert_eq!(
         ended.out,
         "\
-FLOW                     REQUESTS                  TOTAL    RECORDS
+FLOW                     KIND         COUNT                 TOTAL    RECORDS
 refused-01-length.flow   refused 1
 
 0 flows accepted: 0 requests, 0,00 euro. 1 refused.
@@ -211,10 +197,10 @@ fn of_a_folder_the_flows_are_judged_by_name_and_the_other_files_passed_over() {
     fs::write(folder.path("night/aa.flow/x.flow"), sample("one-rent.flow")).unwrap();
     folder.run(&["check", "night"]).printed(
         "\
-FLOW           REQUESTS                  TOTAL    RECORDS
-night/C.txt          40              22.250,00        368
-night/a.flow          2                 830,50         16
-night/b               1                 450,00          9
+FLOW           KIND         COUNT                 TOTAL    RECORDS
+night/C.txt    requests        40             22.250,00        368
+night/a.flow   requests         2                830,50         16
+night/b        requests         1                450,00          9
 
 3 flows accepted: 43 requests, 23.530,50 euro.
 ",
@@ -231,10 +217,10 @@ fn what_a_folder_passes_over_is_judged_where_it_is_named() {
         .run(&["check", "b.list", ".hidden", "a.flow.before"])
         .printed(
             "\
-FLOW            REQUESTS                  TOTAL    RECORDS
-b.list                 1                 450,00          9
-.hidden                1                 450,00          9
-a.flow.before          1                 450,00          9
+FLOW            KIND         COUNT                 TOTAL    RECORDS
+b.list          requests         1                450,00          9
+.hidden         requests         1                450,00          9
+a.flow.before   requests         1                450,00          9
 
 3 flows accepted: 3 requests, 1.350,00 euro.
 ",
@@ -253,10 +239,10 @@ fn folders_and_flows_can_be_named_together() {
         .run(&["check", "south/", "two-rents.flow", "north"])
         .printed(
             "\
-FLOW               REQUESTS                  TOTAL    RECORDS
-south/house.flow          1                 450,00          9
-two-rents.flow            2                 830,50         16
-north/house.flow          1                 450,00          9
+FLOW               KIND         COUNT                 TOTAL    RECORDS
+south/house.flow   requests         1                450,00          9
+two-rents.flow     requests         2                830,50         16
+north/house.flow   requests         1                450,00          9
 
 3 flows accepted: 4 requests, 1.730,50 euro.
 ",
@@ -273,13 +259,13 @@ fn every_one_of_two_thousand_flows_is_judged_once() {
         fs::write(folder.path(&one), sample("one-rent.flow")).unwrap();
         fs::write(folder.path(&two), sample("two-rents.flow")).unwrap();
         rows += &format!(
-            "./{one}          1                 450,00          9
-./{two}          2                 830,50         16
+            "./{one}   requests         1                450,00          9
+./{two}   requests         2                830,50         16
 "
         );
     }
     folder.run(&["check", "."]).printed(&format!(
-        "FLOW       REQUESTS                  TOTAL    RECORDS\n{rows}\n\
+        "FLOW       KIND         COUNT                 TOTAL    RECORDS\n{rows}\n\
          2.000 flows accepted: 3.000 requests, 1.280.500,00 euro.\n",
     ));
 }
@@ -291,9 +277,9 @@ fn a_flow_that_is_named_twice_is_counted_once() {
     let words = ["check", "two-rents.flow", ".", "./two-rents.flow"];
     folder.run(&words).printed(
         "\
-FLOW              REQUESTS                  TOTAL    RECORDS
-two-rents.flow           2                 830,50         16
-./one-rent.flow          1                 450,00          9
+FLOW              KIND         COUNT                 TOTAL    RECORDS
+two-rents.flow    requests         2                830,50         16
+./one-rent.flow   requests         1                450,00          9
 
 2 flows accepted: 3 requests, 1.280,50 euro.
 ",
@@ -304,7 +290,7 @@ two-rents.flow           2                 830,50         16
 fn a_folder_without_a_flow_is_an_error_and_the_others_are_judged() {
     let folder = Folder::with(&["two-rents.flow"]);
     fs::create_dir(folder.path("night")).unwrap();
-    let titles = "REQUESTS                  TOTAL    RECORDS";
+    let titles = "KIND         COUNT                 TOTAL    RECORDS";
     let none = "mavdesk: night has no flow in it.\n";
     let ended = folder.run(&["check", "night"]);
     assert_eq!(
@@ -322,7 +308,7 @@ fn a_folder_without_a_flow_is_an_error_and_the_others_are_judged() {
         format!(
             "FLOW             {titles}
 night            not read
-two-rents.flow          2                 830,50         16
+two-rents.flow   requests         2                830,50         16
 
 1 flow accepted: 2 requests, 830,50 euro. 1 not read.
 "
@@ -336,7 +322,7 @@ fn the_requests_of_a_flow_are_shown_with_its_header_and_its_numbers() {
     let folder = Folder::with(&["two-rents.flow", "one-rent.flow"]);
     folder.run(&["show", "two-rents.flow"]).printed(
         "\
-two-rents.flow: AB123, 15/03/2026, RENT-MARCH
+two-rents.flow: requests of AB123, 15/03/2026, RENT-MARCH
 
  NUMBER  DUE                   AMOUNT  DEBTOR                         REFERENCE
       1  31/03/2026            450,00  ROSSI GIULIA                   0000000017
@@ -346,7 +332,7 @@ two-rents.flow: AB123, 15/03/2026, RENT-MARCH
 ",
     );
     folder.run(&["show", "one-rent.flow"]).printed(&format!(
-        "one-rent.flow: AB123, 15/03/2026, RENT-MARCH\n\n{TITLES}{ROSSI}\n1 request, 450,00 euro, 9 records.\n"
+        "one-rent.flow: requests of AB123, 15/03/2026, RENT-MARCH\n\n{TITLES}{ROSSI}\n1 request, 450,00 euro, 9 records.\n"
     ));
 }
 
@@ -356,7 +342,7 @@ fn text_at_positions_that_are_not_checked_is_not_shown() {
     folder
         .run(&["show", "two-rents-filler.flow"])
         .printed(&format!(
-            "two-rents-filler.flow: AB123, 15/03/2026, RENT-MARCH\n\n\
+            "two-rents-filler.flow: requests of AB123, 15/03/2026, RENT-MARCH\n\n\
          {TITLES}{ROSSI}{BIANCHI}\n2 requests, 830,50 euro, 16 records.\n"
         ));
 }
@@ -366,7 +352,7 @@ fn all_of_forty_requests_are_shown() {
     let folder = Folder::with(&["forty-rents.flow"]);
     let rows: String = (1..=40).map(student).collect();
     folder.run(&["show", "forty-rents.flow"]).printed(&format!(
-        "forty-rents.flow: AB123, 15/03/2026, RENT-MARCH\n\n\
+        "forty-rents.flow: requests of AB123, 15/03/2026, RENT-MARCH\n\n\
          {TITLES}{rows}\n40 requests, 22.250,00 euro, 368 records.\n"
     ));
 }
@@ -374,7 +360,7 @@ fn all_of_forty_requests_are_shown() {
 #[test]
 fn a_request_is_found_by_what_its_row_has() {
     let folder = Folder::with(&["two-rents.flow"]);
-    let heading = "two-rents.flow: AB123, 15/03/2026, RENT-MARCH\n\n";
+    let heading = "two-rents.flow: requests of AB123, 15/03/2026, RENT-MARCH\n\n";
     for (text, rows, summary) in [
         ("rossi", ROSSI.to_owned(), "1 of 2 requests, 450,00 euro.\n"),
         (
@@ -426,7 +412,7 @@ fn the_amounts_of_the_requests_found_are_added_up() {
     // 10 times 300,00 euro and 145 times 12,50.
     let words = ["show", "forty-rents.flow", "--find", "studente 1"];
     folder.run(&words).printed(&format!(
-        "forty-rents.flow: AB123, 15/03/2026, RENT-MARCH\n\n\
+        "forty-rents.flow: requests of AB123, 15/03/2026, RENT-MARCH\n\n\
          {TITLES}{rows}\n10 of 40 requests, 4.812,50 euro.\n"
     ));
 }
@@ -450,7 +436,8 @@ fn a_request_is_shown_with_all_its_records() {
     let folder = Folder::with(&["two-rents.flow"]);
     let flow = sample("two-rents.flow");
     for (k, row, first) in [("1", ROSSI, 2), ("2", BIANCHI, 9), ("0000002", BIANCHI, 9)] {
-        let mut due = format!("two-rents.flow: AB123, 15/03/2026, RENT-MARCH\n\n{TITLES}{row}");
+        let mut due =
+            format!("two-rents.flow: requests of AB123, 15/03/2026, RENT-MARCH\n\n{TITLES}{row}");
         for (number, kind) in (first..).zip(["14", "20", "30", "40", "50", "51", "70"]) {
             due += &format!(
                 "\nRecord {number}, type {kind}:\n{}",
@@ -472,7 +459,8 @@ fn a_request_with_every_kind_of_record_is_shown_with_all_of_them() {
         (6, 49, "14 16 20 30 40 50 51 70"),
     ] {
         let row = student(k);
-        let mut due = format!("forty-rents.flow: AB123, 15/03/2026, RENT-MARCH\n\n{TITLES}{row}");
+        let mut due =
+            format!("forty-rents.flow: requests of AB123, 15/03/2026, RENT-MARCH\n\n{TITLES}{row}");
         for (number, kind) in (first..).zip(kinds.split(' ')) {
             due += &format!(
                 "\nRecord {number}, type {kind}:\n{}",
@@ -495,7 +483,7 @@ fn a_long_name_and_a_blank_reference_are_shown() {
     fs::write(folder.path("a.flow"), &flow).unwrap();
     folder.run(&["show", "a.flow"]).printed(
         "\
-a.flow: AB123, 15/03/2026, RENT-MARCH
+a.flow: requests of AB123, 15/03/2026, RENT-MARCH
 
  NUMBER  DUE                   AMOUNT  DEBTOR                         REFERENCE
       1  31/03/2026            450,00  DELLA ROVERE MARIA ANTONIETTA!
@@ -517,7 +505,7 @@ fn a_flow_is_read_from_a_pipe_too() {
     let flow = String::from_utf8(sample("two-rents.flow")).unwrap();
     let ended = folder.answer(&["show", "/dev/stdin"], &flow);
     ended.printed(&format!(
-        "/dev/stdin: AB123, 15/03/2026, RENT-MARCH\n\n\
+        "/dev/stdin: requests of AB123, 15/03/2026, RENT-MARCH\n\n\
          {TITLES}{ROSSI}{BIANCHI}\n2 requests, 830,50 euro, 16 records.\n"
     ));
 }
@@ -623,7 +611,7 @@ Saved. The flow as it was is kept as two-rents.flow.before.
     replaced(&folder, "two-rents.flow", &old, &new);
     folder.run(&["show", "two-rents.flow"]).printed(
         "\
-two-rents.flow: AB123, 15/03/2026, RENT-MARCH
+two-rents.flow: requests of AB123, 15/03/2026, RENT-MARCH
 
  NUMBER  DUE                   AMOUNT  DEBTOR                         REFERENCE
       1  31/03/2026 99.999.999.999,99  ROSSI GIULIA                   0000000017
@@ -761,7 +749,7 @@ fn the_last_request_goes_and_no_number_changes() {
         .run(&["withdraw", "--yes", "two-rents.flow", "2"])
         .printed(
             "\
-two-rents.flow: to be withdrawn
+two-rents.flow: 1 request to be withdrawn
 
  NUMBER  DUE                   AMOUNT  DEBTOR                         REFERENCE
       2  31/03/2026            380,50  BIANCHI MARCO                  0000000023
@@ -786,7 +774,7 @@ fn several_requests_are_withdrawn_by_the_numbers_shown_in_any_order() {
     // Requests 1, 3, 6 and 40 have 312,50 and 337,50 and 375,00 and 800,00 euro, and 7, 9, 8 and 11 records.
     let rows: String = [1, 3, 6, 40].map(student).concat();
     let due = format!(
-        "forty-rents.flow: to be withdrawn\n\n{TITLES}{rows}{}",
+        "forty-rents.flow: 4 requests to be withdrawn\n\n{TITLES}{rows}{}",
         "
 The requests left are numbered anew from 1 on.
 
@@ -819,7 +807,7 @@ fn the_last_two_of_forty_go_and_no_number_changes() {
     // 787,50 and 800,00 euro, 9 and 11 records.
     let ended = folder.run(&["withdraw", "--yes", "forty-rents.flow", "39", "40"]);
     ended.printed(&format!(
-        "forty-rents.flow: to be withdrawn\n\n{TITLES}{rows}{}",
+        "forty-rents.flow: 2 requests to be withdrawn\n\n{TITLES}{rows}{}",
         "
                                           BEFORE                   AFTER
 trailer, requests                             40                      38
@@ -845,7 +833,7 @@ fn all_requests_but_one_are_withdrawn_at_once() {
     words.extend(numbers.iter().map(String::as_str));
     // Request 17 has 512,50 euro and, with five records 59, 11 records.
     folder.run(&words).printed(&format!(
-        "forty-rents.flow: to be withdrawn\n\n{TITLES}{rows}{}",
+        "forty-rents.flow: 39 requests to be withdrawn\n\n{TITLES}{rows}{}",
         "
 The requests left are numbered anew from 1 on.
 
@@ -881,7 +869,7 @@ fn words_behind_two_dashes_are_no_options() {
     replaced(&folder, "--yes", &old, &new);
     let ended = folder.run(&["show", "--find", "rossi", "--", "--yes"]);
     ended.printed(&format!(
-        "--yes: AB123, 15/03/2026, RENT-MARCH\n\n{TITLES}{ROSSI}\n1 of 2 requests, 450,00 euro.\n"
+        "--yes: requests of AB123, 15/03/2026, RENT-MARCH\n\n{TITLES}{ROSSI}\n1 of 2 requests, 450,00 euro.\n"
     ));
 }
 
@@ -996,7 +984,7 @@ fn a_number_is_explained_in_full() {
 }
 
 #[test]
-fn all_numbers_are_explained_once_with_the_place_that_document_01_gives() {
+fn all_numbers_are_explained_once_with_the_place_that_documents_01_and_02_give() {
     const FIELD: &str = "the record, and the field's first position";
     let places = [
         (1, "none"),
@@ -1019,6 +1007,7 @@ fn all_numbers_are_explained_once_with_the_place_that_document_01_gives() {
         (18, "none"),
         (20, "the item of the list, counted from 1"),
         (21, "none"),
+        (22, "the record, position 29"),
     ];
     let folder = Folder::new();
     let mut due = Vec::new();
@@ -1048,10 +1037,12 @@ fn a_number_outside_the_table_is_not_explained() {
     folder
         .run(&["explain", "19"])
         .failed(2, "mavdesk: number 19 is not used.\n");
-    for number in ["0", "22", "257"] {
+    for number in ["0", "23", "257"] {
         folder.run(&["explain", number]).failed(
             2,
-            &format!("mavdesk: there is no number {number}; the numbers are 1 to 18, 20 and 21.\n"),
+            &format!(
+                "mavdesk: there is no number {number}; the numbers are 1 to 18 and 20 to 22.\n"
+            ),
         );
     }
 }
@@ -1110,6 +1101,7 @@ fn the_options_of_a_command_are_on_its_page() {
         ("withdraw", "--yes"),
         ("list", "--yes"),
         ("write", "--yes"),
+        ("recall", "--name NAME"),
     ] {
         let page = folder.run(&["help", command]).out;
         let due = format!("\n\nOPTIONS\n    {option}\n        ");
@@ -1169,6 +1161,10 @@ fn a_reader_that_has_gone_ends_what_only_shows_in_silence_and_a_save_with_a_word
         (&["amount", "--yes", "two-rents.flow", "2", "400"], unsaved),
         (&["withdraw", "--yes", "two-rents.flow", "2"], unsaved),
         (&["list", "two-rents.flow", "new.list"], unsaved),
+        (
+            &["recall", NAME, DATE, "two-rents.flow", "new.flow", "2"],
+            unsaved,
+        ),
     ] {
         let (reader, writer) = pipe().unwrap();
         drop(reader);
@@ -1203,9 +1199,12 @@ fn a_reader_that_goes_after_some_lines_ends_the_command_in_silence() {
         .spawn()
         .unwrap();
     // The rows are more than a pipe holds, so that the command is still at them.
-    let mut line = [0; 46];
+    let mut line = [0; 58];
     std::io::Read::read_exact(child.stdout.as_mut().unwrap(), &mut line).unwrap();
-    assert_eq!(&line, b"large.flow: AB123, 15/03/2026, RENT-MARCH\n\n NU");
+    assert_eq!(
+        &line,
+        b"large.flow: requests of AB123, 15/03/2026, RENT-MARCH\n\n NU"
+    );
     drop(child.stdout.take());
     let ended = Ended::of(child.wait_with_output().unwrap());
     ended.failed(2, "");

@@ -14,7 +14,7 @@ use std::process::{Command, Stdio};
 
 use common::{
     amended, are_root, change, flow_of, left, replaced, run_as_clerk, run_limited, sample,
-    withdraw, Ended, Folder,
+    withdraw, Ended, Folder, DATE, NAME,
 };
 
 /// What `amount FILE 2 400` shows of two-rents.flow after the file's name.
@@ -72,6 +72,7 @@ fn a_missing_file_is_told_by_every_command_that_reads_one() {
         &["withdraw", "--yes", "house.flow", "1"],
         &["list", "house.flow", "house.list"],
         &["write", "house.flow", "other.flow"],
+        &["recall", NAME, DATE, "house.flow", "other.flow", "1"],
     ] {
         told(
             &folder.run(words),
@@ -89,9 +90,9 @@ fn check_judges_the_other_flows_where_files_are_missing() {
     assert_eq!(
         ended.out,
         "\
-FLOW             REQUESTS                  TOTAL    RECORDS
+FLOW             KIND         COUNT                 TOTAL    RECORDS
 b.flow           not read
-two-rents.flow          2                 830,50         16
+two-rents.flow   requests         2                830,50         16
 a.flow           not read
 
 1 flow accepted: 2 requests, 830,50 euro. 2 not read.
@@ -108,7 +109,7 @@ a.flow           not read
 #[test]
 fn the_status_is_2_where_one_flow_is_refused_and_another_is_not_read() {
     let folder = Folder::with(&["refused-01-length.flow"]);
-    let title = "FLOW                     REQUESTS                  TOTAL    RECORDS\n";
+    let title = "FLOW                     KIND         COUNT                 TOTAL    RECORDS\n";
     let refused = "refused-01-length.flow   refused 1\n";
     let unread = "a.flow                   not read\n";
     for (words, rows) in [
@@ -145,6 +146,7 @@ fn a_missing_folder_is_told() {
     for words in [
         &["list", "two-rents.flow", "night/house"][..],
         &["write", "two-rents.list", "night/house"],
+        &["recall", NAME, DATE, "two-rents.flow", "night/house", "1"],
     ] {
         told(
             &folder.run(words),
@@ -233,6 +235,7 @@ fn a_folder_where_a_file_is_due_is_told() {
         (&["list", "--yes", "two-rents.flow", "night"], "changed"),
         (&["write", "night", "new.flow"], "read"),
         (&["write", "--yes", "two-rents.list", "night"], "changed"),
+        (&["recall", NAME, DATE, "night", "new.flow", "1"], "read"),
     ] {
         told(
             &folder.run(words),
@@ -312,6 +315,10 @@ fn a_file_that_may_not_be_read_is_told() {
         (&["list", "two-rents.flow", "new.list"], "read"),
         (&["write", "two-rents.flow", "new.flow"], "read"),
         (
+            &["recall", NAME, DATE, "two-rents.flow", "new.flow", "2"],
+            "read",
+        ),
+        (
             &["amount", "--yes", "two-rents.flow", "2", "400"],
             "changed",
         ),
@@ -329,7 +336,7 @@ fn a_file_that_may_not_be_read_is_told() {
     assert_eq!(
         ended.out,
         "\
-FLOW               REQUESTS                  TOTAL    RECORDS
+FLOW               KIND         COUNT                 TOTAL    RECORDS
 ./two-rents.flow   not read
 
 0 flows accepted: 0 requests, 0,00 euro. 1 not read.
@@ -370,7 +377,7 @@ fn a_file_that_may_only_be_read_is_shown_and_not_changed() {
     )
     .printed(
         "\
-two-rents.flow: AB123, 15/03/2026, RENT-MARCH
+two-rents.flow: requests of AB123, 15/03/2026, RENT-MARCH
 
  NUMBER  DUE                   AMOUNT  DEBTOR                         REFERENCE
       2  31/03/2026            380,50  BIANCHI MARCO                  0000000023
@@ -395,6 +402,10 @@ fn in_a_folder_that_may_only_be_read_nothing_is_changed() {
         ),
         (&["list", "two-rents.flow", "new.list"], "new.list"),
         (&["write", "two-rents.list", "new.flow"], "new.flow"),
+        (
+            &["recall", NAME, DATE, "two-rents.flow", "new.flow", "2"],
+            "new.flow",
+        ),
     ] {
         set_mode(&folder.path("."), 0o555);
         let ended = run_as_clerk(&folder, ":", words);
@@ -447,6 +458,7 @@ fn a_flow_above_the_ceiling_is_refused_without_being_read() {
         &["withdraw", "--yes", "long.flow", "1"],
         &["list", "long.flow", "new.list"],
         &["write", "long.flow", "new.flow"],
+        &["recall", NAME, DATE, "long.flow", "new.flow", "1"],
     ] {
         told(
             &run_in_little_memory(&folder, words),
@@ -467,9 +479,9 @@ fn a_flow_above_the_ceiling_is_refused_by_1_among_others() {
     assert_eq!(
         ended.out,
         "\
-FLOW              REQUESTS                  TOTAL    RECORDS
+FLOW              KIND         COUNT                 TOTAL    RECORDS
 ./long.flow       refused 1
-./one-rent.flow          1                 450,00          9
+./one-rent.flow   requests         1                450,00          9
 
 1 flow accepted: 1 request, 450,00 euro. 1 refused.
 
@@ -494,6 +506,7 @@ It has 0 bytes: 0 records, and 0 bytes more.
         &["amount", "--yes", "empty.flow", "1", "450"],
         &["withdraw", "--yes", "empty.flow", "1"],
         &["list", "--yes", "empty.flow", "new.list"],
+        &["recall", NAME, DATE, "empty.flow", "new.flow", "1"],
     ] {
         folder.run(words).failed(1, &format!("mavdesk: {refusal}"));
         left(&folder, &[("empty.flow", b"")]);
@@ -503,7 +516,7 @@ It has 0 bytes: 0 records, and 0 bytes more.
         ended.out,
         format!(
             "{}\n\n0 flows accepted: 0 requests, 0,00 euro. 1 refused.\n\n{refusal}",
-            "FLOW         REQUESTS                  TOTAL    RECORDS\nempty.flow   refused 1",
+            "FLOW         KIND         COUNT                 TOTAL    RECORDS\nempty.flow   refused 1",
         )
     );
     assert_eq!(ended.status, Some(1));
@@ -543,6 +556,16 @@ fn an_output_that_cannot_be_written_is_told_and_nothing_is_saved() {
         &["withdraw", "--yes", "two-rents.flow", "2"],
         &["list", "two-rents.flow", "forty-rents.flow"],
         &["list", "two-rents.flow", "new.list"],
+        &["recall", NAME, DATE, "two-rents.flow", "new.flow", "2"],
+        &[
+            "recall",
+            "--yes",
+            NAME,
+            DATE,
+            "two-rents.flow",
+            "new.flow",
+            "2",
+        ],
     ] {
         told(
             &run_on_a_full_disk(&folder, words, "y\n"),
@@ -667,6 +690,7 @@ fn a_wrong_number_of_a_request_is_told() {
             &["amount", "--yes", "two-rents.flow", k, "450"],
             &["withdraw", "--yes", "two-rents.flow", k],
             &["withdraw", "--yes", "two-rents.flow", "2", k],
+            &["recall", NAME, DATE, "two-rents.flow", "new.flow", k],
         ] {
             told(
                 &folder.run(words),
@@ -751,7 +775,7 @@ fn a_request_named_twice_is_told() {
         told(
             &folder.run(&words),
             2,
-            &format!("request {twice} is named twice."),
+            &format!("number {twice} is named twice."),
         );
         untouched(&folder, &["forty-rents.flow"]);
     }
@@ -836,6 +860,26 @@ fn an_option_that_a_command_does_not_have_is_told() {
             "write",
             "---",
         ),
+        (
+            &["recall", "two-rents.flow", "new.flow", "2", "--names=A"],
+            "recall",
+            "--names=A",
+        ),
+        (
+            &["recall", "--find", "rossi", "two-rents.flow", "new.flow"],
+            "recall",
+            "--find",
+        ),
+        (
+            &["write", "--name", "A", "two-rents.list", "new.flow"],
+            "write",
+            "--name",
+        ),
+        (
+            &["withdraw", "two-rents.flow", "2", "--date=170326"],
+            "withdraw",
+            "--date=170326",
+        ),
         (&["explain", "--all"], "explain", "--all"),
         (&["explain", "--\u{7}"], "explain", "--\\u{7}"),
     ] {
@@ -868,6 +912,7 @@ fn too_few_and_too_many_words_are_told() {
     const WITHDRAW: &str = "mavdesk withdraw [--yes] FILE K..";
     const LIST: &str = "mavdesk list [--yes] FLOW LIST";
     const WRITE: &str = "mavdesk write [--yes] LIST FLOW";
+    const RECALL: &str = "mavdesk recall [--yes] [--name NAME] [--date GGMMAA] SENT OUT K..";
     let folder = Folder::with(&["two-rents.flow"]);
     for (words, form) in [
         ("check", "mavdesk check FILE.."),
@@ -894,6 +939,13 @@ fn too_few_and_too_many_words_are_told() {
         ("write", WRITE),
         ("write two-rents.list", WRITE),
         ("write two-rents.list new.flow other.flow", WRITE),
+        ("recall", RECALL),
+        ("recall two-rents.flow", RECALL),
+        ("recall two-rents.flow new.flow", RECALL),
+        (
+            "recall --yes --name A --date 170326 two-rents.flow 2",
+            RECALL,
+        ),
         ("explain 1 2", "mavdesk explain [N]"),
     ] {
         let words: Vec<&str> = words.split(' ').collect();
@@ -918,8 +970,8 @@ fn control_characters_of_a_name_are_spelled_out() {
     );
     fs::write(folder.path(name), sample("two-rents.flow")).unwrap();
     folder.run(&["check", "."]).printed(&format!(
-        "FLOW{}   REQUESTS                  TOTAL    RECORDS\n\
-         ./{shown}          2                 830,50         16\n\n\
+        "FLOW{}   KIND         COUNT                 TOTAL    RECORDS\n\
+         ./{shown}   requests         2                830,50         16\n\n\
          1 flow accepted: 2 requests, 830,50 euro.\n",
         " ".repeat(shown.len() - 2),
     ));
@@ -993,7 +1045,7 @@ fn a_withdrawal_through_a_link_to_another_folder_leaves_nothing_beside_the_link(
         .run(&["withdraw", "--yes", "second", "1"])
         .printed(&format!(
             "\
-second: to be withdrawn
+second: 1 request to be withdrawn
 
  NUMBER  DUE                   AMOUNT  DEBTOR                         REFERENCE
       1  31/03/2026            450,00  ROSSI GIULIA                   0000000017
@@ -1214,6 +1266,7 @@ fn too_little_memory_is_told_and_nothing_is_saved() {
         &["amount", "--yes", "large.flow", "1", "1"][..],
         &["withdraw", "--yes", "large.flow", "1"],
         &["list", "large.flow", "new.list"],
+        &["recall", "--yes", NAME, DATE, "large.flow", "new.flow", "1"],
     ] {
         told(
             &run_limited(&folder, "ulimit -v 150000", words),
@@ -1235,9 +1288,9 @@ fn a_system_that_gives_no_threads_only_makes_a_check_slower() {
     )
     .printed(
         "\
-FLOW             REQUESTS                  TOTAL    RECORDS
-one-rent.flow           1                 450,00          9
-two-rents.flow          2                 830,50         16
+FLOW             KIND         COUNT                 TOTAL    RECORDS
+one-rent.flow    requests         1                450,00          9
+two-rents.flow   requests         2                830,50         16
 
 2 flows accepted: 3 requests, 1.280,50 euro.
 ",

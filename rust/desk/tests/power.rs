@@ -16,8 +16,8 @@ use std::thread;
 use std::time::{Duration, Instant};
 
 use common::{
-    amended, change, flow_of, interrupt_library, list_of, run_limited, sample, withdraw, Ended,
-    Folder,
+    amended, change, flow_of, interrupt_library, list_of, recalled, run_limited, sample, withdraw,
+    Ended, Folder,
 };
 use oracle::{reader, samples, Answer};
 
@@ -113,6 +113,35 @@ impl Save {
         }
     }
 
+    fn recall() -> Save {
+        let sent = sample("forty-rents.flow");
+        Save {
+            words: &[
+                "recall",
+                "--yes",
+                "--name=RECALL-MARCH",
+                "--date=170326",
+                "house.flow",
+                "recall.flow",
+                "17",
+                "2",
+            ],
+            target: "recall.flow",
+            older: None,
+            old: None,
+            new: recalled(&sent, &[2, 17], "170326", "RECALL-MARCH"),
+            source: Some(("house.flow", sent)),
+            links: true,
+        }
+    }
+
+    fn recall_without_hard_links() -> Save {
+        Save {
+            links: false,
+            ..Save::recall()
+        }
+    }
+
     /// A folder with the files as they are before the save.
     fn folder(&self) -> Folder {
         let folder = Folder::new();
@@ -168,8 +197,13 @@ impl Save {
         }
     }
 
-    /// NAME.before is a whole version: the old one where the new one is saved, else that or the older one.
-    fn check_before(&self, folder: &Folder, saved: bool) -> Result<(), String> {
+    /// What is only read is as it was, and NAME.before is a whole version: the old one where the new one is
+    /// saved, else that or the older one.
+    fn check_others(&self, folder: &Folder, saved: bool) -> Result<(), String> {
+        if let Some((name, bytes)) = &self.source {
+            let right = folder.read(name) == *bytes;
+            ensure(right, "what is only read was written to")?;
+        }
         let before = bytes_of(&folder.path(&self.before()));
         let right = before == self.old || (before == self.older && !saved);
         ensure(right, "NAME.before is no version that is due")
@@ -262,7 +296,7 @@ fn kill_at_every_call(save: &Save, told: &[(&str, &str)]) {
         let context = || format!("{:?}, killed at call {at}: {ended:?}", save.words);
         let saved = save.is_saved(&folder);
         let saved = saved.unwrap_or_else(|wrong| panic!("{}: {wrong}", context()));
-        save.check_before(&folder, saved)
+        save.check_others(&folder, saved)
             .and_then(|()| save.check_read(&folder))
             .unwrap_or_else(|wrong| panic!("{}: {wrong}", context()));
         // A process that is killed has no status.
@@ -317,9 +351,16 @@ fn a_new_flow_killed_before_any_call() {
 }
 
 #[test]
+fn a_recall_killed_before_any_call() {
+    kill_at_every_call(&Save::recall(), &KILL);
+    kill_at_every_call(&Save::recall_without_hard_links(), &KILL);
+}
+
+#[test]
 fn a_save_killed_when_half_of_a_write_is_done() {
     let told = [("INTERRUPT_HOW", "half"), ("INTERRUPT_ONLY", "write")];
     for save in [
+        Save::recall(),
         Save::amount(),
         Save::amount_without_hard_links(),
         Save::withdrawal(),
@@ -394,7 +435,7 @@ impl Save {
             }
             _ => note(Err("the status is neither 0 nor 2".to_owned())),
         }
-        note(self.check_before(folder, saved == Ok(true)));
+        note(self.check_others(folder, saved == Ok(true)));
         let mut left = hidden(folder);
         left.retain(|name| !may_be_left(name, failed));
         note(ensure(left.is_empty(), format!("left over: {left:?}")));
@@ -486,9 +527,18 @@ fn any_call_of_a_new_flow_failing() {
 }
 
 #[test]
+fn any_call_of_a_recall_failing() {
+    for error in ["ENOSPC", "EIO", "EDQUOT", "EACCES"] {
+        fail_at_every_call(&Save::recall(), error, &FAIL);
+    }
+    fail_at_every_call(&Save::recall_without_hard_links(), "ENOSPC", &FAIL);
+}
+
+#[test]
 fn any_write_failing_after_half_of_its_bytes() {
     let told = [("INTERRUPT_HOW", "short"), ("INTERRUPT_ONLY", "write")];
     for save in [
+        Save::recall(),
         Save::amount(),
         Save::amount_without_hard_links(),
         Save::withdrawal(),
@@ -592,6 +642,7 @@ fn the_new_version_is_on_the_disk_and_the_old_one_kept_before_the_name_is_given(
     check_order(&Save::list_onto_nothing());
     check_order(&Save::flow_onto_a_flow());
     check_order(&Save::flow_onto_nothing());
+    check_order(&Save::recall());
 }
 
 #[test]
@@ -775,10 +826,11 @@ fn a_process_ended_for_a_file_too_large_leaves_the_old_flow() {
     assert_eq!(save.check_next(&folder), Ok(()));
 }
 
-/// What a full disk does, in a folder where `house.flow` stands. $1 is the room left in bytes, and the rest
-/// is the command. A disk of 256 KB is filled up, the command is run, room is made, and it is run again.
+/// What a full disk does, in a folder where `house.flow` stands. $1 is the room left in bytes, $2 the file
+/// that is saved, and the rest is the command. A disk of 256 KB is filled up, the command is run, room is
+/// made, and it is run again.
 const FULL_DISK: &str = r#"
-    room=$1; shift
+    room=$1; target=$2; shift 2
     mkdir disk && mount -t tmpfs -o size=256k none disk || exit
     cp house.flow disk/ && cd disk || exit
     head -c "$room" /dev/zero >room && cat /dev/zero >filler 2>/dev/null
@@ -786,23 +838,22 @@ const FULL_DISK: &str = r#"
     : >../mounted
     "$@" >../out 2>../err; echo $? >../status
     ls -A >../names
-    cp house.flow ../full.flow
+    cp "$target" ../full
     rm filler
     "$@" >../next-out 2>../next-err; echo $? >../next-status
     ls -A >../next-names
-    cp house.flow ../next.flow
-    cp house.flow.before ../next.before
+    cp "$target" ../next
+    cp "$target.before" ../next.before
 "#;
 
-/// Runs an amount change on a full disk with so much room left, where this machine lets one mount a disk.
-fn on_a_full_disk(room: &str, sentence: &str) {
-    let save = Save::amount();
-    let old = save.old.as_ref().unwrap();
+/// Runs a save of or from the forty rents on a full disk with so much room left, where this machine lets one
+/// mount a disk.
+fn on_a_full_disk(save: &Save, room: &str, sentence: &str) {
     let folder = Folder::new();
-    fs::write(folder.path("house.flow"), old).unwrap();
+    fs::write(folder.path("house.flow"), sample("forty-rents.flow")).unwrap();
     let ended = Command::new("unshare")
         .args(["--user", "--map-root-user", "--mount"])
-        .args(["sh", "-c", FULL_DISK, "sh", room])
+        .args(["sh", "-c", FULL_DISK, "sh", room, save.target])
         .arg(env!("CARGO_BIN_EXE_mavdesk"))
         .args(save.words)
         .current_dir(folder.path(""))
@@ -814,16 +865,20 @@ fn on_a_full_disk(room: &str, sentence: &str) {
     let text = |name: &str| String::from_utf8(folder.read(name)).unwrap();
     assert_eq!((&text("err")[..], &text("status")[..]), (sentence, "2\n"));
     assert!(!text("out").contains("Saved"));
-    assert!(folder.read("full.flow") == *old);
-    // With room the same amendment is saved.
+    assert!(bytes_of(&folder.path("full")) == save.old);
+    // With room the same is saved.
     assert_eq!(
         (&text("next-err")[..], &text("next-status")[..]),
         ("", "0\n")
     );
     assert!(text("next-out").contains("Saved."));
-    assert!(folder.read("next.flow") == save.new);
-    assert!(folder.read("next.before") == *old);
-    assert_eq!(text("next-names"), "house.flow\nhouse.flow.before\n");
+    assert!(folder.read("next") == save.new);
+    assert!(bytes_of(&folder.path("next.before")) == save.old);
+    let beside = save
+        .old
+        .as_ref()
+        .map_or(save.target.to_owned(), |_| save.before());
+    assert_eq!(text("next-names"), format!("house.flow\n{beside}\n"));
     // Nothing was left over on the full disk.
     assert_eq!(text("names"), "filler\nhouse.flow\n");
 }
@@ -831,15 +886,32 @@ fn on_a_full_disk(room: &str, sentence: &str) {
 #[test]
 fn a_disk_without_room_for_the_new_flow() {
     on_a_full_disk(
+        &Save::amount(),
         "16384",
         "mavdesk: house.flow cannot be saved and is as it was: the disk is full.\n",
     );
 }
 
 #[test]
+fn a_disk_without_room_for_a_recall_flow() {
+    // Room for the lock, and not for the 20 records.
+    on_a_full_disk(
+        &Save::recall(),
+        "4096",
+        "mavdesk: recall.flow cannot be saved: the disk is full.\n",
+    );
+}
+
+#[test]
 fn a_disk_without_any_room() {
     on_a_full_disk(
+        &Save::amount(),
         "0",
         "mavdesk: house.flow cannot be locked: the disk is full.\n",
+    );
+    on_a_full_disk(
+        &Save::recall(),
+        "0",
+        "mavdesk: recall.flow cannot be locked: the disk is full.\n",
     );
 }

@@ -1,4 +1,4 @@
-//! Every refusal number of document 01 as a clerk sees it: its sentence, the record it speaks of, and the
+//! Every refusal number of documents 01 and 02 as a clerk sees it: its sentence, the record it speaks of, and the
 //! mark under the position. The places are those of samples/README.md, and the records are drawn here from
 //! the bytes of the samples. Whatever is refused leaves every file as it was.
 
@@ -6,9 +6,10 @@ mod common;
 
 use std::fs;
 
-use common::{amended, change, drawn, left, record, sample, Folder, RULER_1, RULER_2};
+use common::{amended, change, drawn, left, record, sample, Folder, DATE, NAME, RULER_1, RULER_2};
 use oracle::answer::Answer;
 use oracle::list::write_flow;
+use oracle::FlowKind;
 
 /// A sample that is a refused flow.
 struct Refused {
@@ -38,7 +39,7 @@ const fn refused(
 }
 
 /// The samples whose refusal marks a position.
-const MARKED: [Refused; 12] = [
+const MARKED: [Refused; 13] = [
     refused(
         "refused-02-byte.flow",
         2,
@@ -65,7 +66,7 @@ const MARKED: [Refused; 12] = [
         6,
         (9, 29),
         "the value of this field is not one of those permitted",
-        "07100",
+        "07008",
     ),
     refused(
         "refused-07-blank.flow",
@@ -122,6 +123,13 @@ const MARKED: [Refused; 12] = [
         (16, 83),
         "the trailer's count of records is wrong",
         "0000014 ",
+    ),
+    refused(
+        "refused-22-kind.flow",
+        22,
+        (9, 29),
+        "a request and a recall may not share a flow, and the first one was of the other kind",
+        "07100",
     ),
 ];
 
@@ -220,6 +228,7 @@ fn full_flow() -> Vec<u8> {
                 dispositions: 101,
                 cents: 999_999_999_999_999,
                 records: 709,
+                kind: FlowKind::Requests,
             },
             flow.len()
         )
@@ -234,7 +243,7 @@ fn check_shows_every_refused_flow_with_its_record() {
         let ended = folder.run(&["check", file]);
         let width = file.len();
         let due = format!(
-            "{:width$}   REQUESTS                  TOTAL    RECORDS\n\
+            "{:width$}   KIND         COUNT                 TOTAL    RECORDS\n\
              {file}   {place}\n\n\
              0 flows accepted: 0 requests, 0,00 euro. 1 refused.\n\n\
              {file}: {told}",
@@ -248,22 +257,26 @@ fn check_shows_every_refused_flow_with_its_record() {
 }
 
 /// The samples that are accepted flows, with the numbers of the table of samples.
-const ACCEPTED: [(&str, &str); 4] = [
+const ACCEPTED: [(&str, &str); 5] = [
     (
         "two-rents.flow",
-        "          2                 830,50         16",
+        "   requests         2                830,50         16",
+    ),
+    (
+        "two-rents-recall.flow",
+        "   recalls          2                830,50         16",
     ),
     (
         "two-rents-filler.flow",
-        "          2                 830,50         16",
+        "   requests         2                830,50         16",
     ),
     (
         "one-rent.flow",
-        "          1                 450,00          9",
+        "   requests         1                450,00          9",
     ),
     (
         "forty-rents.flow",
-        "         40              22.250,00        368",
+        "   requests        40             22.250,00        368",
     ),
 ];
 
@@ -276,8 +289,8 @@ fn every_one_of_forty_flows_in_a_folder_is_judged_once() {
     for (file, place, told) in flows() {
         samples.push((file, format!("   {place}"), told));
     }
-    assert_eq!(samples.len(), 18);
-    let flow = |index: usize| (format!("night/house-{index:02}.flow"), &samples[index % 18]);
+    assert_eq!(samples.len(), 20);
+    let flow = |index: usize| (format!("night/house-{index:02}.flow"), &samples[index % 20]);
     // The files are not made in the order of their names.
     for index in (0..40).map(|index| index * 7 % 40) {
         let (name, (from, ..)) = flow(index);
@@ -291,14 +304,15 @@ fn every_one_of_forty_flows_in_a_folder_is_judged_once() {
             pictures += &format!("\n{name}: {told}");
         }
     }
-    // 40 flows are the 18 samples twice and the first four again, so that the accepted ones come three times:
-    // 3 times 45 requests and 3 times 24.361,00 euro.
+    // 40 flows are the 20 samples twice: twice 45 requests and 24.361,00 euro, and twice the two rents
+    // recalled.
     let ended = folder.run(&["check", "night"]);
     assert_eq!(
         ended.out,
         format!(
-            "FLOW                  REQUESTS                  TOTAL    RECORDS\n{rows}\n\
-             12 flows accepted: 135 requests, 73.083,00 euro. 28 refused.\n{pictures}"
+            "FLOW                  KIND         COUNT                 TOTAL    RECORDS\n{rows}\n\
+             10 flows accepted: 90 requests, 48.722,00 euro; 4 recalls, 1.661,00 euro. 30 refused.\n\
+             {pictures}"
         )
     );
     assert_eq!(ended.err, "");
@@ -320,6 +334,8 @@ fn every_other_command_refuses_a_refused_flow_in_the_same_words_and_changes_noth
             &["withdraw", "--yes", file, "1"],
             &["withdraw", "--yes", file, "1", "2"],
             &["list", "--yes", file, "new.list"],
+            &["recall", "--yes", NAME, DATE, file, "new.flow", "1"],
+            &["recall", "--yes", NAME, DATE, file, "new.flow", "99"],
         ] {
             folder
                 .run(words)
@@ -465,7 +481,7 @@ fn a_leap_day_is_refused_by_8_in_a_common_year_only() {
     let folder = folder_of("a.flow", &flow);
     folder.run(&["show", "a.flow", "--find", "rossi"]).printed(
         "\
-a.flow: AB123, 15/03/2026, RENT-MARCH
+a.flow: requests of AB123, 15/03/2026, RENT-MARCH
 
  NUMBER  DUE                   AMOUNT  DEBTOR                         REFERENCE
       1  29/02/2028            450,00  ROSSI GIULIA                   0000000017
@@ -837,7 +853,7 @@ fn every_number_but_21_is_reached_with_the_sentence_that_explains_it() {
     }
     cases.sort();
     let numbers: Vec<u64> = cases.iter().map(|(number, _)| *number).collect();
-    let due: Vec<u64> = (1..=18).chain([20]).collect();
+    let due: Vec<u64> = (1..=18).chain([20, 22]).collect();
     assert_eq!(numbers, due);
     for (number, words) in cases {
         let folder = folder_of("full.flow", &full);

@@ -3,16 +3,17 @@
 use crate::answer::{accepted, ask_flow, length, Accepted, Refusal};
 use crate::raw;
 
-/// Gives disposition `k`, counted from 1, the amount `cents`, and gives the numbers of the flow left.
+/// Gives disposition `k`, counted from 1, the amount `cents`, and gives the numbers and the kind of the flow
+/// left.
 ///
 /// Refused as by [`read`](crate::read), then by
 /// [`NoSuchDisposition`](crate::Reason::NoSuchDisposition),
 /// [`AmountTooLarge`](crate::Reason::AmountTooLarge) and [`TotalTooLarge`](crate::Reason::TotalTooLarge).
-/// It writes positions 34-46 of that disposition's record 14 and 53-67 of the trailer, and no other byte;
-/// a refused call leaves every byte as it was.
+/// It writes positions 34-46 of that disposition's record 14 and the total of the trailer, at 53-67 of
+/// requests and at 68-82 of recalls, and no other byte; a refused call leaves every byte as it was.
 ///
 /// ```
-/// use mav::{Accepted, Reason};
+/// use mav::Reason;
 ///
 /// let sample = include_bytes!(concat!(env!("CARGO_MANIFEST_DIR"), "/../../samples/two-rents.flow"));
 /// let mut flow = *sample;
@@ -24,7 +25,7 @@ use crate::raw;
 ///
 /// // Example 2 of document 01: the total becomes 85000.
 /// let accepted = mav::change(&mut flow, 2, 40_000)?;
-/// assert_eq!(accepted, Accepted { dispositions: 2, cents: 85_000, records: 16 });
+/// assert_eq!(accepted.to_string(), "accepted dispositions 2 cents 85000 records 16 kind requests");
 /// assert_eq!(mav::find(&flow, 2)?.cents, 40_000);
 /// # Ok::<(), mav::Refusal>(())
 /// ```
@@ -33,7 +34,7 @@ pub fn change(flow: &mut [u8], k: u64, cents: u64) -> Result<Accepted, Refusal> 
 }
 
 /// Takes disposition `k`, counted from 1, out of a flow, shortens the vector to the flow left, and gives
-/// its numbers.
+/// its numbers and its kind.
 ///
 /// Refused as by [`read`](crate::read), then by
 /// [`NoSuchDisposition`](crate::Reason::NoSuchDisposition) and
@@ -41,13 +42,13 @@ pub fn change(flow: &mut [u8], k: u64, cents: u64) -> Result<Accepted, Refusal> 
 /// A refused call leaves every byte as it was, and the flow keeps its length.
 ///
 /// ```
-/// use mav::{Accepted, Reason};
+/// use mav::Reason;
 ///
 /// let mut flow = include_bytes!(concat!(env!("CARGO_MANIFEST_DIR"), "/../../samples/two-rents.flow")).to_vec();
 ///
 /// // Example 3 of document 01: 1,080 bytes are left.
 /// let left = mav::withdraw(&mut flow, 1)?;
-/// assert_eq!(left, Accepted { dispositions: 1, cents: 38_050, records: 9 });
+/// assert_eq!(left.to_string(), "accepted dispositions 1 cents 38050 records 9 kind requests");
 /// assert_eq!(flow.len(), 1_080);
 /// assert_eq!(mav::read(&flow), Ok(left));
 ///
@@ -67,28 +68,28 @@ pub fn withdraw(flow: &mut Vec<u8>, k: u64) -> Result<Accepted, Refusal> {
 #[derive(Clone, Copy, Debug, Eq, Hash, PartialEq)]
 #[must_use = "only the first `length` bytes are still a flow, and blanks stand after them"]
 pub struct Withdrawn {
-    /// The numbers of the flow left.
+    /// The numbers and the kind of the flow left.
     pub accepted: Accepted,
     /// Its length in bytes. The next call takes the first so many bytes of the slice.
     pub length: usize,
 }
 
-/// The same in memory that cannot be shortened: takes disposition `k` out, and gives the numbers and the
-/// length of the flow left.
+/// The same in memory that cannot be shortened: takes disposition `k` out, and gives the numbers, the kind
+/// and the length of the flow left.
 ///
 /// Refused as [`withdraw`] is. The freed bytes at the end become blanks: after that the slice is longer
 /// than its flow, and only its first [`length`](Withdrawn::length) bytes are a flow. A refused call leaves
 /// every byte as it was, and the flow keeps its length.
 ///
 /// ```
-/// use mav::{Accepted, Reason};
+/// use mav::Reason;
 ///
 /// let mut flow = *include_bytes!(concat!(env!("CARGO_MANIFEST_DIR"), "/../../samples/two-rents.flow"));
 ///
 /// // Example 3 of document 01: 1,080 bytes are left, and 840 blanks.
 /// let left = mav::withdraw_in_place(&mut flow, 1)?;
 /// assert_eq!(left.length, 1_080);
-/// assert_eq!(left.accepted, Accepted { dispositions: 1, cents: 38_050, records: 9 });
+/// assert_eq!(left.accepted.to_string(), "accepted dispositions 1 cents 38050 records 9 kind requests");
 /// assert_eq!(flow[1_080..], [b' '; 840]);
 ///
 /// // The shorter flow is read at its own length. At the old one it is refused.

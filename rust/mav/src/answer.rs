@@ -1,13 +1,14 @@
-//! What a call gives: the three numbers of a flow, or a refusal; and how both are taken from the eight
-//! entries of an answer.
+//! What a call gives: the numbers and the kind of a flow, or a refusal; and how both are taken from the
+//! eight entries of an answer.
 
 use std::error::Error;
 use std::fmt;
 
+use crate::kind::FlowKind;
 use crate::raw::Entries;
 use crate::reason::Reason;
 
-/// The three numbers of an accepted flow.
+/// The three numbers of an accepted flow, and its kind.
 ///
 /// [`Display`](fmt::Display) gives the line of the small program.
 ///
@@ -15,8 +16,13 @@ use crate::reason::Reason;
 /// let flow = include_bytes!(concat!(env!("CARGO_MANIFEST_DIR"), "/../../samples/two-rents.flow"));
 ///
 /// let accepted = mav::read(flow)?;
-/// assert_eq!(accepted, mav::Accepted { dispositions: 2, cents: 83_050, records: 16 });
-/// assert_eq!(accepted.to_string(), "accepted dispositions 2 cents 83050 records 16");
+/// assert_eq!(accepted, mav::Accepted {
+///     dispositions: 2,
+///     cents: 83_050,
+///     records: 16,
+///     kind: mav::FlowKind::Requests,
+/// });
+/// assert_eq!(accepted.to_string(), "accepted dispositions 2 cents 83050 records 16 kind requests");
 /// # Ok::<(), mav::Refusal>(())
 /// ```
 #[derive(Clone, Copy, Debug, Eq, Hash, PartialEq)]
@@ -27,6 +33,8 @@ pub struct Accepted {
     pub cents: u64,
     /// How many records the flow has, header and trailer counted.
     pub records: u64,
+    /// New requests or recalls.
+    pub kind: FlowKind,
 }
 
 impl fmt::Display for Accepted {
@@ -35,15 +43,16 @@ impl fmt::Display for Accepted {
             dispositions,
             cents,
             records,
+            kind,
         } = self;
         write!(
             f,
-            "accepted dispositions {dispositions} cents {cents} records {records}"
+            "accepted dispositions {dispositions} cents {cents} records {records} kind {kind}"
         )
     }
 }
 
-/// A refused call: its first fault in document 01's order. Nothing was changed.
+/// A refused call: its first fault in the documents' order. Nothing was changed.
 ///
 /// [`Display`](fmt::Display) gives the line of the small program, a colon, and the reason's sentence.
 ///
@@ -106,12 +115,13 @@ pub(crate) fn ask_flow(call: impl FnOnce(&mut Entries) -> u8) -> Result<Entries,
     })
 }
 
-/// The three numbers of a flow, from an accepted answer.
+/// The three numbers of a flow and its kind, from an accepted answer.
 pub(crate) fn accepted(entries: &Entries) -> Accepted {
     Accepted {
         dispositions: entries[0],
         cents: entries[1],
         records: entries[2],
+        kind: FlowKind::from_entry(entries[4]),
     }
 }
 
@@ -148,6 +158,22 @@ mod tests {
             entries[0] = 19;
             0
         });
+    }
+
+    #[test]
+    fn the_kind_is_entry_4() {
+        let told = accepted(&[2, 83_050, 16, 1_920, 2, 0, 0, 0]);
+        assert_eq!(told.kind, FlowKind::Recalls);
+        assert_eq!(
+            (told.dispositions, told.cents, told.records),
+            (2, 83_050, 16)
+        );
+    }
+
+    #[test]
+    #[should_panic(expected = "it gave the kind of flow 0")]
+    fn an_accepted_flow_has_a_kind() {
+        let _ = accepted(&[2, 83_050, 16, 0, 0, 0, 0, 0]);
     }
 
     #[test]

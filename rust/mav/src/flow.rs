@@ -6,15 +6,21 @@ use crate::answer::{accepted, ask_flow, foreign, Accepted, Refusal};
 use crate::limits::RECORD_LENGTH;
 use crate::raw;
 
-/// Judges a flow and gives its three numbers.
+/// Judges a flow and gives its three numbers and its kind.
 ///
-/// Refused by its first fault, with the numbers 1 to 14. The bytes are read in place and never copied.
+/// Refused by its first fault, with the numbers 1 to 14 and 22. The bytes are read in place and never copied.
 ///
 /// ```
-/// use mav::{Accepted, Reason, Refusal};
+/// use mav::{Accepted, FlowKind, Reason, Refusal};
 ///
 /// let flow = include_bytes!(concat!(env!("CARGO_MANIFEST_DIR"), "/../../samples/two-rents.flow"));
-/// assert_eq!(mav::read(flow), Ok(Accepted { dispositions: 2, cents: 83_050, records: 16 }));
+/// let kind = FlowKind::Requests;
+/// assert_eq!(mav::read(flow), Ok(Accepted { dispositions: 2, cents: 83_050, records: 16, kind }));
+///
+/// // The same rents recalled.
+/// let flow = include_bytes!(concat!(env!("CARGO_MANIFEST_DIR"), "/../../samples/two-rents-recall.flow"));
+/// let kind = FlowKind::Recalls;
+/// assert_eq!(mav::read(flow), Ok(Accepted { dispositions: 2, cents: 83_050, records: 16, kind }));
 ///
 /// // An empty flow: example 4 of document 01.
 /// assert_eq!(mav::read(&[]), Err(Refusal { reason: Reason::Length, record: 0, position: 0 }));

@@ -1,4 +1,4 @@
-//! The kinds of item in a request list: document 01's table, for whoever shows a list or counts its items.
+//! The kinds of item in a request list: the documents' table, for whoever shows a list or counts its items.
 //! The library has its own; nothing here is asked when a list is judged or written.
 
 use crate::limits::RECORD_LENGTH;
@@ -14,9 +14,14 @@ pub struct ItemKind {
     pub carried: &'static [(usize, usize)],
 }
 
-/// The rows of the table (document 01, "Our request list").
-const KINDS: [ItemKind; 10] = [
-    row(b'H', b"IM", &[(4, 45), (105, 111)]),
+/// The carried positions of a header, of either kind of flow.
+const HEADER: &[(usize, usize)] = &[(4, 45), (105, 111)];
+
+/// The rows of the table (document 01, "Our request list"; document 02, E1 for Q, which opens a list of
+/// recalls).
+const KINDS: [ItemKind; 11] = [
+    row(b'H', b"IM", HEADER),
+    row(b'Q', b"IM", HEADER),
     row(b'D', b"14", &[(23, 28), (34, 46), (53, 69), (92, 113)]),
     row(b'S', b"16", &[(11, 37)]),
     row(b'C', b"20", &[(11, 106)]),
@@ -43,6 +48,7 @@ impl ItemKind {
     /// use mav::ItemKind;
     ///
     /// assert_eq!(ItemKind::of(b'D').map(|found| found.record_type), Some(*b"14"));
+    /// assert_eq!(ItemKind::of(b'Q').map(|found| found.record_type), Some(*b"IM"));
     /// assert_eq!(ItemKind::of(b'd'), None);
     /// ```
     pub fn of(kind: u8) -> Option<&'static ItemKind> {
@@ -107,7 +113,7 @@ mod tests {
     #[test]
     fn bodies_have_the_lengths_of_the_table() {
         let lengths = KINDS.map(|kind| kind.body_length());
-        assert_eq!(lengths, [49, 58, 27, 96, 76, 110, 110, 110, 110, 26]);
+        assert_eq!(lengths, [49, 49, 58, 27, 96, 76, 110, 110, 110, 110, 26]);
         assert_eq!(lengths.iter().max(), Some(&(MAX_ITEM_LENGTH - 1)));
     }
 

@@ -1,14 +1,14 @@
-//! Safe bindings to the proved M.Av. library: request flows of 120-byte records are read, searched,
-//! written from a request list, read back to one, and amended.
+//! Safe bindings to the proved M.Av. library: flows of 120-byte records, of new requests or of recalls, are
+//! read, searched, written from a request list, read back to one, and amended.
 //!
 //! A flow and a list are the caller's bytes. Every call takes them at any length and with any contents and
 //! asks nothing of them first. It works in place, keeps nothing between calls, and gives either what it
-//! was asked for or a [`Refusal`]: one number of document 01's table, one record and one position. A
-//! refused call leaves every byte as it was.
+//! was asked for or a [`Refusal`]: one number of the documents, one record and one position. A refused call
+//! leaves every byte as it was.
 //!
 //! | call | what it does |
 //! |---|---|
-//! | [`read`] | judges a flow and gives its dispositions, cents and records |
+//! | [`read`] | judges a flow and gives its dispositions, cents, records and kind |
 //! | [`find`] | says where a disposition stands, and gives its part of the flow |
 //! | [`dispositions`] | judges a flow once and gives all its dispositions, one after the other |
 //! | [`write`](fn@write), [`write_to_vec`] | writes the flow that a request list encodes |
@@ -29,11 +29,11 @@
 //! let mut flow = include_bytes!(concat!(env!("CARGO_MANIFEST_DIR"), "/../../samples/two-rents.flow")).to_vec();
 //!
 //! let accepted = mav::read(&flow)?;
-//! assert_eq!(accepted.to_string(), "accepted dispositions 2 cents 83050 records 16");
+//! assert_eq!(accepted.to_string(), "accepted dispositions 2 cents 83050 records 16 kind requests");
 //!
 //! mav::change(&mut flow, 2, 40_000)?;
 //! mav::withdraw(&mut flow, 1)?;
-//! assert_eq!(mav::read(&flow)?.to_string(), "accepted dispositions 1 cents 40000 records 9");
+//! assert_eq!(mav::read(&flow)?.to_string(), "accepted dispositions 1 cents 40000 records 9 kind requests");
 //!
 //! let refusal = mav::withdraw(&mut flow, 1).unwrap_err();
 //! assert_eq!(refusal.reason, mav::Reason::OnlyDisposition);
@@ -51,6 +51,7 @@ mod answer;
 mod fields;
 mod flow;
 mod item;
+mod kind;
 mod limits;
 mod list;
 mod parts;
@@ -63,6 +64,7 @@ pub use answer::{Accepted, Refusal};
 pub use fields::{amount, date, digits, FieldRefusal};
 pub use flow::{find, read, Disposition};
 pub use item::{items, ItemKind};
+pub use kind::FlowKind;
 pub use limits::{
     AMOUNT_LENGTH, DATE_LENGTH, MAX_AMOUNT, MAX_DIGITS, MAX_FLOW_LENGTH, MAX_ITEM_LENGTH,
     MAX_RECORDS, MAX_TOTAL, RECORD_LENGTH,

@@ -9,7 +9,7 @@ use crate::raw;
 #[derive(Clone, Copy, Debug, Eq, Hash, PartialEq)]
 #[must_use = "only the first `length` bytes of the output were written"]
 pub struct Written {
-    /// The numbers of the flow, written or read.
+    /// The numbers and the kind of the flow, written or read.
     pub accepted: Accepted,
     /// How many bytes were written. The output beyond them is as it was.
     pub length: usize,
@@ -24,18 +24,19 @@ impl Written {
     }
 }
 
-/// Writes the flow that a request list encodes at the front of `out`.
+/// Writes the flow that a request list encodes at the front of `out`: of new requests where the list opens
+/// with H, of recalls where it opens with Q.
 ///
 /// Refused by [`Item`](crate::Reason::Item), then by [`Length`](crate::Reason::Length) where the flow
 /// would have more than [`MAX_RECORDS`](crate::MAX_RECORDS) records, then by
 /// [`Room`](crate::Reason::Room) where `out` is shorter than [`flow_room`], then as [`read`](crate::read)
 /// refuses the records but the trailer, or by [`RecordType`](crate::Reason::RecordType) where the trailer
 /// may not stand, then by [`TotalTooLarge`](crate::Reason::TotalTooLarge). The call itself numbers the
-/// records and writes the trailer, so that the numbers 4, 9 and 12 to 14 cannot come. The list is judged
-/// whole before a byte is written.
+/// records, gives them the kind of their header and writes the trailer, so that the numbers 4, 9, 12 to 14
+/// and 22 cannot come. The list is judged whole before a byte is written.
 ///
 /// ```
-/// use mav::{Accepted, Reason};
+/// use mav::Reason;
 ///
 /// let list = include_bytes!(concat!(env!("CARGO_MANIFEST_DIR"), "/../../samples/two-rents.list"));
 /// let flow = include_bytes!(concat!(env!("CARGO_MANIFEST_DIR"), "/../../samples/two-rents.flow"));
@@ -47,7 +48,7 @@ impl Written {
 ///
 /// let written = mav::write(list, &mut out)?;
 /// assert_eq!(written.length, 1_920);
-/// assert_eq!(written.accepted, Accepted { dispositions: 2, cents: 83_050, records: 16 });
+/// assert_eq!(written.accepted.to_string(), "accepted dispositions 2 cents 83050 records 16 kind requests");
 /// assert_eq!(&out[..1_920], flow);
 /// assert_eq!(out[1_920..], [b'#'; 80]);
 /// # Ok::<(), mav::Refusal>(())
@@ -56,7 +57,7 @@ pub fn write(list: &[u8], out: &mut [u8]) -> Result<Written, Refusal> {
     ask_flow(|answer| raw::write(list, out, answer)).map(|entries| Written::of(&entries))
 }
 
-/// Writes the request list of a flow at the front of `out`.
+/// Writes the request list of a flow at the front of `out`. It opens with H, that of recalls with Q.
 ///
 /// Refused as by [`read`](crate::read), then by [`Room`](crate::Reason::Room) where `out` is shorter than
 /// the list. [`list_room`] is always enough.
@@ -70,13 +71,17 @@ pub fn write(list: &[u8], out: &mut [u8]) -> Result<Written, Refusal> {
 /// let written = mav::read_back(flow, &mut out)?;
 /// assert_eq!(written.length, 1_236);
 /// assert_eq!(&out[..written.length], list);
+///
+/// let recall = include_bytes!(concat!(env!("CARGO_MANIFEST_DIR"), "/../../samples/two-rents-recall.flow"));
+/// assert_eq!(mav::read_back(recall, &mut out)?.accepted.kind, mav::FlowKind::Recalls);
+/// assert_eq!((out[0], &out[1..1_236]), (b'Q', &list[1..]));
 /// # Ok::<(), mav::Refusal>(())
 /// ```
 pub fn read_back(flow: &[u8], out: &mut [u8]) -> Result<Written, Refusal> {
     ask_flow(|answer| raw::list(flow, out, answer)).map(|entries| Written::of(&entries))
 }
 
-/// The flow that a request list encodes, in memory of its own, with its numbers.
+/// The flow that a request list encodes, in memory of its own, with its numbers and its kind.
 ///
 /// Refused as by [`write`](fn@write), but never by [`Room`](crate::Reason::Room): it makes the room of
 /// [`flow_room`] first, also for a list that is then refused.
@@ -101,7 +106,7 @@ pub fn write_to_vec(list: &[u8]) -> Result<(Accepted, Vec<u8>), Refusal> {
     Ok((written.accepted, out))
 }
 
-/// The request list of a flow, in memory of its own, with the flow's numbers.
+/// The request list of a flow, in memory of its own, with the flow's numbers and kind.
 ///
 /// Refused as by [`read`](crate::read), and never by [`Room`](crate::Reason::Room): it makes the room of
 /// [`list_room`] first, also for a flow that is then refused.

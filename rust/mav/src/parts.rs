@@ -54,7 +54,7 @@ pub struct Dispositions<'a> {
 }
 
 impl Dispositions<'_> {
-    /// The three numbers of the whole flow, as [`read`] gives them.
+    /// The three numbers and the kind of the whole flow, as [`read`] gives them.
     ///
     /// ```
     /// let flow = include_bytes!(concat!(env!("CARGO_MANIFEST_DIR"), "/../../samples/two-rents.flow"));

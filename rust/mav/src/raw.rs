@@ -18,8 +18,10 @@
 //! assert_eq!(answer, [1, 0, 0, 0, 0, 0, 0, 0]);
 //! ```
 
-/// The eight entries of an answer: three numbers, the length where the call has one, four zeros. Of a
-/// refusal the three are its number, its record and its position.
+/// The eight entries of an answer: three numbers, the length where the call has one, the kind of flow, three
+/// zeros. Of a refusal the three numbers are its number, its record and its position. The kind is 1 for
+/// requests and 2 for recalls where [`read`], [`write`](fn@write), [`list`], [`change`] or [`withdraw`] is
+/// accepted, and 0 in every refusal and in every other call.
 pub type Entries = [u64; 8];
 
 extern "C" {
@@ -62,7 +64,7 @@ pub fn date(field: &[u8], answer: &mut Entries) -> u8 {
     unsafe { mav_date(field.as_ptr(), field.len(), answer) }
 }
 
-/// The numbers of a flow: dispositions, cents and records.
+/// The numbers of a flow: dispositions, cents and records; and its kind, entry 4.
 #[must_use = "0 says that the call is refused"]
 pub fn read(flow: &[u8], answer: &mut Entries) -> u8 {
     // SAFETY: as for `digits`.
@@ -106,7 +108,7 @@ pub fn list(flow: &[u8], out: &mut [u8], answer: &mut Entries) -> u8 {
     }
 }
 
-/// Gives disposition `k` the amount. An accepted answer has the numbers of the flow left.
+/// Gives disposition `k` the amount. An accepted answer has the numbers and the kind of the flow left.
 #[must_use = "0 says that the call is refused"]
 pub fn change(flow: &mut [u8], k: u64, cents: u64, answer: &mut Entries) -> u8 {
     // SAFETY: as for `write`, with `flow` in the place of `out`.

@@ -1,8 +1,9 @@
-//! The refusal numbers of document 01's table, each under a name.
+//! The refusal numbers of documents 01 and 02, each under a name.
 
 use std::fmt;
 
-/// Why a call is refused: one variant for each number of document 01's table, "Numbers a clerk may see".
+/// Why a call is refused: one variant for each number of document 01's table, "Numbers a clerk may see", and
+/// for each that a request of document 02 adds.
 ///
 /// Number 19 is not used. [`Display`](fmt::Display) gives one sentence for a clerk, which begins in small
 /// letters and has no period, so that it can follow a colon.
@@ -72,6 +73,8 @@ pub enum Reason {
     Item = 20,
     /// 21: the output is shorter than needed.
     Room = 21,
+    /// 22: a disposition is of another [kind](crate::FlowKind) than the first one of its flow.
+    OtherKind = 22,
 }
 
 impl Reason {
@@ -80,7 +83,7 @@ impl Reason {
     /// ```
     /// use mav::Reason;
     ///
-    /// assert_eq!(Reason::ALL.len(), 20);
+    /// assert_eq!(Reason::ALL.len(), 21);
     /// assert!(Reason::ALL.iter().all(|reason| reason.number() != 19));
     /// ```
     pub const ALL: &'static [Reason] = &[
@@ -104,9 +107,10 @@ impl Reason {
         Reason::OnlyDisposition,
         Reason::Item,
         Reason::Room,
+        Reason::OtherKind,
     ];
 
-    /// The number in document 01's table.
+    /// The number in the documents.
     ///
     /// ```
     /// assert_eq!(mav::Reason::Room.number(), 21);
@@ -115,12 +119,13 @@ impl Reason {
         self as u64
     }
 
-    /// The reason with this number, or nothing where the table has no such number.
+    /// The reason with this number, or nothing where the documents have no such number.
     ///
     /// ```
     /// use mav::Reason;
     ///
     /// assert_eq!(Reason::from_number(4), Some(Reason::Ended));
+    /// assert_eq!(Reason::from_number(22), Some(Reason::OtherKind));
     /// assert_eq!(Reason::from_number(19), None);
     /// assert_eq!(Reason::from_number(0), None);
     /// ```
@@ -154,6 +159,9 @@ impl Reason {
             Reason::OnlyDisposition => "the only disposition of a flow cannot be withdrawn",
             Reason::Item => "the list's item of that number is of an unknown kind or is cut short",
             Reason::Room => "there is not enough room for what is to be written",
+            Reason::OtherKind => {
+                "a request and a recall may not share a flow, and the first one was of the other kind"
+            }
         }
     }
 }

@@ -65,7 +65,7 @@ fn the_lengths_of_lists_and_flows() {
 
 #[test]
 fn a_flow_and_its_list_in_memory_of_their_own() {
-    for name in ["two-rents", "forty-rents"] {
+    for name in ["two-rents", "two-rents-recall", "forty-rents"] {
         let flow = sample(&format!("{name}.flow"));
         let list = sample(&format!("{name}.list"));
         let told = mav::read(&flow).expect("right");
@@ -139,6 +139,7 @@ fn forty_rents_withdrawn_one_after_another() {
 fn a_vector_is_left_with_the_flow_and_no_blanks() {
     for file in [
         "two-rents.flow",
+        "two-rents-recall.flow",
         "two-rents-filler.flow",
         "forty-rents.flow",
     ] {

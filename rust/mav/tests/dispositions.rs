@@ -2,11 +2,12 @@
 
 mod common;
 
-use common::{differences, positions, sample};
-use mav::{Disposition, Reason};
+use common::{differences, positions, refused, sample};
+use mav::{Disposition, FlowKind, Reason};
 
-const RIGHT: [&str; 4] = [
+const RIGHT: [&str; 5] = [
     "two-rents.flow",
+    "two-rents-recall.flow",
     "two-rents-filler.flow",
     "one-rent.flow",
     "forty-rents.flow",
@@ -36,17 +37,26 @@ fn as_found(flow: &[u8]) -> Vec<Disposition<'_>> {
 
 #[test]
 fn the_two_rents() {
-    let flow = sample("two-rents.flow");
-    let due = [(1, 2, 45_000, 120..960), (2, 9, 38_050, 960..1_800)].map(
-        |(number, first_record, cents, bytes)| Disposition {
-            number,
-            first_record,
-            records: 7,
-            cents,
-            part: &flow[bytes],
-        },
-    );
-    assert_eq!(as_found(&flow), due);
+    for file in ["two-rents.flow", "two-rents-recall.flow"] {
+        let flow = sample(file);
+        let due = [(1, 2, 45_000, 120..960), (2, 9, 38_050, 960..1_800)].map(
+            |(number, first_record, cents, bytes)| Disposition {
+                number,
+                first_record,
+                records: 7,
+                cents,
+                part: &flow[bytes],
+            },
+        );
+        assert_eq!(as_found(&flow), due);
+    }
+}
+
+#[test]
+fn the_kind_is_that_of_the_flow() {
+    let kind = |file| mav::dispositions(&sample(file)).map(|given| given.accepted().kind);
+    assert_eq!(kind("two-rents.flow"), Ok(FlowKind::Requests));
+    assert_eq!(kind("two-rents-recall.flow"), Ok(FlowKind::Recalls));
 }
 
 #[test]
@@ -76,6 +86,8 @@ fn a_refused_flow_gives_its_refusal_alone() {
     let block_twice = sample("refused-09-block-twice.flow");
     let refusal = mav::dispositions(&block_twice).unwrap_err();
     assert_eq!(refusal.reason, Reason::DispositionNumber);
+    let refusal = mav::dispositions(&sample("refused-22-kind.flow")).unwrap_err();
+    assert_eq!(refusal, refused(Reason::OtherKind, 9, 29));
 }
 
 /// How many are left is known before each, and after the last one there is nothing more.

@@ -1,4 +1,5 @@
-//! The C header names the numbers of the table, and the C example writes the lines of the small program.
+//! The C header names the numbers of the documents and the kinds of flow, and the C example writes the lines
+//! of the small program.
 
 mod common;
 
@@ -21,19 +22,44 @@ fn c_name(reason: Reason) -> String {
     name
 }
 
+/// The text of the header.
+fn header() -> String {
+    fs::read_to_string(root().join("include/mav.h")).expect("the header")
+}
+
+/// Whether a line of the header gives this name this number.
+fn gives(text: &str, name: &str, number: u64) -> bool {
+    let due = format!("    {name} = {number}");
+    // The number is over there.
+    let ends = |rest: &str| !rest.starts_with(|next: char| next.is_ascii_digit());
+    let mut lines = text.lines();
+    lines.any(|line| line.strip_prefix(&due).is_some_and(ends))
+}
+
 #[test]
-fn the_header_has_every_number_and_limit() {
-    let text = fs::read_to_string(root().join("include/mav.h")).expect("the header");
+fn the_header_has_every_number() {
+    let text = header();
     let given: Vec<&str> = text
         .lines()
         .filter_map(|line| line.trim().strip_prefix("MAV_REFUSED_"))
         .collect();
     assert_eq!(given.len(), Reason::ALL.len());
     for &reason in Reason::ALL {
-        let due = format!("    {} = {}", c_name(reason), reason.number());
-        let stands = |line: &str| line.strip_prefix(&due).is_some_and(ends_a_number);
-        assert!(text.lines().any(stands), "{due}");
+        assert!(gives(&text, &c_name(reason), reason.number()), "{reason:?}");
     }
+}
+
+#[test]
+fn the_header_has_the_kinds_and_their_entry() {
+    let text = header();
+    assert!(gives(&text, "MAV_KIND", 4));
+    assert!(gives(&text, "MAV_KIND_REQUESTS", 1));
+    assert!(gives(&text, "MAV_KIND_RECALLS", 2));
+}
+
+#[test]
+fn the_header_has_the_limits() {
+    let text = header();
     for due in [
         format!("MAV_RECORD_LENGTH {}", mav::RECORD_LENGTH),
         format!("MAV_MAX_FLOW_LENGTH {}", mav::MAX_FLOW_LENGTH),
@@ -45,11 +71,6 @@ fn the_header_has_every_number_and_limit() {
             "{due}"
         );
     }
-}
-
-/// Whether a number is over before this text.
-fn ends_a_number(rest: &str) -> bool {
-    !rest.starts_with(|next: char| next.is_ascii_digit())
 }
 
 /// The example, compiled as C11 with every warning an error.
@@ -77,12 +98,17 @@ fn the_example_writes_one_line() {
     for (file, line) in [
         (
             "two-rents.flow",
-            "accepted dispositions 2 cents 83050 records 16\n",
+            "accepted dispositions 2 cents 83050 records 16 kind requests\n",
+        ),
+        (
+            "two-rents-recall.flow",
+            "accepted dispositions 2 cents 83050 records 16 kind recalls\n",
         ),
         (
             "refused-09-block-twice.flow",
             "refused 9 record 9 position 4\n",
         ),
+        ("refused-22-kind.flow", "refused 22 record 9 position 29\n"),
         ("refused-03-empty.list", "refused 1 record 0 position 0\n"),
     ] {
         let told = run(&program, file);

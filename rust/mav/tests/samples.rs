@@ -1,4 +1,4 @@
-//! Every sample gives the answer that samples/README.md says, and every number of the table is reached.
+//! Every sample gives the answer that samples/README.md says, and every number of the documents is reached.
 
 mod common;
 
@@ -22,40 +22,50 @@ use Call::{Change, Read, Withdraw, Write};
 /// A sample, the call, and the line of the answer due.
 type Row = (&'static str, Call, &'static str);
 
-const ACCEPTED: [Row; 6] = [
+const ACCEPTED: [Row; 8] = [
     (
         "two-rents.flow",
         Read,
-        "accepted dispositions 2 cents 83050 records 16",
+        "accepted dispositions 2 cents 83050 records 16 kind requests",
     ),
     (
         "two-rents.list",
         Write(1_920),
-        "accepted dispositions 2 cents 83050 records 16",
+        "accepted dispositions 2 cents 83050 records 16 kind requests",
+    ),
+    (
+        "two-rents-recall.flow",
+        Read,
+        "accepted dispositions 2 cents 83050 records 16 kind recalls",
+    ),
+    (
+        "two-rents-recall.list",
+        Write(1_920),
+        "accepted dispositions 2 cents 83050 records 16 kind recalls",
     ),
     (
         "two-rents-filler.flow",
         Read,
-        "accepted dispositions 2 cents 83050 records 16",
+        "accepted dispositions 2 cents 83050 records 16 kind requests",
     ),
     (
         "one-rent.flow",
         Read,
-        "accepted dispositions 1 cents 45000 records 9",
+        "accepted dispositions 1 cents 45000 records 9 kind requests",
     ),
     (
         "forty-rents.flow",
         Read,
-        "accepted dispositions 40 cents 2225000 records 368",
+        "accepted dispositions 40 cents 2225000 records 368 kind requests",
     ),
     (
         "forty-rents.list",
         Write(44_160),
-        "accepted dispositions 40 cents 2225000 records 368",
+        "accepted dispositions 40 cents 2225000 records 368 kind requests",
     ),
 ];
 
-const REFUSED: [Row; 21] = [
+const REFUSED: [Row; 22] = [
     (
         "refused-01-length.flow",
         Read,
@@ -161,6 +171,11 @@ const REFUSED: [Row; 21] = [
         Write(1_919),
         "refused 21 record 0 position 0",
     ),
+    (
+        "refused-22-kind.flow",
+        Read,
+        "refused 22 record 9 position 29",
+    ),
 ];
 
 /// The answer, and beside a refusal its reason.
@@ -195,7 +210,7 @@ fn every_refusal_is_the_one_due_with_its_sentence() {
 }
 
 #[test]
-fn every_number_of_the_table_is_reached() {
+fn every_number_of_the_documents_is_reached() {
     let mut reached: Vec<Reason> = REFUSED
         .into_iter()
         .filter_map(|row| answer(row).1)
@@ -205,15 +220,15 @@ fn every_number_of_the_table_is_reached() {
 }
 
 #[test]
-fn the_numbers_are_those_of_the_table() {
-    let table = [
-        1, 2, 3, 4, 5, 6, 7, 8, 9, 10, 11, 12, 13, 14, 15, 16, 17, 18, 20, 21,
+fn the_numbers_are_those_of_the_documents() {
+    let due = [
+        1, 2, 3, 4, 5, 6, 7, 8, 9, 10, 11, 12, 13, 14, 15, 16, 17, 18, 20, 21, 22,
     ];
     let numbers: Vec<u64> = Reason::ALL.iter().map(|reason| reason.number()).collect();
-    assert_eq!(numbers, table);
+    assert_eq!(numbers, due);
     for number in 0..=1_000 {
         let reason = Reason::from_number(number);
-        assert_eq!(reason.is_some(), table.contains(&number), "{number}");
+        assert_eq!(reason.is_some(), due.contains(&number), "{number}");
         assert!(reason.is_none_or(|reason| reason.number() == number));
     }
     // Numbers that a cast to eight bits would take for 1 and 5.

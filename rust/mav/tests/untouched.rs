@@ -2,11 +2,15 @@
 
 mod common;
 
-use common::{differences, positions, sample};
+use std::fs;
 
-const FILES: [&str; 23] = [
+use common::{differences, positions, root, sample};
+
+const FILES: [&str; 26] = [
     "two-rents.flow",
     "two-rents.list",
+    "two-rents-recall.flow",
+    "two-rents-recall.list",
     "two-rents-filler.flow",
     "one-rent.flow",
     "forty-rents.flow",
@@ -28,7 +32,21 @@ const FILES: [&str; 23] = [
     "refused-14-records.flow",
     "refused-17-total.list",
     "refused-20-item.list",
+    "refused-22-kind.flow",
 ];
+
+#[test]
+fn every_sample_is_tried() {
+    let entries = fs::read_dir(root().join("samples")).expect("the samples");
+    let mut given: Vec<_> = entries
+        .map(|entry| entry.expect("a sample").file_name())
+        .filter(|name| name != "README.md")
+        .collect();
+    given.sort();
+    let mut tried = FILES;
+    tried.sort();
+    assert_eq!(given, tried);
+}
 
 /// Bytes of which no two neighbours are alike, to tell what was written.
 fn marked(length: usize) -> Vec<u8> {
@@ -62,12 +80,12 @@ fn refused_outputs_are_as_before() {
             refused[1] += u32::from(output_kept(mav::read_back, &bytes, room));
         }
     }
-    // Of 23 files in 11 rooms two are lists that are written: two rents in the four largest rooms, forty in
-    // the two largest.
-    assert_eq!(refused[0], 23 * 11 - 4 - 2);
-    // Four are flows that are read back: two of two rents from 1,236 bytes on, one rent from 643 on, and
+    // Of 26 files in 11 rooms three are lists that are written: two of two rents in the four largest rooms,
+    // forty in the two largest.
+    assert_eq!(refused[0], 26 * 11 - 2 * 4 - 2);
+    // Five are flows that are read back: three of two rents from 1,236 bytes on, one rent from 643 on, and
     // forty rents from 31,656 on.
-    assert_eq!(refused[1], 23 * 11 - 6 - 6 - 7 - 2);
+    assert_eq!(refused[1], 26 * 11 - 3 * 6 - 7 - 2);
 }
 
 #[test]
@@ -88,8 +106,8 @@ fn refused_withdrawals_leave_the_flow() {
             }
         }
     }
-    // 1 and 2 of the two flows of two rents, and 1, 2, 3 and 40 of forty, are withdrawn.
-    assert_eq!(refused, 23 * 7 - 4 - 4);
+    // 1 and 2 of the three flows of two rents, and 1, 2, 3 and 40 of forty, are withdrawn.
+    assert_eq!(refused, 26 * 7 - 3 * 2 - 4);
 }
 
 #[test]
@@ -108,7 +126,7 @@ fn refused_changes_leave_the_flow() {
         }
     }
     // The same dispositions, and the one of one rent, take three of the five amounts.
-    assert_eq!(refused, 23 * 7 * 5 - 3 * 9);
+    assert_eq!(refused, 26 * 7 * 5 - 3 * 11);
 }
 
 #[test]

@@ -11,7 +11,8 @@ use crate::record::{field_mut, record_type, Record, RECORD_LEN};
 
 /// Changes the amount of disposition `k`: the reader's refusals, 15, 16, 17.
 ///
-/// Only 34-46 of its record 14 and 53-67 of EF may differ afterwards.
+/// Only 34-46 of its record 14 and the kind's total of EF may differ
+/// afterwards: 53-67, of recalls 68-82 (document 02, E1).
 pub fn change(flow: &mut [u8], k: u64, cents: u64) -> Answer {
     try_change(flow, k, cents).into()
 }
@@ -41,7 +42,7 @@ fn try_change(flow: &mut [u8], k: u64, cents: u64) -> Result<Accepted, Refusal> 
         write_digits(field_mut(opening, 34, 46), cents);
     }
     if let Some(trailer) = records.last_mut() {
-        write_digits(field_mut(trailer, 53, 67), total);
+        write_digits(accepted.kind.total_mut(trailer), total);
     }
     Ok(Accepted {
         cents: total,
@@ -58,6 +59,7 @@ fn try_withdraw(flow: &mut [u8], k: u64) -> Result<(Accepted, usize), Refusal> {
         dispositions: accepted.dispositions - 1,
         cents: accepted.cents - disposition.cents,
         records: accepted.records - disposition.records,
+        kind: accepted.kind,
     };
     let gone = disposition.bytes;
     let len = flow.len() - gone.len();
@@ -68,7 +70,7 @@ fn try_withdraw(flow: &mut [u8], k: u64) -> Result<(Accepted, usize), Refusal> {
     if let Some((trailer, later)) = moved.split_last_mut() {
         renumber(later, k);
         write_digits(field_mut(trailer, 46, 52), left.dispositions);
-        write_digits(field_mut(trailer, 53, 67), left.cents);
+        write_digits(left.kind.total_mut(trailer), left.cents);
         write_digits(field_mut(trailer, 83, 89), left.records);
     }
     Ok((left, len))

@@ -1,5 +1,6 @@
 //! Named cases for amount change and withdrawal (document 01, "Questions and
-//! changes"): a flow, and the calls on it, each lent what the one before left.
+//! changes"; document 02, E1): a flow, and the calls on it, each lent what the
+//! one before left.
 //!
 //! Where records move, every record of a disposition is tagged
 //! (`Flow::tagged`), so that one which is lost, comes twice or stands at
@@ -8,6 +9,7 @@
 use crate::fields::{MAX_AMOUNT, MAX_TOTAL};
 use crate::find_cases::{self, flow_of, flow_of_variants, Variant, LARGE, ORDERS, VARIANTS};
 use crate::generate::{self, Size};
+use crate::kind::FlowKind;
 use crate::ledger::{Call, Ledger};
 use crate::list::{is_canonical, write_list};
 use crate::list_cases::fill;
@@ -48,6 +50,7 @@ pub fn cases() -> Vec<Case> {
     cases.refused();
     cases.limit();
     cases.generated();
+    cases.recalls();
     cases.0
 }
 
@@ -215,23 +218,58 @@ impl Cases {
         for (name, changes) in find_cases::FAULTS {
             push(name, Flow::of(TWO).with_all(changes).bytes());
         }
+        for (name, changes) in find_cases::RECALL_FAULTS {
+            push(name, Flow::of(TWO).recalled().with_all(changes).bytes());
+        }
+        for (name, changes) in RECALL_TOTALS {
+            push(name, Flow::of(TWO).recalled().with_all(changes).bytes());
+        }
     }
 
-    /// A total of 999,999,999,999,999, and calls about it.
+    /// A total of 999,999,999,999,999, and calls about it; and recalls whose
+    /// total comes near it.
     fn limit(&mut self) {
         let mut dispositions = [("50", MAX_AMOUNT); 101];
         dispositions[100].1 = 99;
         let flow = flow_of(&dispositions).tagged().bytes();
         self.push("a total of 999999999999999", flow.clone(), &LIMIT);
-        let flow = flow_of(&[("50", MAX_TOTAL / 104); 104]).tagged().bytes();
+        let recalls = flow_of(&[("50", MAX_TOTAL / 104); 104]).recalled();
+        let flow = recalls.tagged().bytes();
         let asked = calls(&mut Rng::new(778), &flow, 60, 20, 30);
         self.push("60 calls about the largest total", flow, &asked);
     }
 
+    /// Flows of recalls: the example with the whole memory in clear after one
+    /// call, and calls like those on requests.
+    fn recalls(&mut self) {
+        let flow = Flow::of(TWO).recalled().bytes();
+        for (name, call) in [
+            ("recalls: 2 changed to 40000", change(2, 40_000)),
+            ("recalls: 1 withdrawn", withdraw(1)),
+        ] {
+            let asked: Vec<Asked> = [call].into_iter().chain((1..=16).map(show)).collect();
+            self.push(name, flow.clone(), &asked);
+        }
+        self.push("recalls: 2 withdrawn", flow.clone(), &LAST_OF_TWO);
+        self.push("recalls: amounts", flow.clone(), &AMOUNTS);
+        self.push("recalls: 15 before 16 and 18", flow, &PRECEDENCE);
+        let one = Flow::of(ONE).recalled();
+        self.push("recalls: one rent", one.bytes(), &ONE_RENT);
+        let mut filled = Flow::of(EVERY).recalled();
+        for (index, record) in filled.0.iter_mut().enumerate() {
+            fill(record, 13 * index);
+        }
+        let name = "recalls: unchecked bytes, 1 withdrawn";
+        self.push(name, filled.bytes(), &FIRST_FILLED);
+        let flow = flow_of_variants(FALLING).recalled().tagged();
+        let name = "recalls: 12 to 7 records, from the middle";
+        self.push(name, flow.bytes(), &FROM_THE_MIDDLE);
+    }
+
     /// Long lists of calls on generated flows of 20 to 60 dispositions.
     fn generated(&mut self) {
-        for (index, (least, most, count, withdrawn)) in (1..).zip(GENERATED) {
-            let (mut rng, flow) = generated_flow(index, least, most);
+        for (index, (least, most, count, withdrawn, kind)) in (1..).zip(GENERATED) {
+            let (mut rng, flow) = generated_flow(index, least, most, kind);
             let asked = calls(&mut rng, &flow, count, withdrawn, 1);
             self.push(format!("generated: {count} calls, {index}"), flow, &asked);
         }
@@ -347,6 +385,22 @@ const OF_REFUSED: [Asked; 7] = [
     withdraw(0), withdraw(u64::MAX),
 ];
 
+/// Bytes put into `TWO` of recalls: totals that a change of one kind's place
+/// would set right.
+#[rustfmt::skip]
+const RECALL_TOTALS: [(&str, &[Change]); 3] = [
+    ("recalls: the total at both", &[(16, 53, b"000000000083050")]),
+    ("recalls: zeros at both", &[(16, 68, b"000000000000000")]),
+    ("recalls: 13 in EF at 68", &[(16, 68, b"000000000083051")]),
+];
+
+/// Dispositions of 12 to 7 records.
+#[rustfmt::skip]
+const FROM_THE_MIDDLE: [Asked; 10] = [
+    withdraw(3), change(3, 0), withdraw(3), withdraw(4), change(3, MAX_AMOUNT), withdraw(2),
+    change(1, 7_007), withdraw(1), withdraw(1), show(9),
+];
+
 /// 101 dispositions of 7 records: a hundred of the largest amount and one of
 /// 99 cents.
 #[rustfmt::skip]
@@ -359,29 +413,30 @@ const LIMIT: [Asked; 22] = [
     change(100, 1), withdraw(99),
 ];
 
-/// The least and the most dispositions, the number of calls, and of how many
-/// calls one is a withdrawal.
-const GENERATED: [(usize, usize, usize, u64); 4] = [
-    (20, 24, 90, 2),
-    (24, 32, 100, 2),
-    (30, 36, 70, 2),
-    (44, 60, 100, 3),
+/// The least and the most dispositions, the number of calls, of how many calls
+/// one is a withdrawal, and the kind of flow.
+const GENERATED: [(usize, usize, usize, u64, FlowKind); 4] = [
+    (20, 24, 90, 2, FlowKind::Requests),
+    (24, 32, 100, 2, FlowKind::Recalls),
+    (30, 36, 70, 2, FlowKind::Recalls),
+    (44, 60, 100, 3, FlowKind::Requests),
 ];
 
-/// The first generated flow with such a number of dispositions, and the
-/// generator after it. Every other one is canonical.
-fn generated_flow(index: u64, least: usize, most: usize) -> (Rng, Vec<u8>) {
-    let mut attempt = 0;
-    loop {
+/// The first generated flow of this kind with such a number of dispositions,
+/// and the generator after it; no byte if there is none in many. Every other
+/// one is canonical.
+fn generated_flow(index: u64, least: usize, most: usize, kind: FlowKind) -> (Rng, Vec<u8>) {
+    let attempt = |attempt| {
         let mut rng = Rng::for_case(60 + index, attempt);
         let draft = generate::draft(&mut rng, Size::Medium);
         let flow = draft.flow();
-        let wanted = is_canonical(&flow) == index.is_multiple_of(2);
-        if wanted && (least..=most).contains(&draft.dispositions.len()) {
-            return (rng, flow);
-        }
-        attempt += 1;
-    }
+        let wanted = (least..=most).contains(&draft.dispositions.len())
+            && generate::kind_of(&draft.records()) == kind
+            && is_canonical(&flow) == index.is_multiple_of(2);
+        wanted.then_some((rng, flow))
+    };
+    let found = (0..2_000).find_map(attempt);
+    found.unwrap_or_else(|| (Rng::new(index), Vec::new()))
 }
 
 /// Calls on a flow. One in `withdrawn` is a withdrawal, and one in `any` of the

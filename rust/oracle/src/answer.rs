@@ -2,7 +2,10 @@
 
 use std::fmt;
 
-/// The refusal numbers of document 01's table. Number 19 is not used.
+use crate::kind::FlowKind;
+
+/// The refusal numbers of document 01's table and of document 02, E1. Number
+/// 19 is not used.
 pub mod number {
     pub const LENGTH: u8 = 1;
     pub const BYTE: u8 = 2;
@@ -24,6 +27,7 @@ pub mod number {
     pub const ONLY_DISPOSITION: u8 = 18;
     pub const ITEM: u8 = 20;
     pub const OUTPUT: u8 = 21;
+    pub const OTHER_KIND: u8 = 22;
 }
 
 /// The answer of every call on a flow or a request list.
@@ -33,6 +37,7 @@ pub enum Answer {
         dispositions: u64,
         cents: u64,
         records: u64,
+        kind: FlowKind,
     },
     Refused {
         number: u8,
@@ -41,12 +46,13 @@ pub enum Answer {
     },
 }
 
-/// The three numbers of an accepted flow.
+/// The three numbers of an accepted flow, and its kind.
 #[derive(Clone, Copy, Debug, Eq, PartialEq)]
 pub struct Accepted {
     pub dispositions: u64,
     pub cents: u64,
     pub records: u64,
+    pub kind: FlowKind,
 }
 
 /// A refusal: its number, the record from 1, the field's first position.
@@ -74,6 +80,7 @@ impl From<Accepted> for Answer {
             dispositions: accepted.dispositions,
             cents: accepted.cents,
             records: accepted.records,
+            kind: accepted.kind,
         }
     }
 }
@@ -97,7 +104,8 @@ impl<T: Into<Answer>> From<Result<T, Refusal>> for Answer {
     }
 }
 
-/// The line of the small program (document 01, "The small program").
+/// The line of the small program (document 01, "The small program"; document
+/// 02, E1).
 impl fmt::Display for Answer {
     fn fmt(&self, f: &mut fmt::Formatter<'_>) -> fmt::Result {
         match *self {
@@ -105,9 +113,10 @@ impl fmt::Display for Answer {
                 dispositions,
                 cents,
                 records,
+                kind,
             } => write!(
                 f,
-                "accepted dispositions {dispositions} cents {cents} records {records}"
+                "accepted dispositions {dispositions} cents {cents} records {records} kind {kind}"
             ),
             Answer::Refused {
                 number,

@@ -1,8 +1,10 @@
 //! Damage to flows and request lists, in every way a rule can be broken.
 
 use crate::fields::{amount, digits, write_digits};
+use crate::generate::kind_of;
+use crate::kind::FlowKind;
 use crate::list::items;
-use crate::record::{field, field_mut, record_type, Record, RECORD_LEN};
+use crate::record::{field, field_mut, put, record_type, Record, RECORD_LEN};
 use crate::rng::Rng;
 
 /// First and last position of a field.
@@ -53,21 +55,24 @@ const OUTSIDE: [u8; 6] = [0, 31, 127, 128, 255, b'\n'];
 
 /// Damages a flow once. At times nothing that is checked has changed.
 pub fn damage_flow(rng: &mut Rng, flow: &mut Vec<u8>) {
-    match rng.below(26) {
-        0..=9 => damage_record(rng, flow, 1),
-        10..=12 => damage_record(rng, flow, 2),
-        13 => change_type(rng, flow),
-        14 => drop_record(rng, flow),
-        15 => double_record(rng, flow),
-        16 => swap_records(rng, flow),
-        17 => copy_block(rng, flow),
-        18 => cut_records(rng, flow),
-        19 => change_len(rng, flow),
-        20 => put_outside(rng, flow),
-        21 => append_record(rng, flow),
-        22 => shift_trailer(rng, flow),
-        23 => crowd_details(rng, flow),
-        24 => change_company(rng, flow),
+    match rng.below(38) {
+        0..=13 => damage_record(rng, flow, 1),
+        14..=17 => damage_record(rng, flow, 2),
+        18 => change_type(rng, flow),
+        19 => drop_record(rng, flow),
+        20 => double_record(rng, flow),
+        21 => swap_records(rng, flow),
+        22 => copy_block(rng, flow),
+        23 => cut_records(rng, flow),
+        24 => change_len(rng, flow),
+        25 => put_outside(rng, flow),
+        26 => append_record(rng, flow),
+        27..=28 => shift_trailer(rng, flow),
+        29 => crowd_details(rng, flow),
+        30 => change_company(rng, flow),
+        31..=33 => damage_kind(rng, flow),
+        34 => turn_kind(rng, flow),
+        35..=36 => damage_totals(rng, flow),
         _ => put_anywhere(rng, flow),
     }
 }
@@ -125,7 +130,7 @@ fn spoil_anyhow(rng: &mut Rng, bytes: &mut [u8]) {
     let inside = rng.index(len);
     let place = rng.pick(&[0, len.saturating_sub(1), inside]);
     let way = match rng.below(6) {
-        0 if len == 6 => 15,
+        0 | 1 if len == 6 => 15,
         1 => 6,
         _ => rng.below(WAYS),
     };
@@ -157,6 +162,8 @@ fn spoil(rng: &mut Rng, way: u64, bytes: &mut [u8], place: usize) {
         13 => bytes
             .iter_mut()
             .for_each(|b| *b = b'0' + rng.below(10) as u8),
+        14 if bytes.len() == 5 => bytes.copy_from_slice(rng.pick(&FlowKind::ALL).row().causale),
+        14 if bytes.len() == 1 => bytes[0] = rng.pick(&FlowKind::ALL).row().sign,
         15 if bytes.len() == 6 => bytes.copy_from_slice(&rng.pick(&NO_DATES)[..]),
         _ => bytes[place] = rng.within(32, 126) as u8,
     }
@@ -227,6 +234,7 @@ fn copy_block(rng: &mut Rng, flow: &mut Vec<u8>) {
     );
     let renumber = rng.one_in(4);
     let records = records_of(flow);
+    let kind = kind_of(records);
     let cents = amount(field(&records[start], 34, 46)).unwrap_or(0);
     if renumber && place == kinds.len() - 1 {
         for record in &mut records[place..place + end - start] {
@@ -234,15 +242,14 @@ fn copy_block(rng: &mut Rng, flow: &mut Vec<u8>) {
         }
     }
     if let Some(trailer) = records.last_mut() {
-        add_to(trailer, (46, 52), 1);
-        add_to(trailer, (53, 67), cents as i64);
-        add_to(trailer, (83, 89), (end - start) as i64);
+        add_to(field_mut(trailer, 46, 52), 1);
+        add_to(kind.total_mut(trailer), cents as i64);
+        add_to(field_mut(trailer, 83, 89), (end - start) as i64);
     }
 }
 
 /// Adds to a digit field, if it is one and the sum is not negative.
-pub(crate) fn add_to(record: &mut Record, (first, last): Field, by: i64) {
-    let bytes = field_mut(record, first, last);
+pub(crate) fn add_to(bytes: &mut [u8], by: i64) {
     let sum = digits(bytes)
         .ok()
         .and_then(|value| value.checked_add_signed(by));
@@ -295,10 +302,10 @@ fn append_record(rng: &mut Rng, flow: &mut Vec<u8>) {
 
 /// Makes a count or a sum of the trailer a little wrong.
 fn shift_trailer(rng: &mut Rng, flow: &mut [u8]) {
-    let place = rng.pick(&[(46, 52), (53, 67), (68, 82), (83, 89)]);
+    let (first, last) = rng.pick(&[(46, 52), (53, 67), (68, 82), (83, 89)]);
     let by = rng.pick(&[-10, -1, 1, 10, 100]);
     if let Some(trailer) = records_of(flow).last_mut() {
-        add_to(trailer, place, by);
+        add_to(field_mut(trailer, first, last), by);
     }
 }
 
@@ -312,6 +319,79 @@ fn change_company(rng: &mut Rng, flow: &mut [u8]) {
         if let Some(opening) = openings.get_mut(index) {
             field_mut(opening, 92, 96).copy_from_slice(code);
         }
+    }
+}
+
+/// Five bytes that are the causale of no kind; some are those of return flows
+/// (document 003, section 4.2).
+const NO_CAUSALES: [&[u8; 5]; 12] = [
+    b"07200", b"07001", b"07101", b"17000", b"17100", b"00000", b"07006", b"07008", b"07011",
+    b"     ", b"0710O", b"7100 ",
+];
+
+/// A record 14 of the flow; the first comes more often than others.
+fn any_opening<'a>(rng: &mut Rng, flow: &'a mut [u8]) -> Option<&'a mut Record> {
+    let kind = |record: &&mut Record| record_type(record) == *b"14";
+    let mut openings: Vec<&mut Record> = records_of(flow).iter_mut().filter(kind).collect();
+    let inside = rng.index(openings.len());
+    let index = rng.pick(&[0, inside, inside]);
+    (index < openings.len()).then(|| openings.swap_remove(index))
+}
+
+/// Gives a record 14 the causale or the sign of the other kind, both, or the
+/// causale of no kind.
+fn damage_kind(rng: &mut Rng, flow: &mut [u8]) {
+    let other = kind_of(records_of(flow)).other();
+    let Some(opening) = any_opening(rng, flow) else {
+        return;
+    };
+    match rng.below(6) {
+        0 | 1 => other.put_in(opening),
+        2 => put(opening, 29, other.row().causale),
+        3 => put(opening, 47, &[other.row().sign]),
+        _ => put(opening, 29, &rng.pick(&NO_CAUSALES)[..]),
+    }
+}
+
+/// Turns every record 14 to the other kind, and at times the trailer's totals
+/// too, so that the flow is right again.
+fn turn_kind(rng: &mut Rng, flow: &mut [u8]) {
+    let kind = kind_of(records_of(flow));
+    let whole = rng.one_in(2);
+    for record in records_of(flow) {
+        match &record_type(record) {
+            b"14" => kind.other().put_in(record),
+            b"EF" if whole => move_total(record, kind),
+            _ => {}
+        }
+    }
+}
+
+/// Moves the trailer's sum to the other kind's place, and leaves zeros.
+fn move_total(trailer: &mut Record, kind: FlowKind) {
+    copy_total(trailer, kind);
+    kind.total_mut(trailer).fill(b'0');
+}
+
+/// Copies the trailer's sum to the other kind's place.
+fn copy_total(trailer: &mut Record, kind: FlowKind) {
+    let sum = kind.total_mut(trailer).to_vec();
+    kind.other().total_mut(trailer).copy_from_slice(&sum);
+}
+
+/// The sum at the other kind's place, at both or at none, or one of the two
+/// totals spoiled.
+fn damage_totals(rng: &mut Rng, flow: &mut [u8]) {
+    let kind = kind_of(records_of(flow));
+    let spoiled = rng.pick(&FlowKind::ALL);
+    let Some(trailer) = records_of(flow).last_mut() else {
+        return;
+    };
+    match rng.below(6) {
+        0 => move_total(trailer, kind),
+        1 => copy_total(trailer, kind),
+        2 => kind.total_mut(trailer).fill(b'0'),
+        _ => spoil_anyhow(rng, spoiled.total_mut(trailer)),
     }
 }
 
@@ -334,7 +414,7 @@ fn crowd_details(rng: &mut Rng, flow: &mut Vec<u8>) {
     let records = records_of(flow);
     field_mut(&mut records[index + rng.index(2)], 2, 3).copy_from_slice(kind);
     if let Some(trailer) = records.last_mut() {
-        add_to(trailer, (83, 89), more as i64);
+        add_to(field_mut(trailer, 83, 89), more as i64);
     }
 }
 
@@ -344,18 +424,21 @@ pub fn damage_list(rng: &mut Rng, list: &mut Vec<u8>) {
     let item = rng.index(starts.len());
     let start = starts.get(item).copied().unwrap_or(0);
     let end = starts.get(item + 1).copied().unwrap_or(list.len());
-    match rng.below(13) {
+    match rng.below(17) {
         0 => list.truncate(rng.index(list.len() + 1)),
         1 => list.truncate(start + 1),
         2 => list.clear(),
-        3 => set(list, start, rng.pick(b"EMQhd14 \0\xff")),
-        4 => set(list, start, rng.pick(b"HDSCBARXKZ")),
+        3 => set(list, start, rng.pick(b"EMGhdq14 \0\xff")),
+        4 => set(list, start, rng.pick(b"HQDSCBARXKZ")),
         5 => drop(list.drain(start..end)),
         6 => insert_copy(list, start, end, start),
         7 => insert_copy(list, start, end, list.len()),
-        8 => list.push(rng.pick(b"HDSCBARXKZ?")),
+        8 => list.push(rng.pick(b"HQDSCBARXKZ?")),
         9 => list.truncate(start),
         10 => swap_items(rng, list, item),
+        11 => turn_header(list),
+        12 => add_header(rng, list, start),
+        13 => move_header(list, end),
         _ => spoil_body(rng, list, start + 1, end),
     }
 }
@@ -372,6 +455,40 @@ fn swap_items(rng: &mut Rng, list: &mut [u8], item: usize) {
     }
     let whole = rows.concat();
     list[..whole.len()].copy_from_slice(&whole);
+}
+
+/// Turns the kind of a list that opens with a header.
+fn turn_header(list: &mut [u8]) {
+    if let Some(letter) = list.first_mut() {
+        if let Some(kind) = FlowKind::of_letter(*letter) {
+            *letter = kind.other().row().letter;
+        }
+    }
+}
+
+/// Sets the first header a second time before an item or at the end, mostly
+/// as one of the other kind.
+fn add_header(rng: &mut Rng, list: &mut Vec<u8>, start: usize) {
+    let Some(first) = items(list).flatten().next() else {
+        return;
+    };
+    let Some(kind) = FlowKind::of_letter(first.layout.kind) else {
+        return;
+    };
+    let kind = rng.pick(&[kind, kind.other(), kind.other()]);
+    let header = [&[kind.row().letter], first.body].concat();
+    let place = rng.pick(&[start, start, list.len()]);
+    list.splice(place..place, header);
+}
+
+/// Moves the first item behind the item that ends here, so that a disposition
+/// opens before any header.
+fn move_header(list: &mut [u8], end: usize) {
+    let first = items(list).flatten().next();
+    let len = first.map_or(0, |first| 1 + first.body.len());
+    if let Some(front) = list.get_mut(..end).filter(|front| front.len() > len) {
+        front.rotate_left(len);
+    }
 }
 
 /// Spoils some bytes of an item's body.

@@ -25,7 +25,7 @@ pub fn find(flow: &[u8], k: u64) -> Result<Disposition, Refusal> {
     locate(flow, k).map(|(_, disposition)| disposition)
 }
 
-/// Finds disposition `k`, with the three numbers of the flow.
+/// Finds disposition `k`, with what the reader answers of the flow.
 pub(crate) fn locate(flow: &[u8], k: u64) -> Result<(Accepted, Disposition), Refusal> {
     let accepted = judge(flow)?;
     let disposition = scan(flow, k).ok_or(Refusal::of_call(number::NO_SUCH_DISPOSITION))?;

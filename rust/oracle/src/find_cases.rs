@@ -27,6 +27,7 @@ pub fn cases() -> Vec<Case> {
     cases.look_alikes();
     cases.cut();
     cases.refused();
+    cases.recalls();
     cases.0
 }
 
@@ -193,6 +194,18 @@ impl Cases {
         let flow = Flow::of(AND_14);
         self.push("14 after EF", flow.bytes(), ASKED_OF_REFUSED.to_vec());
     }
+
+    /// Flows of recalls: two dispositions, of which one has text like a record
+    /// 14 of a request, and faults.
+    fn recalls(&mut self) {
+        let flow = Flow::of(TWO).recalled().with_all(&[(4, 11, OPENING)]);
+        let asked = [0, 1, 2, 3, u64::MAX];
+        self.push("recalls", flow.bytes(), asked.to_vec());
+        for (name, changes) in RECALL_FAULTS {
+            let flow = Flow::of(TWO).recalled().with_all(changes);
+            self.push(name, flow.bytes(), ASKED_OF_REFUSED.to_vec());
+        }
+    }
 }
 
 /// Positions 1 to 52 of a record 14, to stand as text.
@@ -247,7 +260,7 @@ pub(crate) const CUT: [(&str, &str); 4] = [
 /// Bytes put into `TWO`, whose second 14 is record 9 and whose EF is
 /// record 16.
 #[rustfmt::skip]
-pub(crate) const FAULTS: [(&str, &[Change]); 15] = [
+pub(crate) const FAULTS: [(&str, &[Change]); 16] = [
     ("6 in IM", &[(1, 114, b"L")]),
     ("2 in the last byte", &[(16, 120, b"\x7f")]),
     ("3 in the second 70", &[(15, 2, b"14")]),
@@ -263,4 +276,12 @@ pub(crate) const FAULTS: [(&str, &[Change]); 15] = [
     ("13 in EF", &[(16, 53, b"000000000083051")]),
     ("13 in EF at 68", &[(16, 68, b"000000000000001")]),
     ("14 in EF", &[(16, 83, b"0000023")]),
+    ("22 in the second 14", &[(9, 29, b"07100"), (9, 47, b"+")]),
+];
+
+/// Bytes put into `TWO` of recalls.
+#[rustfmt::skip]
+pub(crate) const RECALL_FAULTS: [(&str, &[Change]); 2] = [
+    ("recalls: 22 in the second 14", &[(9, 29, b"07000"), (9, 47, b"-")]),
+    ("recalls: EF as of requests", &[(16, 53, b"000000000083050000000000000000")]),
 ];

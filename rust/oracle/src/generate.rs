@@ -1,10 +1,11 @@
-//! Generated cases: right flows, request lists, lists of calls. The same seed
-//! gives the same cases.
+//! Generated cases: right flows, request lists, lists of calls, of requests as
+//! often as of recalls. The same seed gives the same cases.
 
 use crate::damage::{damage_flow, damage_in_turn, damage_list};
 use crate::fields::{amount, write_digits, MAX_AMOUNT, MAX_TOTAL};
+use crate::kind::FlowKind;
 use crate::ledger::Call;
-use crate::list::layout_of_record;
+use crate::list::layout_in;
 use crate::record::{field, field_mut, put, record_type, Record, BLANK_RECORD, RECORD_LEN};
 use crate::rng::Rng;
 
@@ -41,14 +42,16 @@ impl Draft {
 
     /// The request list, from the records alone.
     pub fn list(&self) -> Vec<u8> {
+        let records = self.records();
+        let kind = kind_of(&records);
         let mut list = Vec::new();
-        for record in self.records() {
-            let Some(layout) = layout_of_record(&record) else {
+        for record in &records {
+            let Some(layout) = layout_in(kind, record) else {
                 continue;
             };
             list.push(layout.kind);
             for &(first, last) in layout.carried {
-                list.extend(field(&record, first, last));
+                list.extend(field(record, first, last));
             }
         }
         list
@@ -71,10 +74,19 @@ pub(crate) fn fill_trailer(trailer: &mut Record, before: &[Record]) {
     let openings = before.iter().filter(|r| record_type(r) == *b"14");
     let cents = openings.clone().map(cents_of).sum();
     write_digits(field_mut(trailer, 46, 52), openings.count() as u64);
-    write_digits(field_mut(trailer, 53, 67), cents);
-    write_digits(field_mut(trailer, 68, 82), 0);
+    for ((first, last), due) in kind_of(before).totals(cents) {
+        write_digits(field_mut(trailer, first, last), due);
+    }
     write_digits(field_mut(trailer, 83, 89), before.len() as u64 + 1);
     put(trailer, 114, b"E");
+}
+
+/// The kind that the first record 14 tells; requests where it tells none.
+pub(crate) fn kind_of(records: &[Record]) -> FlowKind {
+    let opening = records.iter().find(|r| record_type(r) == *b"14");
+    opening
+        .and_then(|record| FlowKind::of_causale(field(record, 29, 33)))
+        .unwrap_or_default()
 }
 
 /// The amount of a record 14.
@@ -92,6 +104,7 @@ pub(crate) fn blank(kind: &[u8; 2]) -> Record {
 /// How a draft is to look.
 #[derive(Clone, Copy)]
 struct Style {
+    kind: FlowKind,
     canonical: bool,
     company: Company,
 }
@@ -139,6 +152,7 @@ impl Size {
 pub fn draft(rng: &mut Rng, size: Size) -> Draft {
     let header = header(rng);
     let style = Style {
+        kind: rng.pick(&FlowKind::ALL),
         canonical: rng.one_in(2),
         company: match rng.below(3) {
             0 => Company::Absent,
@@ -265,9 +279,8 @@ fn disposition(rng: &mut Rng, header: &Record, style: Style, records: usize) -> 
 fn record_14(rng: &mut Rng, header: &Record, style: Style) -> Record {
     let mut record = blank(b"14");
     put(&mut record, 23, &date(rng));
-    put(&mut record, 29, b"07000");
+    style.kind.put_in(&mut record);
     write_digits(field_mut(&mut record, 34, 46), cents(rng));
-    put(&mut record, 47, b"-");
     put(&mut record, 48, field(header, 9, 13));
     if rng.one_in(2) {
         put(&mut record, 53, &digits(rng, 5));

@@ -1,11 +1,13 @@
 //! The ledger: a request list kept from the calls alone (document 01,
-//! "Questions and changes", from "The sheet of demand 3" on).
+//! "Questions and changes", from "The sheet of demand 3" on; its kind by
+//! document 02, E1).
 //!
 //! It is defined on items and calls only. No flow is read or amended here,
 //! so that it can be held against the amendments.
 
 use crate::answer::{number, Accepted, Answer, Refusal};
 use crate::fields::{amount, write_digits, MAX_AMOUNT, MAX_TOTAL};
+use crate::kind::FlowKind;
 use crate::list::items;
 use crate::record::RECORD_LEN;
 
@@ -116,13 +118,22 @@ impl Ledger {
         cents_of(&self.items[start])
     }
 
-    /// Count, total and items + 1. The total of a list that no flow has may
-    /// exceed 64 bits; it is given as the largest number then.
+    /// The kind that the latest H or Q gives.
+    fn kind(&self) -> FlowKind {
+        let mut latest_first = self.items.iter().rev();
+        latest_first
+            .find_map(|item| FlowKind::of_letter(*item.first()?))
+            .unwrap_or_default()
+    }
+
+    /// Count, total, items + 1 and the kind. The total of a list that no flow
+    /// has may exceed 64 bits; it is given as the largest number then.
     pub fn numbers(&self) -> Accepted {
         Accepted {
             dispositions: self.count(),
             cents: u64::try_from(self.total()).unwrap_or(u64::MAX),
             records: self.items.len() as u64 + 1,
+            kind: self.kind(),
         }
     }
 }

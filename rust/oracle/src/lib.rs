@@ -1,7 +1,8 @@
-//! M.Av. request flows of 120-byte records, by the rules of document 01: the
-//! field rules, the reader, where a disposition is, request lists, amount
-//! change and withdrawal, and the ledger that says what a list of calls
-//! leaves. Beside them stand generated cases and sample files.
+//! M.Av. flows of 120-byte records, requests and recalls, by the rules of
+//! document 01 and of request E1 of document 02: the field rules, the reader,
+//! where a disposition is, request lists, amount change and withdrawal, and
+//! the ledger that says what a list of calls leaves. Beside them stand
+//! generated cases and sample files.
 //!
 //! The rules read in place. No call allocates per record, asks anything of
 //! its input first, or panics.
@@ -16,6 +17,7 @@ pub mod fields;
 pub mod find;
 pub mod find_cases;
 pub mod generate;
+pub mod kind;
 pub mod ledger;
 pub mod list;
 pub mod list_cases;
@@ -30,3 +32,4 @@ pub mod tally;
 pub mod vectors;
 
 pub use answer::{Answer, Refusal};
+pub use kind::FlowKind;

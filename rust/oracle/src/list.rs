@@ -1,8 +1,11 @@
 //! The request list: its items, writing a list to a flow, reading a flow
-//! back to its list (document 01, "Our request list").
+//! back to its list (document 01, "Our request list"; document 02, E1).
+
+use std::ops::Range;
 
 use crate::answer::{number, Accepted, Answer, Refusal};
 use crate::fields::{write_digits, MAX_TOTAL};
+use crate::kind::FlowKind;
 use crate::reader::{judge, Walk};
 use crate::record::{
     field, field_mut, put, record_type, Record, BLANK_RECORD, MAX_RECORDS, RECORD_LEN,
@@ -40,7 +43,14 @@ const fn layout(kind: u8, record: &[u8; 2], carried: &'static [(usize, usize)]) 
     }
 }
 
-static H: Layout = layout(b'H', b"IM", &[(4, 45), (105, 111)]);
+/// The layout of the header's item in a flow of this kind: the kinds differ in
+/// the kind byte alone.
+const fn header_of(kind: FlowKind) -> Layout {
+    layout(kind.row().letter, b"IM", &[(4, 45), (105, 111)])
+}
+
+static H: Layout = header_of(FlowKind::Requests);
+static Q: Layout = header_of(FlowKind::Recalls);
 static D: Layout = layout(b'D', b"14", &[(23, 28), (34, 46), (53, 69), (92, 113)]);
 static S: Layout = layout(b'S', b"16", &[(11, 37)]);
 static C: Layout = layout(b'C', b"20", &[(11, 106)]);
@@ -53,8 +63,10 @@ static Z: Layout = layout(b'Z', b"70", &[(94, 94), (96, 120)]);
 
 /// The layout of a kind of item, if there is such a kind.
 pub fn layout_of_kind(kind: u8) -> Option<&'static Layout> {
+    if let Some(kind) = FlowKind::of_letter(kind) {
+        return Some(header_layout(kind));
+    }
     Some(match kind {
-        b'H' => &H,
         b'D' => &D,
         b'S' => &S,
         b'C' => &C,
@@ -68,10 +80,17 @@ pub fn layout_of_kind(kind: u8) -> Option<&'static Layout> {
     })
 }
 
-/// The layout of a record's item; the trailer has none.
-pub fn layout_of_record(record: &Record) -> Option<&'static Layout> {
+fn header_layout(kind: FlowKind) -> &'static Layout {
+    match kind {
+        FlowKind::Requests => &H,
+        FlowKind::Recalls => &Q,
+    }
+}
+
+/// The layout of a record's item in a flow of this kind; the trailer has none.
+pub(crate) fn layout_in(kind: FlowKind, record: &Record) -> Option<&'static Layout> {
     Some(match &record_type(record) {
-        b"IM" => &H,
+        b"IM" => header_layout(kind),
         b"14" => &D,
         b"16" => &S,
         b"20" => &C,
@@ -83,6 +102,12 @@ pub fn layout_of_record(record: &Record) -> Option<&'static Layout> {
         b"70" => &Z,
         _ => return None,
     })
+}
+
+/// The layout of a record's item, of a header that of a request flow; the
+/// trailer has none.
+pub fn layout_of_record(record: &Record) -> Option<&'static Layout> {
+    layout_in(FlowKind::Requests, record)
 }
 
 /// One item of a request list.
@@ -161,8 +186,8 @@ fn count_items(list: &[u8]) -> Result<u64, Refusal> {
     Ok(count)
 }
 
-/// The three numbers of the flow that a list of whole items encodes; or the
-/// reader's refusal of its records, 3 at the trailer's place, or 17.
+/// What the reader answers of the flow that a list of whole items encodes; or
+/// its refusal of the records, 3 at the trailer's place, or 17.
 fn judge_items(list: &[u8], records: u64) -> Result<Accepted, Refusal> {
     let mut walk = Walk::new();
     let mut encoder = Encoder::default();
@@ -180,11 +205,12 @@ fn judge_items(list: &[u8], records: u64) -> Result<Accepted, Refusal> {
         dispositions,
         cents,
         records,
+        kind: encoder.kind(),
     })
 }
 
 /// Fills `out` with the records of the items in order and the trailer with
-/// these three numbers after them, as far as there is room.
+/// these numbers after them, as far as there is room.
 fn encode(list: &[u8], accepted: &Accepted, out: &mut [u8]) {
     let (records, _) = out.as_chunks_mut::<RECORD_LEN>();
     let mut encoder = Encoder::default();
@@ -199,19 +225,29 @@ fn encode(list: &[u8], accepted: &Accepted, out: &mut [u8]) {
 /// What encoding carries from item to item.
 #[derive(Default)]
 struct Encoder<'a> {
-    /// The body of the latest H.
-    header: Option<&'a [u8]>,
+    /// Kind and body of the latest header's item.
+    header: Option<(FlowKind, &'a [u8])>,
     dispositions: u64,
 }
 
 impl<'a> Encoder<'a> {
+    /// The kind that the latest H or Q gives.
+    fn kind(&self) -> FlowKind {
+        self.header.map(|(kind, _)| kind).unwrap_or_default()
+    }
+
+    /// Some of the carried bytes of the latest header's item.
+    fn of_header(&self, bytes: Range<usize>) -> Option<&'a [u8]> {
+        self.header.and_then(|(_, body)| body.get(bytes))
+    }
+
     /// The record of the next item.
     fn record(&mut self, item: &Item<'a>) -> Record {
-        match item.layout.kind {
-            b'H' => self.header = Some(item.body),
-            b'D' => self.dispositions += 1,
-            _ => {}
+        let letter = item.layout.kind;
+        if let Some(kind) = FlowKind::of_letter(letter) {
+            self.header = Some((kind, item.body));
         }
+        self.dispositions += u64::from(letter == D.kind);
         let mut record = self.fixed(item.layout);
         let mut rest = item.body;
         for &(first, last) in item.layout.carried {
@@ -229,16 +265,15 @@ impl<'a> Encoder<'a> {
     fn fixed(&self, layout: &Layout) -> Record {
         let mut record = BLANK_RECORD;
         put(&mut record, 2, &layout.record);
-        if layout.kind == b'H' {
+        if layout.record == H.record {
             put(&mut record, 114, b"E");
             return record;
         }
         write_digits(field_mut(&mut record, 4, 10), self.dispositions);
-        if layout.kind == b'D' {
-            put(&mut record, 29, b"07000");
-            put(&mut record, 47, b"-");
+        if layout.kind == D.kind {
+            self.kind().put_in(&mut record);
             // The header's 9-13 are the sixth to tenth of its carried bytes.
-            if let Some(abi) = self.header.and_then(|body| body.get(5..10)) {
+            if let Some(abi) = self.of_header(5..10) {
                 put(&mut record, 48, abi);
             }
             put(&mut record, 120, b"E");
@@ -251,12 +286,13 @@ impl<'a> Encoder<'a> {
         let mut record = BLANK_RECORD;
         put(&mut record, 2, b"EF");
         // The header's 4-45 are the first of its carried bytes.
-        if let Some(carried) = self.header.and_then(|body| body.get(..42)) {
+        if let Some(carried) = self.of_header(0..42) {
             put(&mut record, 4, carried);
         }
         write_digits(field_mut(&mut record, 46, 52), accepted.dispositions);
-        write_digits(field_mut(&mut record, 53, 67), accepted.cents);
-        write_digits(field_mut(&mut record, 68, 82), 0);
+        for ((first, last), due) in accepted.kind.totals(accepted.cents) {
+            write_digits(field_mut(&mut record, first, last), due);
+        }
         write_digits(field_mut(&mut record, 83, 89), accepted.records);
         put(&mut record, 114, b"E");
         record
@@ -276,26 +312,19 @@ pub fn write_list(flow: &[u8], out: &mut [u8]) -> (Answer, usize) {
 fn try_write_list(flow: &[u8], out: &mut [u8]) -> Result<(Accepted, usize), Refusal> {
     let accepted = judge(flow)?;
     let (records, _) = flow.as_chunks::<RECORD_LEN>();
-    let len = own_list_len(records);
+    let layouts = || {
+        let layout = |record| layout_in(accepted.kind, record).map(|layout| (record, layout));
+        records.iter().filter_map(layout)
+    };
+    let len = layouts().map(|(_, layout)| 1 + layout.body_len()).sum();
     let mut room = out.get_mut(..len).ok_or(Refusal::of_call(number::OUTPUT))?;
-    for record in records {
-        if let Some(layout) = layout_of_record(record) {
-            room = append(room, &[layout.kind]);
-            for &(first, last) in layout.carried {
-                room = append(room, field(record, first, last));
-            }
+    for (record, layout) in layouts() {
+        room = append(room, &[layout.kind]);
+        for &(first, last) in layout.carried {
+            room = append(room, field(record, first, last));
         }
     }
     Ok((accepted, len))
-}
-
-/// The length of the list of these records.
-fn own_list_len(records: &[Record]) -> usize {
-    records
-        .iter()
-        .filter_map(layout_of_record)
-        .map(|layout| 1 + layout.body_len())
-        .sum()
 }
 
 /// Copies `bytes` to the front of `room`, and gives the room after them.

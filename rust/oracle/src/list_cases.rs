@@ -1,5 +1,6 @@
-//! Named cases for request lists (document 01, "Our request list"): a list to
-//! be written or a flow to be read back, and the room of each output.
+//! Named cases for request lists (document 01, "Our request list"; document
+//! 02, E1): a list to be written or a flow to be read back, and the room of
+//! each output.
 //!
 //! A list is set down by the kinds of its items, each of them right
 //! (`List::of`), and by the bytes then put into their bodies, by the position
@@ -58,6 +59,9 @@ pub fn cases() -> Vec<Case> {
     cases.back_carried();
     cases.not_canonical();
     cases.canonical();
+    cases.recalls();
+    cases.recalls_refused();
+    cases.recalls_back();
     cases.0
 }
 
@@ -70,6 +74,10 @@ const ONE_RENT: &str = "H D C B A R K Z";
 const FULL: &str = "H D S C B A X K Z";
 /// Two dispositions: 16 records.
 const TWO_RENTS: &str = "H D C B A R K Z D C B A R K Z";
+/// The same of recalls.
+const ONE_RECALL: &str = "Q D C B A R K Z";
+const FULL_RECALL: &str = "Q D S C B A X K Z";
+const TWO_RECALLS: &str = "Q D C B A R K Z D C B A R K Z";
 
 /// The items of a list, each a kind byte and its body.
 #[derive(Clone)]
@@ -123,8 +131,8 @@ impl List {
 /// Where a carried position stands in the body of its item.
 fn offset(kind: u8, position: usize) -> usize {
     match (kind, position) {
-        (b'H', 4..=45) => position - 4,
-        (b'H', 105..=111) => 42 + position - 105,
+        (b'H' | b'Q', 4..=45) => position - 4,
+        (b'H' | b'Q', 105..=111) => 42 + position - 105,
         (b'D', 23..=28) => position - 23,
         (b'D', 34..=46) => 6 + position - 34,
         (b'D', 53..=69) => 19 + position - 53,
@@ -161,7 +169,7 @@ const TENANTS: [[&str; 6]; 2] = [
 fn item(kind: u8, rent: usize) -> Vec<u8> {
     let [cents, customer, name, tax_code, room, reference] = TENANTS[rent % 2];
     let body = match kind {
-        b'H' => format!("AB12301234150326{:33}", "RENT-MARCH"),
+        b'H' | b'Q' => format!("AB12301234150326{:33}", "RENT-MARCH"),
         b'D' => format!("310326{cents}02400000000123456AB1232{customer:16}"),
         b'S' => String::from("IT60X0123402400000000123456"),
         b'C' => format!(
@@ -224,29 +232,6 @@ impl Cases {
 
     /// Other bytes in every carried position of every kind.
     fn carried(&mut self) {
-        let text = |start, len| String::from_utf8(run(start, len)).unwrap_or_default();
-        let header = format!("{}56789290228{}1$34567", text(0, 5), text(5, 26));
-        let account = format!("SM98{}5678913579{}", text(80, 1), text(11, 12));
-        let opening = |i| {
-            format!(
-                "3112991234567890123456{i}8{}9{}",
-                text(40, 17),
-                text(57, 16)
-            )
-        };
-        let distinct = |kinds: &str| {
-            List::of(kinds)
-                .with_bodies(b'H', |_| header.clone().into_bytes())
-                .with_bodies(b'D', |i| opening(i).into_bytes())
-                .with_bodies(b'S', |_| account.clone().into_bytes())
-                .with_bodies(b'C', |_| run(3, 96))
-                .with_bodies(b'B', |_| run(17, 76))
-                .with_bodies(b'A', |_| run(31, 110))
-                .with_bodies(b'R', |_| run(47, 110))
-                .with_bodies(b'X', |i| run(59 + 7 * i, 110))
-                .with_bodies(b'K', |_| run(71, 110))
-                .with_bodies(b'Z', |i| [&b"PB"[i % 2..][..1], &run(23 + i, 25)].concat())
-        };
         let both = format!("H D S C B A X X K Z {RENT}");
         self.right("distinct bytes, S and X then R", &distinct(&both));
         let five = "H D C B A X X X X X K Z";
@@ -261,6 +246,32 @@ impl Cases {
     }
 }
 
+/// A list of these kinds with other bytes in every carried position.
+fn distinct(kinds: &str) -> List {
+    let text = |start, len| String::from_utf8(run(start, len)).unwrap_or_default();
+    let header = format!("{}56789290228{}1$34567", text(0, 5), text(5, 26));
+    let account = format!("SM98{}5678913579{}", text(80, 1), text(11, 12));
+    let opening = |i| {
+        format!(
+            "3112991234567890123456{i}8{}9{}",
+            text(40, 17),
+            text(57, 16)
+        )
+    };
+    List::of(kinds)
+        .with_bodies(b'H', |_| header.clone().into_bytes())
+        .with_bodies(b'Q', |_| header.clone().into_bytes())
+        .with_bodies(b'D', |i| opening(i).into_bytes())
+        .with_bodies(b'S', |_| account.clone().into_bytes())
+        .with_bodies(b'C', |_| run(3, 96))
+        .with_bodies(b'B', |_| run(17, 76))
+        .with_bodies(b'A', |_| run(31, 110))
+        .with_bodies(b'R', |_| run(47, 110))
+        .with_bodies(b'X', |i| run(59 + 7 * i, 110))
+        .with_bodies(b'K', |_| run(71, 110))
+        .with_bodies(b'Z', |i| [&b"PB"[i % 2..][..1], &run(23 + i, 25)].concat())
+}
+
 /// A list whose C, A and K hold every byte from 32 to 126, upwards and
 /// downwards.
 fn every_byte() -> List {
@@ -272,18 +283,20 @@ fn every_byte() -> List {
         .with(7, 26, &down)
 }
 
-/// The ten kinds.
-const KINDS: &[u8; 10] = b"HDSCBARXKZ";
+/// The eleven kinds.
+const KINDS: &[u8; 11] = b"HQDSCBARXKZ";
 
 /// 20: kinds that are none, and bodies cut short.
 impl Cases {
     /// Bytes that are no kind: what stands after them would be the body of
-    /// any kind, and then no item.
+    /// any kind, and then no item. Q is one (document 02, E1), so that the
+    /// fault is what comes after its body, or that there is too little of it.
     fn unknown_kinds(&mut self) {
         let others = [0, 1, 9, 10, 13, 31, 32, 127, 128, 255];
         let printable = (33..=126).filter(|byte| !KINDS.contains(byte));
         let with_high_bit = KINDS.iter().map(|kind| kind | 128);
-        for byte in others.into_iter().chain(printable).chain(with_high_bit) {
+        let all = others.into_iter().chain(printable).chain(with_high_bit);
+        for byte in all.chain([b'Q']) {
             let list = [&[byte][..], &[b'.'; 111]].concat();
             self.push(format!("kind {byte}"), list, &[Write(1_200)]);
         }
@@ -319,6 +332,7 @@ impl Cases {
     fn cut(&mut self) {
         for (kinds, kind) in [
             ("", "H"),
+            ("", "Q"),
             ("H", "D"),
             ("H D", "S"),
             ("H D", "C"),
@@ -347,8 +361,16 @@ impl Cases {
     /// A body with a byte too few or too many inside the list: what comes
     /// next is no kind. And items that end where a list may.
     fn shifted(&mut self) {
-        for (kind, item) in [("H", 1), ("D", 2), ("C", 3), ("B", 4), ("A", 5), ("Z", 8)] {
-            let mut list = List::of(TWO_RENTS);
+        for (kind, kinds, item) in [
+            ("H", TWO_RENTS, 1),
+            ("D", TWO_RENTS, 2),
+            ("C", TWO_RENTS, 3),
+            ("B", TWO_RENTS, 4),
+            ("A", TWO_RENTS, 5),
+            ("Z", TWO_RENTS, 8),
+            ("Q", TWO_RECALLS, 1),
+        ] {
+            let mut list = List::of(kinds);
             list.0[item - 1].pop();
             self.push(
                 format!("{kind} a byte short"),
@@ -438,17 +460,18 @@ const ORDERS: [(&str, &str); 37] = [
 /// Kinds that may not stand at a place: the place, the kinds before it, the
 /// kinds put there as the list's last.
 #[rustfmt::skip]
-const MISPLACED: [(&str, &str, &str); 10] = [
-    ("alone", "", "H D S C B A R X K Z"),
-    ("after H", "H", "H S C B A R X K Z"),
-    ("after D", "H D", "H D B A R X K Z"),
+const MISPLACED: [(&str, &str, &str); 11] = [
+    ("alone", "", "H D S C B A R X K Z Q"),
+    ("after H", "H", "H S C B A R X K Z Q"),
+    ("after Q", "Q", "H S C Z Q"),
+    ("after D", "H D", "H D B A R X K Z Q"),
     ("after S", "H D S", "H D S B A R X K Z"),
     ("after C", "H D C", "D S C A R X K Z"),
     ("after B", "H D C B", "D S C B R X K Z"),
     ("after A", "H D C B A", "D S C B A K Z"),
     ("after R", "H D C B A R", "D A R X Z"),
     ("after K", "H D C B A R K", "D R X K"),
-    ("after Z", "H D C B A R K Z", "H S C B A R X K Z"),
+    ("after Z", "H D C B A R K Z", "H S C B A R X K Z Q"),
 ];
 
 /// 3, and the reader's other refusals.
@@ -545,8 +568,9 @@ const VALUES: [Values; 21] = [
 
 /// The ends of the carried parts: kind, kinds of the list, item, positions.
 #[rustfmt::skip]
-const CARRIED_ENDS: [(&str, &str, usize, &[usize]); 11] = [
+const CARRIED_ENDS: [(&str, &str, usize, &[usize]); 12] = [
     ("H", ONE_RENT, 1, &[4, 45, 105, 111]),
+    ("Q", ONE_RECALL, 1, &[4, 45, 105, 111]),
     ("D", ONE_RENT, 2, &[23, 28, 34, 46, 53, 69, 92, 113]),
     ("S", FULL, 3, &[11, 37]),
     ("C", ONE_RENT, 3, &[11, 106]),
@@ -776,6 +800,146 @@ const CARRIED: [(&str, &str, usize, &[usize]); 9] = [
     ("59", FULL_FLOW, 7, &[66, 120]),
     ("51", ONE, 7, &[11, 120]),
     ("70", ONE, 8, &[96, 120]),
+];
+
+/// Recalls (document 02, E1).
+impl Cases {
+    /// Lists that open with Q, written and read back.
+    fn recalls(&mut self) {
+        let rooms = [0, 120, 1_919, 1_920, 1_921, 3_000].map(Write);
+        let asked = [&rooms[..], &[WriteAndBack]].concat();
+        let two = List::of(TWO_RECALLS);
+        self.push("recalls: two rents", two.bytes(), &asked);
+        self.right("recalls: one rent", &List::of(ONE_RECALL));
+        self.right("recalls: one rent with S and X", &List::of(FULL_RECALL));
+        let both = format!("Q D S C B A X X K Z {RENT}");
+        self.right("recalls: distinct bytes", &distinct(&both));
+        for (name, kinds, changes) in RIGHT_RECALLS {
+            self.right(
+                format!("recalls: {name}"),
+                &List::of(kinds).with_all(changes),
+            );
+        }
+        let kinds = format!("Q {}", [RENT, RENT_X].repeat(5).join(" "));
+        let list = List::of(&kinds).with_bodies(b'D', |i| opening(MAX_AMOUNT - i as u64));
+        self.right("recalls: ten near the largest amount", &list);
+    }
+
+    /// Lists with Q that are refused: at 20 and 21 first, for the order of the
+    /// items, and for their values.
+    fn recalls_refused(&mut self) {
+        let wrong = List::of(ONE_RECALL).with(1, 4, b"     ");
+        let rooms = [0, 1_079, 1_080, 1_081].map(Write);
+        self.push("7 in Q, at several rooms", wrong.bytes(), &rooms);
+        let cut = wrong.bytes()[..wrong.bytes().len() - 1].to_vec();
+        self.push("20 at the end, 7 in Q", cut, &rooms);
+        let unknown = [&List::of("H Q").bytes()[..], b"q"].concat();
+        self.push("20 behind Q after H", unknown, &[Write(0), Write(480)]);
+        let rooms = [0, 120, 239, 240, 241].map(Write);
+        self.push("Q alone, at several rooms", List::of("Q").bytes(), &rooms);
+        for (name, kinds) in ORDERS_WITH_Q {
+            self.list(name, &List::of(kinds));
+        }
+        for (name, kinds, changes) in FAULTS_WITH_Q {
+            self.list(name, &List::of(kinds).with_all(changes));
+        }
+    }
+
+    /// Flows of recalls read back, at every room about what is needed, and
+    /// refused ones; canonical ones and others.
+    fn recalls_back(&mut self) {
+        let rooms = [0, 50, 1_235, 1_236, 1_237, 3_000].map(ReadBack);
+        let asked = [&rooms[..], &[BackAndWrite]].concat();
+        let two = Flow::of(TWO).recalled();
+        self.push("back: recalls: two rents", two.bytes(), &asked);
+        let full = Flow::of(FULL_FLOW).recalled();
+        let asked = [ReadBack(670), ReadBack(671), BackAndWrite];
+        self.push("back: recalls: 16 and 59", full.bytes(), &asked);
+        let mut filled = Flow::of(EVERY).recalled();
+        for (index, record) in filled.0.iter_mut().enumerate() {
+            fill(record, 13 * index);
+        }
+        let asked = [ReadBack(1_263), ReadBack(1_264), BackAndWrite];
+        let name = "back: recalls: unchecked bytes distinct";
+        self.push(name, filled.bytes(), &asked);
+        for (name, changes) in RECALLS_BACK {
+            let flow = Flow::of(ONE).recalled().with_all(changes);
+            let name = format!("back: recalls: {name}");
+            self.push(name, flow.bytes(), &[ReadBack(643), BackAndWrite]);
+        }
+        let asked = [ReadBack(0), ReadBack(2_000), BackAndWrite];
+        for (name, changes) in find_cases::RECALL_FAULTS {
+            let flow = Flow::of(TWO).recalled().with_all(changes);
+            self.push(format!("back: {name}"), flow.bytes(), &asked);
+        }
+    }
+}
+
+/// Right lists of recalls with bytes put into them.
+#[rustfmt::skip]
+const RIGHT_RECALLS: [(&str, &str, &[Change]); 6] = [
+    ("amount 0", ONE_RECALL, &[(2, 34, b"0000000000000")]),
+    ("amounts that carry", TWO_RECALLS, &[(2, 34, b"9999999999999"), (9, 34, b"0000000000001")]),
+    ("Q 40-45 and 105-111 used", ONE_RECALL, &[(1, 40, b"CASE40"), (1, 105, b"1$05678")]),
+    ("company code absent then present", TWO_RECALLS, &[(2, 92, ABSENT)]),
+    ("another ABI in Q and S", FULL_RECALL, &[(1, 9, b"98765"), (3, 16, b"98765")]),
+    ("keys in Z", ONE_RECALL, &[(8, 94, b"P"), (8, 96, b"NOTTEKEYS OF THE RECALL")]),
+];
+
+/// Lists with Q in which only the order of the items is wrong.
+#[rustfmt::skip]
+const ORDERS_WITH_Q: [(&str, &str); 17] = [
+    ("Q twice", "Q Q D C B A R K Z"),
+    ("Q after H", "H Q D C B A R K Z"),
+    ("H after Q", "Q H D C B A R K Z"),
+    ("Q inside a disposition", "H D C B Q A R K Z"),
+    ("H inside a disposition of recalls", "Q D C B H A R K Z"),
+    ("Q between dispositions", "H D C B A R K Z Q D C B A R K Z"),
+    ("H between recalls", "Q D C B A R K Z H D C B A R K Z"),
+    ("Q at the end", "H D C B A R K Z Q"),
+    ("H at the end of recalls", "Q D C B A R K Z H"),
+    ("D before Q", "D Q C B A R K Z"),
+    ("D before Q and H", "D Q H D C B A R K Z"),
+    ("a disposition before Q", "D C B A R K Z Q"),
+    ("Q behind the first D", "H D Q D C B A R K Z"),
+    ("Q and Z", "Q Z"),
+    ("recalls: six X", "Q D C B A X X X X X X K Z"),
+    ("recalls: no Z", "Q D C B A R K"),
+    ("recalls: the second D alone", "Q D C B A R K Z D"),
+];
+
+/// Lists with Q and wrong values.
+#[rustfmt::skip]
+const FAULTS_WITH_Q: [(&str, &str, &[Change]); 18] = [
+    ("Q 4-8 is ''", "Q", &[(1, 4, b"     ")]),
+    ("Q 9-13 is '0123:'", "Q", &[(1, 9, b"0123:")]),
+    ("Q date is '290227'", "Q", &[(1, 14, b"290227")]),
+    ("Q date is '29022:'", "Q", &[(1, 14, b"29022:")]),
+    ("Q 20-39 is ''", "Q", &[(1, 20, b"                    ")]),
+    ("Q 105-111 is '2$05678'", "Q", &[(1, 105, b"2$05678")]),
+    ("Q 105-111 is '1E05678'", "Q", &[(1, 105, b"1E05678")]),
+    ("Q 105-111 is '1$0567:'", "Q", &[(1, 105, b"1$0567:")]),
+    ("recalls: D date is '290227'", ONE_RECALL, &[(2, 23, b"290227")]),
+    ("recalls: D amount is '0000000450.00'", ONE_RECALL, &[(2, 34, b"0000000450.00")]),
+    ("recalls: D at 97 is '0'", ONE_RECALL, &[(2, 97, b"0")]),
+    ("recalls: Z at 94 is 'A'", ONE_RECALL, &[(8, 94, b"A")]),
+    ("recalls: company code different", TWO_RECALLS, &[(9, 92, b"AB124")]),
+    ("recalls: S with the ABI of another Q", FULL_RECALL, &[(1, 9, b"98765")]),
+    ("7 in Q then 2 in D", "Q D", &[(1, 20, &[b' '; 20]), (2, 23, b"\0")]),
+    ("a byte outside in D before Q", "D Q", &[(1, 113, b"\x80")]),
+    ("a byte outside in Q after H", "H Q", &[(2, 4, b"\x80")]),
+    ("7 in H then Q", "H Q", &[(1, 4, b"     ")]),
+];
+
+/// Bytes put into `ONE` of recalls, to be read back: two that the list does
+/// not carry, and carried ones.
+#[rustfmt::skip]
+const RECALLS_BACK: [(&str, &[Change]); 5] = [
+    ("text in IM at 46", &[(1, 46, b"~")]),
+    ("text in 14 at 11", &[(2, 11, b"~")]),
+    ("text in EF at 90", &[(9, 90, b"~")]),
+    ("40-45 in IM alone", &[(1, 40, b"CASE40")]),
+    ("keys in 70", &[(8, 94, b"P"), (8, 96, b"NOTTEKEYS OF THE RECALL")]),
 ];
 
 /// Fills the positions of a record that are not checked with a run of bytes.

@@ -7,6 +7,7 @@
 
 use crate::answer::{number, Accepted, Answer, Refusal};
 use crate::fields::{amount, date, digits, is_blank};
+use crate::kind::FlowKind;
 use crate::record::{field, record_type, Record, MAX_RECORDS, RECORD_LEN};
 
 /// Judges a flow.
@@ -95,6 +96,8 @@ pub(crate) struct Walk {
     records: u64,
     dispositions: u64,
     cents: u64,
+    /// The kind of the flow, once the first record 14 has told it.
+    kind: Option<FlowKind>,
     /// The latest company code present; blanks while there is none.
     company: [u8; 5],
 }
@@ -110,6 +113,7 @@ impl Walk {
             records: 0,
             dispositions: 0,
             cents: 0,
+            kind: None,
             company: [b' '; 5],
         }
     }
@@ -170,18 +174,19 @@ impl Walk {
 
     /// The answer when there is no further record (row 4 of the numbers).
     fn finish(&self) -> Result<Accepted, Refusal> {
-        if self.next != Next::End {
-            return Err(Refusal {
+        match self.kind {
+            Some(kind) if self.next == Next::End => Ok(Accepted {
+                dispositions: self.dispositions,
+                cents: self.cents,
+                records: self.records,
+                kind,
+            }),
+            _ => Err(Refusal {
                 number: number::ENDED,
                 record: self.records + 1,
                 position: 0,
-            });
+            }),
         }
-        Ok(Accepted {
-            dispositions: self.dispositions,
-            cents: self.cents,
-            records: self.records,
-        })
     }
 
     /// 4-10 of every record of a disposition (document 01, the paragraph
@@ -199,9 +204,9 @@ impl Walk {
     #[inline]
     fn check_14(&mut self, header: &Record, record: &Record) -> Result<(), Fault> {
         check_date(record, 23, 28)?;
-        check_equal(record, 29, 33, b"07000", number::NOT_PERMITTED)?;
+        let kind = self.check_causale(record)?;
         let cents = amount(field(record, 34, 46)).map_err(|number| (number, 34))?;
-        check_listed(record, 47, b"-")?;
+        check_listed(record, 47, &[kind.row().sign])?;
         check_abi(header, record, 48, 52)?;
         if !is_blank(field(record, 53, 57)) {
             digits_at(record, 53, 57)?;
@@ -212,6 +217,18 @@ impl Walk {
         // At most 1,428,571 dispositions below 10^13 cents: never saturates.
         self.cents = self.cents.saturating_add(cents);
         Ok(())
+    }
+
+    /// 29-33 of record 14 (document 02, E1): the causale of a kind, or 6; then
+    /// of the kind that the flow's first record 14 has told, or 22.
+    #[inline]
+    fn check_causale(&mut self, record: &Record) -> Result<FlowKind, Fault> {
+        let found = FlowKind::of_causale(field(record, 29, 33));
+        let kind = found.ok_or((number::NOT_PERMITTED, 29))?;
+        if *self.kind.get_or_insert(kind) != kind {
+            return Err((number::OTHER_KIND, 29));
+        }
+        Ok(kind)
     }
 
     /// 92-96 of record 14 (row 11 of the numbers). A blank code is never
@@ -229,7 +246,7 @@ impl Walk {
         Ok(())
     }
 
-    /// Document 01, table of checks, row EF.
+    /// Document 01, table of checks, row EF; the totals by document 02, E1.
     fn check_trailer(&self, header: &Record, record: &Record) -> Result<(), Fault> {
         for (first, last) in [(4, 8), (9, 13), (14, 19), (20, 39)] {
             check_equal(
@@ -240,16 +257,17 @@ impl Walk {
                 number::HEADER,
             )?;
         }
-        for (first, last, due, number) in [
-            (46, 52, self.dispositions, number::DISPOSITION_COUNT),
-            (53, 67, self.cents, number::TOTAL),
-            (68, 82, 0, number::TOTAL),
-            (83, 89, self.records, number::RECORD_COUNT),
-        ] {
-            if digits_at(record, first, last)? != due {
-                return Err((number, first as u8));
-            }
+        check_value(
+            record,
+            (46, 52),
+            self.dispositions,
+            number::DISPOSITION_COUNT,
+        )?;
+        // No trailer may stand before the first record 14, which tells the kind.
+        for (place, due) in self.kind.unwrap_or_default().totals(self.cents) {
+            check_value(record, place, due, number::TOTAL)?;
         }
+        check_value(record, (83, 89), self.records, number::RECORD_COUNT)?;
         check_equal(record, 114, 114, field(header, 114, 114), number::HEADER)
     }
 }
@@ -345,6 +363,20 @@ fn check_equal(
     number: u8,
 ) -> Result<(), Fault> {
     if field(record, first, last) != due {
+        return Err((number, first as u8));
+    }
+    Ok(())
+}
+
+/// A digit field of the value due, or `number`, after 5.
+#[inline(always)]
+fn check_value(
+    record: &Record,
+    (first, last): (usize, usize),
+    due: u64,
+    number: u8,
+) -> Result<(), Fault> {
+    if digits_at(record, first, last)? != due {
         return Err((number, first as u8));
     }
     Ok(())

@@ -1,10 +1,11 @@
 //! Named cases for the reader: right flows, and flows that break the rules of
-//! document 01 one at a time or two together.
+//! document 01, or of document 02, E1, one at a time or two together.
 //!
 //! A flow is set down by the types of its records, each of them right for its
-//! place (`Flow::of`), and by the bytes then put into it. What comes after
-//! the first fault does not change the answer, so that beside one whole flow
-//! for each check there are many that end with the record at fault.
+//! place in a flow of requests (`Flow::of`) or of recalls (`Flow::recalled`),
+//! and by the bytes then put into it. What comes after the first fault does
+//! not change the answer, so that beside one whole flow for each check there
+//! are many that end with the record at fault.
 
 use crate::damage::checked;
 use crate::generate::{blank, fill_trailer};
@@ -33,6 +34,7 @@ pub fn cases() -> Vec<Case> {
     cases.second_numbers();
     cases.unchecked();
     cases.large_totals();
+    cases.recalls();
     cases.0
 }
 
@@ -90,6 +92,23 @@ impl Flow {
         };
         put(&mut record, 4, format!("{number:07}").as_bytes());
         record
+    }
+
+    /// The flow as one of recalls (document 003, section 3): causale and sign
+    /// of its records 14, and EF's sum at 68-82 with zeros at 53-67.
+    pub(crate) fn recalled(mut self) -> Flow {
+        for record in &mut self.0 {
+            match &record_type(record) {
+                b"14" => {
+                    put(record, 29, b"07100");
+                    put(record, 47, b"+");
+                }
+                // The two fields, of 15 bytes each, change places.
+                b"EF" => field_mut(record, 53, 82).rotate_left(15),
+                _ => {}
+            }
+        }
+        self
     }
 
     /// The flow with bytes put into one record.
@@ -315,6 +334,14 @@ impl Cases {
             self.push(name, flow.with(last, 53, total).bytes());
         }
     }
+
+    /// Flows of recalls, right and with bytes put into them.
+    fn recalls(&mut self) {
+        for (name, types, changes) in RECALLS {
+            let flow = Flow::of(types).recalled().with_all(changes);
+            self.push(format!("recall: {name}"), flow.bytes());
+        }
+    }
 }
 
 /// Fills the positions of a record that are not checked.
@@ -448,7 +475,9 @@ static VALUES: [Values; 30] = [
         "290200", "010100", "311299", "300426", "300228", "310426", "310626", "310926", "311126",
         "320126", "000126", "010026", "011326", "290299", "/90228", "      ", "2902 7",
     ]),
-    values("14 29-33", ONE, 2, 29, &["07100"], &["07001", "17000", "     ", "0700O", "7000 "]),
+    values("14 29-33", ONE, 2, 29, &["07100", "07200"], &[
+        "07001", "17000", "     ", "0700O", "7000 ", "07006", "07008", "07010", "07011", "00000",
+    ]),
     values("14 amount", ONE, 2, 34, &["0000000450.00"], &[
         "000000004500:", "/000000045000", "             ", "        45000", "45000        ",
         "+000000045000",
@@ -481,10 +510,10 @@ static VALUES: [Values; 30] = [
     values("EF at 39", ONE, 9, 39, &[], &["X"]),
     values("EF count", ONE, 9, 46, &[], &["0000000", "0000002", "000000:", "       "]),
     values("EF total", ONE, 9, 53, &[], &[
-        "000000000044999", "000000000045001", "00000000004500:",
+        "000000000044999", "000000000045001", "00000000004500:", "000000000000000",
     ]),
     values("EF zeros", ONE, 9, 68, &[], &[
-        "000000000000001", "100000000000000", "00000000000000:",
+        "000000000000001", "100000000000000", "00000000000000:", "000000000045000",
     ]),
     values("EF records", ONE, 9, 83, &[], &["0000007", "0000008", "0000010", "000000:"]),
     values("EF at 114", ONE, 9, 114, &[], &["L"]),
@@ -511,7 +540,7 @@ const NO_TEXT: &[u8] = &[b' '; 110];
 
 /// Flows with bytes put into them.
 #[rustfmt::skip]
-const CHANGES: [(&str, &str, &[Change]); 69] = [
+const CHANGES: [(&str, &str, &[Change]); 83] = [
     // Right flows.
     ("40 50 51 blank", ONE, &[(5, 11, NO_TEXT), (6, 11, NO_TEXT), (7, 11, NO_TEXT)]),
     ("amount 0", ONE, &[(2, 34, b"0000000000000"), (9, 53, b"000000000000000")]),
@@ -603,6 +632,68 @@ const CHANGES: [(&str, &str, &[Change]); 69] = [
     ("company code unlike IM 4-8", "IM 14", &[(2, 92, b"~~~~~")]),
     ("company code present, absent, equal", THREE, &[(9, 92, ABSENT)]),
     ("company code present, absent, different", UP_TO_16, &[(9, 92, ABSENT), (16, 92, b"AB124")]),
+    // Causale and sign of the first 14.
+    ("07200 and '+' in 14", "IM 14", &[(2, 29, b"07200"), (2, 47, b"+")]),
+    ("07100, 5 at 34 and '-' in 14", "IM 14", &[(2, 29, b"07100"), (2, 34, b":")]),
+    // Causale and sign of a later 14, under a first one of a request.
+    ("a recall second", UP_TO_9, &[(9, 29, b"07100"), (9, 47, b"+")]),
+    ("a recall second, each with its total", TWO, &[
+        (9, 29, b"07100"), (9, 47, b"+"), (16, 53, b"000000000045000"), (16, 68, b"000000000038050"),
+    ]),
+    ("a recall second, signed as a request", UP_TO_9, &[(9, 29, b"07100")]),
+    ("a recall second, 5 at 34", UP_TO_9, &[(9, 29, b"07100"), (9, 34, b":"), (9, 47, b"+")]),
+    ("a recall second, signed as neither", UP_TO_9, &[(9, 29, b"07100"), (9, 47, b" ")]),
+    ("a recall second, numbered 3", UP_TO_9, &[(9, 4, b"0000003"), (9, 29, b"07100"), (9, 47, b"+")]),
+    ("a recall second, no date", UP_TO_9, &[(9, 23, b"290227"), (9, 29, b"07100"), (9, 47, b"+")]),
+    ("a recall second, a bad byte at 120", UP_TO_9, &[(9, 29, b"07100"), (9, 120, b"\x7f")]),
+    ("a recall second, wrong at 48, 92 and 120", UP_TO_9, &[
+        (9, 29, b"07100"), (9, 47, b"+"), (9, 48, b"01235"), (9, 92, b"AB124"), (9, 120, b"L"),
+    ]),
+    ("a recall third", UP_TO_16, &[(16, 29, b"07100"), (16, 47, b"+")]),
+    ("07200 in the second 14", UP_TO_9, &[(9, 29, b"07200")]),
+    ("a recall's sign in the second 14", UP_TO_9, &[(9, 47, b"+")]),
+];
+
+/// Flows of recalls with bytes put into them.
+#[rustfmt::skip]
+const RECALLS: [(&str, &str, &[Change]); 33] = [
+    // Right flows. The keys at 101-120 of 70 may be others than the request's.
+    ("one disposition", ONE, &[(8, 101, b"KEYS OF THE RECALL")]),
+    ("two dispositions", TWO, &[]),
+    ("amount 0", ONE, &[(2, 34, b"0000000000000"), (9, 68, b"000000000000000")]),
+    // Causale and sign of the first 14.
+    ("ends after 14", "IM 14", &[]),
+    ("14 29-33 is '07000'", "IM 14", &[(2, 29, b"07000")]),
+    ("14 29-33 is '07200'", "IM 14", &[(2, 29, b"07200")]),
+    ("14 29-33 is '07101'", "IM 14", &[(2, 29, b"07101")]),
+    ("14 29-33 is '17100'", "IM 14", &[(2, 29, b"17100")]),
+    ("14 29-33 is '0710O'", "IM 14", &[(2, 29, b"0710O")]),
+    ("14 29-33 is '7100 '", "IM 14", &[(2, 29, b"7100 ")]),
+    ("14 at 47 is '-'", "IM 14", &[(2, 47, b"-")]),
+    ("14 at 47 is ' '", "IM 14", &[(2, 47, b" ")]),
+    ("14 at 47 is ','", "IM 14", &[(2, 47, b",")]),
+    ("14 at 47 is '*'", "IM 14", &[(2, 47, b"*")]),
+    ("14 wrong at 23 and 29", "IM 14", &[(2, 23, b"290227"), (2, 29, b"07200")]),
+    ("14 wrong at 29 and 34", "IM 14", &[(2, 29, b"07200"), (2, 34, b":")]),
+    ("14 wrong at 29 and 47", "IM 14", &[(2, 29, b"07200"), (2, 47, b"-")]),
+    ("14 wrong at 34 and 47", "IM 14", &[(2, 34, b":"), (2, 47, b"-")]),
+    ("14 wrong at 47 and 48", "IM 14", &[(2, 47, b"-"), (2, 48, b"01235")]),
+    // Causale and sign of a later 14, under a first one of a recall.
+    ("a request second", UP_TO_9, &[(9, 29, b"07000"), (9, 47, b"-")]),
+    ("a request second, signed as a recall", UP_TO_9, &[(9, 29, b"07000")]),
+    ("07200 in the second 14", UP_TO_9, &[(9, 29, b"07200")]),
+    ("a request's sign in the second 14", UP_TO_9, &[(9, 47, b"-")]),
+    ("a request first", UP_TO_9, &[(2, 29, b"07000"), (2, 47, b"-")]),
+    // The trailer's totals.
+    ("EF as of requests", ONE, &[(9, 53, b"000000000045000000000000000000")]),
+    ("EF with the total at both", ONE, &[(9, 53, b"000000000045000")]),
+    ("EF with zeros at both", ONE, &[(9, 68, b"000000000000000")]),
+    ("EF 53-67 is '00000000000000:'", ONE, &[(9, 53, b"00000000000000:")]),
+    ("EF 68-82 is '000000000044999'", ONE, &[(9, 68, b"000000000044999")]),
+    ("EF 68-82 is '00000000004500:'", ONE, &[(9, 68, b"00000000004500:")]),
+    ("EF 5 at 53, 13 at 68", ONE, &[(9, 53, b":"), (9, 68, b"000000000045001")]),
+    ("EF 13 at 53, 5 at 68", ONE, &[(9, 53, b"000000000000001"), (9, 68, b":")]),
+    ("EF 13 at 68, 14 at 83", ONE, &[(9, 68, b"000000000045001"), (9, 83, b"0000010")]),
 ];
 
 /// Bytes put into a record: position, bytes.
@@ -616,7 +707,7 @@ const FAULTS: [(&str, &str, usize, &[Fault]); 11] = [
         (114, b"L"),
     ]),
     ("14", "IM 14", 2, &[
-        (4, b"0000000"), (23, b"290227"), (29, b"07100"), (34, b":"), (47, b"+"), (48, b"01235"),
+        (4, b"0000000"), (23, b"290227"), (29, b"07200"), (34, b":"), (47, b"+"), (48, b"01235"),
         (53, b":"), (97, b"0"), (120, b"L"),
     ]),
     ("second 14", UP_TO_9, 9, &[(48, b"01235"), (92, b"AB124"), (97, b"0")]),

@@ -9,6 +9,7 @@ use crate::amend::{change, withdraw};
 use crate::answer::Answer;
 use crate::fields::{write_digits, MAX_AMOUNT};
 use crate::generate::{blank, Draft};
+use crate::kind::FlowKind;
 use crate::ledger::Call;
 use crate::list::write_flow;
 use crate::reader::read;
@@ -87,13 +88,12 @@ fn header() -> Record {
     record
 }
 
-/// The seven records of a tenant's rent.
-fn rent(tenant: &Tenant) -> Vec<Record> {
+/// The seven records of a tenant's rent, in a flow of this kind.
+fn rent(tenant: &Tenant, kind: FlowKind) -> Vec<Record> {
     let mut opening = blank(b"14");
     put(&mut opening, 23, b"310326");
-    put(&mut opening, 29, b"07000");
+    kind.put_in(&mut opening);
     write_digits(field_mut(&mut opening, 34, 46), tenant.cents);
-    put(&mut opening, 47, b"-");
     put(&mut opening, 48, b"01234");
     put(&mut opening, 53, b"02400");
     put(&mut opening, 58, b"000000123456");
@@ -130,16 +130,22 @@ fn rent(tenant: &Tenant) -> Vec<Record> {
 
 /// The two-rent example of document 01.
 pub fn two_rents() -> Draft {
-    rents(&TENANTS)
+    rents(&TENANTS, FlowKind::Requests)
+}
+
+/// The same two rents recalled.
+fn two_rents_recall() -> Draft {
+    rents(&TENANTS, FlowKind::Recalls)
 }
 
 /// The first of the two rents alone.
 fn one_rent() -> Draft {
-    rents(&TENANTS[..1])
+    rents(&TENANTS[..1], FlowKind::Requests)
 }
 
-/// The rents of these tenants.
-fn rents(tenants: &[Tenant]) -> Draft {
+/// The rents of these tenants, in a flow of this kind.
+fn rents(tenants: &[Tenant], kind: FlowKind) -> Draft {
+    let rent = |tenant| rent(tenant, kind);
     Draft {
         header: header(),
         dispositions: tenants.iter().map(rent).collect(),
@@ -168,7 +174,7 @@ fn full_rent(index: u64) -> Vec<Record> {
     let place = index as usize;
     let customer = format!("S{index:04}");
     let name = format!("STUDENTE {index:02}");
-    let mut block = rent(&TENANTS[place % 2]);
+    let mut block = rent(&TENANTS[place % 2], FlowKind::Requests);
     let opening = &mut block[0];
     write_digits(field_mut(opening, 34, 46), 30_000 + 1_250 * index);
     put(opening, 97, &[b" 1234569"[place % 8]]);
@@ -230,7 +236,7 @@ fn block_twice() -> Vec<u8> {
 /// A list of 101 rents of the largest amount.
 fn total_above_limit() -> Vec<u8> {
     let mut draft = two_rents();
-    let mut block = rent(&TENANTS[0]);
+    let mut block = rent(&TENANTS[0], FlowKind::Requests);
     write_digits(field_mut(&mut block[0], 34, 46), MAX_AMOUNT);
     draft.dispositions = vec![block; 101];
     draft.list()
@@ -252,256 +258,126 @@ fn cut(bytes: usize) -> Vec<u8> {
     flow
 }
 
-fn flow(file: &'static str, bytes: Vec<u8>, shows: &'static str, due: &'static str) -> Sample {
-    Sample {
-        file,
-        bytes,
-        use_as: UseAs::Flow,
-        shows,
-        due,
-    }
+/// The list of two rents without its last byte.
+fn cut_list() -> Vec<u8> {
+    let mut list = two_rents().list();
+    list.pop();
+    list
 }
 
-fn list(
-    file: &'static str,
-    bytes: Vec<u8>,
-    room: usize,
-    shows: &'static str,
-    due: &'static str,
-) -> Sample {
-    Sample {
-        file,
-        bytes,
-        use_as: UseAs::List(room),
-        shows,
-        due,
-    }
-}
-
-fn amended(
-    file: &'static str,
-    bytes: Vec<u8>,
-    call: Call,
-    shows: &'static str,
-    due: &'static str,
-) -> Sample {
-    Sample {
-        file,
-        bytes,
-        use_as: UseAs::Amended(call),
-        shows,
-        due,
-    }
-}
+/// One row of the samples: file, use, the file's bytes, what they show, and the
+/// answer due.
+type Row = (
+    &'static str,
+    UseAs,
+    fn() -> Vec<u8>,
+    &'static str,
+    &'static str,
+);
 
 /// All samples in the order of their table.
 pub fn samples() -> Vec<Sample> {
-    let mut samples = right_samples();
-    samples.extend(refused_flows());
-    samples.extend(refused_lists());
-    samples.extend(refused_calls());
-    samples
+    let rows = [&RIGHT[..], &REFUSED_FLOWS, &REFUSED_LISTS, &REFUSED_CALLS].concat();
+    rows.into_iter()
+        .map(|(file, use_as, bytes, shows, due)| Sample {
+            file,
+            bytes: bytes(),
+            use_as,
+            shows,
+            due,
+        })
+        .collect()
 }
 
-fn right_samples() -> Vec<Sample> {
-    let two = two_rents();
-    let forty = forty_rents();
-    vec![
-        flow(
-            "two-rents.flow",
-            two.flow(),
-            "two rents, canonical, no record 16, one 50 each",
-            "accepted dispositions 2 cents 83050 records 16",
-        ),
-        list(
-            "two-rents.list",
-            two.list(),
-            1_920,
-            "the request list of two-rents.flow, which it encodes byte for byte",
-            "accepted dispositions 2 cents 83050 records 16",
-        ),
-        flow(
-            "two-rents-filler.flow",
-            filled(),
-            "the two rents with text at positions that are not checked and not carried: not canonical, the same list",
-            "accepted dispositions 2 cents 83050 records 16",
-        ),
-        flow(
-            "one-rent.flow",
-            one_rent().flow(),
-            "the first of the two rents alone",
-            "accepted dispositions 1 cents 45000 records 9",
-        ),
-        flow(
-            "forty-rents.flow",
-            forty.flow(),
-            "forty rents, canonical, with 16, one 50 or one to five 59, the header's 105-111, and the company code on most",
-            "accepted dispositions 40 cents 2225000 records 368",
-        ),
-        list(
-            "forty-rents.list",
-            forty.list(),
-            44_160,
-            "the request list of forty-rents.flow",
-            "accepted dispositions 40 cents 2225000 records 368",
-        ),
-    ]
-}
+use UseAs::{Amended, Flow, List};
 
-fn refused_flows() -> Vec<Sample> {
-    vec![
-        flow(
-            "refused-01-length.flow",
-            cut(1),
-            "the last byte is missing",
-            "refused 1 record 0 position 0",
-        ),
-        flow(
-            "refused-02-byte.flow",
-            spoiled(4, 16, b"\t"),
-            "a tab in the debtor's name",
-            "refused 2 record 4 position 16",
-        ),
-        flow(
-            "refused-03-type.flow",
-            spoiled(7, 2, b"59"),
-            "a 59 after a 50",
-            "refused 3 record 7 position 2",
-        ),
-        flow(
-            "refused-04-ended.flow",
-            cut(RECORD_LEN),
-            "the trailer is missing",
-            "refused 4 record 16 position 0",
-        ),
-        flow(
-            "refused-05-digits.flow",
-            spoiled(2, 34, b"0000000450.00"),
-            "an amount with a decimal point",
-            "refused 5 record 2 position 34",
-        ),
-        flow(
-            "refused-06-value.flow",
-            spoiled(9, 29, b"07100"),
-            "the causale of a recall",
-            "refused 6 record 9 position 29",
-        ),
-        flow(
-            "refused-07-blank.flow",
-            spoiled(11, 11, &[b' '; 30]),
-            "no name of the debtor",
-            "refused 7 record 11 position 11",
-        ),
-        flow(
-            "refused-08-date.flow",
-            spoiled(2, 23, b"290227"),
-            "29 February of a common year",
-            "refused 8 record 2 position 23",
-        ),
-        flow(
-            "refused-09-block-twice.flow",
-            block_twice(),
-            "the first rent stands twice, and the trailer agrees",
-            "refused 9 record 9 position 4",
-        ),
-        flow(
-            "refused-10-header.flow",
-            spoiled(9, 48, b"01235"),
-            "the ABI of a 14 is not the header's",
-            "refused 10 record 9 position 48",
-        ),
-        flow(
-            "refused-11-company.flow",
-            spoiled(9, 92, b"AB124"),
-            "two company codes",
-            "refused 11 record 9 position 92",
-        ),
-        flow(
-            "refused-12-dispositions.flow",
-            spoiled(16, 46, b"0000003"),
-            "the trailer counts three dispositions",
-            "refused 12 record 16 position 46",
-        ),
-        flow(
-            "refused-13-total.flow",
-            spoiled(16, 53, b"000000000083051"),
-            "the trailer's total is a cent too high",
-            "refused 13 record 16 position 53",
-        ),
-        flow(
-            "refused-14-records.flow",
-            spoiled(16, 83, b"0000014"),
-            "the trailer counts the records without header and trailer",
-            "refused 14 record 16 position 83",
-        ),
-    ]
-}
+#[rustfmt::skip]
+const RIGHT: [Row; 8] = [
+    ("two-rents.flow", Flow, || two_rents().flow(),
+        "two rents, canonical, no record 16, one 50 each",
+        "accepted dispositions 2 cents 83050 records 16 kind requests"),
+    ("two-rents.list", List(1_920), || two_rents().list(),
+        "the request list of two-rents.flow, which it encodes byte for byte",
+        "accepted dispositions 2 cents 83050 records 16 kind requests"),
+    ("two-rents-recall.flow", Flow, || two_rents_recall().flow(),
+        "a recall of the two rents: causale 07100, sign +, the total at 68-82",
+        "accepted dispositions 2 cents 83050 records 16 kind recalls"),
+    ("two-rents-recall.list", List(1_920), || two_rents_recall().list(),
+        "the request list of two-rents-recall.flow: that of two-rents.flow with Q for H",
+        "accepted dispositions 2 cents 83050 records 16 kind recalls"),
+    ("two-rents-filler.flow", Flow, filled,
+        "the two rents with text at positions that are not checked and not carried: not canonical, the same list",
+        "accepted dispositions 2 cents 83050 records 16 kind requests"),
+    ("one-rent.flow", Flow, || one_rent().flow(),
+        "the first of the two rents alone",
+        "accepted dispositions 1 cents 45000 records 9 kind requests"),
+    ("forty-rents.flow", Flow, || forty_rents().flow(),
+        "forty rents, canonical, with 16, one 50 or one to five 59, the header's 105-111, and the company code on most",
+        "accepted dispositions 40 cents 2225000 records 368 kind requests"),
+    ("forty-rents.list", List(44_160), || forty_rents().list(),
+        "the request list of forty-rents.flow",
+        "accepted dispositions 40 cents 2225000 records 368 kind requests"),
+];
 
-fn refused_lists() -> Vec<Sample> {
-    let two = two_rents().list();
-    let mut short = two.clone();
-    short.pop();
-    vec![
-        list(
-            "refused-03-empty.list",
-            Vec::new(),
-            120,
-            "an empty list",
-            "refused 3 record 1 position 2",
-        ),
-        list(
-            "refused-17-total.list",
-            total_above_limit(),
-            85_080,
-            "101 rents of 9,999,999,999,999 cents",
-            "refused 17 record 0 position 0",
-        ),
-        list(
-            "refused-20-item.list",
-            short,
-            1_920,
-            "the last item is cut short",
-            "refused 20 record 15 position 0",
-        ),
-        list(
-            "two-rents.list",
-            two,
-            1_919,
-            "an output one byte too short",
-            "refused 21 record 0 position 0",
-        ),
-    ]
-}
+#[rustfmt::skip]
+const REFUSED_FLOWS: [Row; 15] = [
+    ("refused-01-length.flow", Flow, || cut(1),
+        "the last byte is missing", "refused 1 record 0 position 0"),
+    ("refused-02-byte.flow", Flow, || spoiled(4, 16, b"\t"),
+        "a tab in the debtor's name", "refused 2 record 4 position 16"),
+    ("refused-03-type.flow", Flow, || spoiled(7, 2, b"59"),
+        "a 59 after a 50", "refused 3 record 7 position 2"),
+    ("refused-04-ended.flow", Flow, || cut(RECORD_LEN),
+        "the trailer is missing", "refused 4 record 16 position 0"),
+    ("refused-05-digits.flow", Flow, || spoiled(2, 34, b"0000000450.00"),
+        "an amount with a decimal point", "refused 5 record 2 position 34"),
+    ("refused-06-value.flow", Flow, || spoiled(9, 29, b"07008"),
+        "the causale of a return flow, neither a request's nor a recall's",
+        "refused 6 record 9 position 29"),
+    ("refused-07-blank.flow", Flow, || spoiled(11, 11, &[b' '; 30]),
+        "no name of the debtor", "refused 7 record 11 position 11"),
+    ("refused-08-date.flow", Flow, || spoiled(2, 23, b"290227"),
+        "29 February of a common year", "refused 8 record 2 position 23"),
+    ("refused-09-block-twice.flow", Flow, block_twice,
+        "the first rent stands twice, and the trailer agrees", "refused 9 record 9 position 4"),
+    ("refused-10-header.flow", Flow, || spoiled(9, 48, b"01235"),
+        "the ABI of a 14 is not the header's", "refused 10 record 9 position 48"),
+    ("refused-11-company.flow", Flow, || spoiled(9, 92, b"AB124"),
+        "two company codes", "refused 11 record 9 position 92"),
+    ("refused-12-dispositions.flow", Flow, || spoiled(16, 46, b"0000003"),
+        "the trailer counts three dispositions", "refused 12 record 16 position 46"),
+    ("refused-13-total.flow", Flow, || spoiled(16, 53, b"000000000083051"),
+        "the trailer's total is a cent too high", "refused 13 record 16 position 53"),
+    ("refused-14-records.flow", Flow, || spoiled(16, 83, b"0000014"),
+        "the trailer counts the records without header and trailer",
+        "refused 14 record 16 position 83"),
+    // 29-33, the amount as it was, and 47.
+    ("refused-22-kind.flow", Flow, || spoiled(9, 29, b"071000000000038050+"),
+        "a recall after a request", "refused 22 record 9 position 29"),
+];
 
-fn refused_calls() -> Vec<Sample> {
-    let flow = two_rents().flow();
-    vec![
-        amended(
-            "two-rents.flow",
-            flow.clone(),
-            Call::Withdraw { k: 3 },
-            "there are two dispositions",
-            "refused 15 record 0 position 0",
-        ),
-        amended(
-            "two-rents.flow",
-            flow,
-            Call::Change {
-                k: 1,
-                cents: 10_000_000_000_000,
-            },
-            "an amount of fourteen digits",
-            "refused 16 record 0 position 0",
-        ),
-        amended(
-            "one-rent.flow",
-            one_rent().flow(),
-            Call::Withdraw { k: 1 },
-            "the only disposition",
-            "refused 18 record 0 position 0",
-        ),
-    ]
-}
+#[rustfmt::skip]
+const REFUSED_LISTS: [Row; 4] = [
+    ("refused-03-empty.list", List(120), Vec::new,
+        "an empty list", "refused 3 record 1 position 2"),
+    ("refused-17-total.list", List(85_080), total_above_limit,
+        "101 rents of 9,999,999,999,999 cents", "refused 17 record 0 position 0"),
+    ("refused-20-item.list", List(1_920), cut_list,
+        "the last item is cut short", "refused 20 record 15 position 0"),
+    ("two-rents.list", List(1_919), || two_rents().list(),
+        "an output one byte too short", "refused 21 record 0 position 0"),
+];
+
+#[rustfmt::skip]
+const REFUSED_CALLS: [Row; 3] = [
+    ("two-rents.flow", Amended(Call::Withdraw { k: 3 }), || two_rents().flow(),
+        "there are two dispositions", "refused 15 record 0 position 0"),
+    ("two-rents.flow", Amended(Call::Change { k: 1, cents: 10_000_000_000_000 }),
+        || two_rents().flow(),
+        "an amount of fourteen digits", "refused 16 record 0 position 0"),
+    ("one-rent.flow", Amended(Call::Withdraw { k: 1 }), || one_rent().flow(),
+        "the only disposition", "refused 18 record 0 position 0"),
+];
 
 /// The table of samples, as Markdown.
 pub fn table(samples: &[Sample]) -> String {
@@ -509,8 +385,8 @@ pub fn table(samples: &[Sample]) -> String {
         "# Samples\n\n\
          Files ending in `.flow` are flows to be read, files ending in `.list` are request\n\
          lists to be written to an output of the length given. A row that names a call\n\
-         is about that call on the flow. The rules are those of document 01. The files\n\
-         are written by `oracle sample`.\n\n\
+         is about that call on the flow. The rules are those of document 01 and of\n\
+         request E1 of document 02. The files are written by `oracle sample`.\n\n\
          | file | what it shows | answer due |\n|---|---|---|\n",
     );
     for sample in samples {

@@ -2,7 +2,9 @@
 
 use crate::damage::add_to;
 use crate::fields::amount;
-use crate::record::{field, record_type, Record, RECORD_LEN};
+use crate::generate::kind_of;
+use crate::kind::FlowKind;
+use crate::record::{field, field_mut, record_type, Record, RECORD_LEN};
 
 /// Drops dispositions while the predicate holds of what is left, and gives
 /// the smallest flow reached. The predicate must hold of `flow` itself.
@@ -48,7 +50,7 @@ fn without(flow: &[u8], from: usize, count: usize) -> Vec<u8> {
     };
     let gone = &records[start..end];
     let mut left = [&records[..start], &records[end..]].concat();
-    lower(&mut left, start, gone);
+    lower(&mut left, start, gone, kind_of(records));
     [left.as_flattened(), rest].concat()
 }
 
@@ -60,8 +62,8 @@ fn trailer_of(records: &[Record], start: usize) -> usize {
 }
 
 /// Lowers the numbers from record `start` on, and the trailers, by the
-/// records gone.
-fn lower(records: &mut [Record], start: usize, gone: &[Record]) {
+/// records gone of a flow of this kind.
+fn lower(records: &mut [Record], start: usize, gone: &[Record], kind: FlowKind) {
     let opening = |record: &&Record| record_type(record) == *b"14";
     let count = gone.iter().filter(opening).count() as i64;
     let cents: i64 = gone
@@ -71,11 +73,11 @@ fn lower(records: &mut [Record], start: usize, gone: &[Record]) {
         .sum();
     for record in &mut records[start..] {
         if record_type(record) == *b"EF" {
-            add_to(record, (46, 52), -count);
-            add_to(record, (53, 67), -cents);
-            add_to(record, (83, 89), -(gone.len() as i64));
+            add_to(field_mut(record, 46, 52), -count);
+            add_to(kind.total_mut(record), -cents);
+            add_to(field_mut(record, 83, 89), -(gone.len() as i64));
         } else {
-            add_to(record, (4, 10), -count);
+            add_to(field_mut(record, 4, 10), -count);
         }
     }
 }

@@ -18,8 +18,9 @@
 //! After the `=` each byte of the flow stands as it is, but every byte outside
 //! 32 to 126 and the backslash as a backslash and two lower-case hex digits,
 //! `\0a` and `\5c`. An empty flow is the line `=` alone. The reader's answer is
-//! `accepted dispositions 2 cents 83050 records 16` or
-//! `refused 9 record 10 position 4`; there is no limit of 65,520 bytes.
+//! `accepted dispositions 2 cents 83050 records 16 kind requests`, of recalls
+//! `.. kind recalls`, or `refused 9 record 10 position 4`; there is no limit of
+//! 65,520 bytes.
 //!
 //! Where a disposition is:
 //! `found first 2 records 7 cents 45000 part 840 " 140000001" " 700000001"` or
@@ -41,11 +42,12 @@
 //!
 //! Before a call with a room the output, and 64 bytes after it, hold the byte
 //! 128 + i % 101 at index i from 0. Its line is
-//! `accepted dispositions 2 cents 83050 records 16 length 1920 kept 64 " IMAB123.."`:
-//! the answer; the length returned; how many bytes of the output after that
-//! length, and of the 64, are all as before; and the bytes written, in quotes and
-//! escaped as above. Where one has changed, `changed at 1925` stands for `kept 64`
-//! and gives the first one's index. Of a refused call, as
+//! `accepted dispositions 2 cents 83050 records 16 kind requests length 1920 kept
+//! 64 " IMAB123.."`: the answer; the length returned; how many bytes of the
+//! output after that length, and of the 64, are all as before; and the bytes
+//! written, in quotes and escaped as above. Where one has changed, `changed at
+//! 1925` stands for `kept 64` and gives the first one's index. Of a refused call,
+//! as
 //! `refused 21 record 0 position 0 length 0 kept 1983`, all of the output
 //! counts. More than 16,384 bytes written are given as `adler 1234567`, their
 //! Adler-32 checksum, and the last 120 of them in quotes.
@@ -69,22 +71,22 @@
 //! | `@16` | record 16 of the first flow's memory, in quotes and escaped as above |
 //!
 //! A flow is told as
-//! `reads accepted dispositions 1 cents 38050 records 9 list 643 adler 1234567
-//! flow 1080 adler 7654321 blank 840 kept 64`: the reader's answer; the length
-//! and the Adler-32 checksum of its list, read back; its own length and
-//! checksum; how many bytes of the first flow's memory lie after it, all blank;
-//! and how many bytes after that memory are all as before, of 64 that hold the
-//! byte 128 + i % 101 at index i of the memory from 0. Where one is not,
+//! `reads accepted dispositions 1 cents 38050 records 9 kind requests list 643
+//! adler 1234567 flow 1080 adler 7654321 blank 840 kept 64`: the reader's answer;
+//! the length and the Adler-32 checksum of its list, read back; its own length
+//! and checksum; how many bytes of the first flow's memory lie after it, all
+//! blank; and how many bytes after that memory are all as before, of 64 that hold
+//! the byte 128 + i % 101 at index i of the memory from 0. Where one is not,
 //! `not blank at 1081` or `changed at 1925` gives the first one's index. Of a
 //! refused flow the list is `list 0 adler 1`.
 //!
 //! Before that stands the answer of the call, of a withdrawal with the length
-//! returned: `accepted dispositions 2 cents 85000 records 16 reads ..`,
-//! `accepted dispositions 1 cents 38050 records 9 length 1080 reads ..`, or
-//! `refused 15 record 0 position 0 length 1920 reads ..`, after which the flow
-//! is told as it was before the call. Answers, lengths and lists are those of
-//! the ledger, or of the reader where it refuses the flow; the flows are those
-//! of the amendments.
+//! returned: `accepted dispositions 2 cents 85000 records 16 kind requests reads
+//! ..`, `accepted dispositions 1 cents 38050 records 9 kind requests length 1080
+//! reads ..`, or `refused 15 record 0 position 0 length 1920 reads ..`, after which
+//! the flow is told as it was before the call. Answers, lengths and lists are
+//! those of the ledger, or of the reader where it refuses the flow; the flows are
+//! those of the amendments.
 //!
 //! Generated flows (`oracle vectors flows SEED COUNT DIR`): a file for each
 //! flow, and `expected` with the small program's line for each.

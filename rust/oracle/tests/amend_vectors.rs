@@ -1,5 +1,5 @@
-//! The cases of `oracle vectors amend`, against literal answers from document
-//! 01, against a flow amended disposition by disposition, and ledger against
+//! The cases of `oracle vectors amend`, against literal answers from documents
+//! 01 and 02 (E1), against a flow amended disposition by disposition, and ledger against
 //! amendments.
 //!
 //! What the lines would catch:
@@ -18,7 +18,9 @@
 //! - 14 or EF looked for elsewhere than at 2-3: the look-alikes;
 //! - freed bytes that are not blank, bytes after the lent flow touched: `blank`
 //!   and `kept`;
-//! - a refused call that changes a byte: the checksum after it.
+//! - a refused call that changes a byte: the checksum after it;
+//! - a recall's total written at 53-67, or an answer of the wrong kind: the
+//!   recalls, and those among the generated flows.
 
 mod common;
 
@@ -43,34 +45,34 @@ type Due = (
 
 /// The cases made by hand, but the look-alikes and the refused flows.
 #[rustfmt::skip]
-const DUE: [Due; 32] = [
-    ("two rents: 2 changed to 40000", "accepted dispositions 2 cents 83050 records 16", &[
-        ("!2 40000", "accepted dispositions 2 cents 85000 records 16"),
+const DUE: [Due; 40] = [
+    ("two rents: 2 changed to 40000", "accepted dispositions 2 cents 83050 records 16 kind requests", &[
+        ("!2 40000", "accepted dispositions 2 cents 85000 records 16 kind requests"),
     ]),
-    ("two rents: 1 withdrawn", "accepted dispositions 2 cents 83050 records 16", &[
-        ("-1", "accepted dispositions 1 cents 38050 records 9 length 1080"),
+    ("two rents: 1 withdrawn", "accepted dispositions 2 cents 83050 records 16 kind requests", &[
+        ("-1", "accepted dispositions 1 cents 38050 records 9 kind requests length 1080"),
     ]),
-    ("two rents: 2 withdrawn", "accepted dispositions 2 cents 83050 records 16", &[
-        ("-2", "accepted dispositions 1 cents 45000 records 9 length 1080"),
+    ("two rents: 2 withdrawn", "accepted dispositions 2 cents 83050 records 16 kind requests", &[
+        ("-2", "accepted dispositions 1 cents 45000 records 9 kind requests length 1080"),
         ("-2", "refused 15 record 0 position 0 length 1080"),
         ("-1", "refused 18 record 0 position 0 length 1080"),
-        ("!1 83050", "accepted dispositions 1 cents 83050 records 9"),
+        ("!1 83050", "accepted dispositions 1 cents 83050 records 9 kind requests"),
         ("!2 1", "refused 15 record 0 position 0"),
     ]),
-    ("two rents: no call", "accepted dispositions 2 cents 83050 records 16", &[]),
-    ("one rent", "accepted dispositions 1 cents 45000 records 9", &[
+    ("two rents: no call", "accepted dispositions 2 cents 83050 records 16 kind requests", &[]),
+    ("one rent", "accepted dispositions 1 cents 45000 records 9 kind requests", &[
         ("-1", "refused 18 record 0 position 0 length 1080"),
         ("-0", "refused 15 record 0 position 0 length 1080"),
         ("-2", "refused 15 record 0 position 0 length 1080"),
         ("-18446744073709551615", "refused 15 record 0 position 0 length 1080"),
-        ("!1 0", "accepted dispositions 1 cents 0 records 9"),
+        ("!1 0", "accepted dispositions 1 cents 0 records 9 kind requests"),
         ("-1", "refused 18 record 0 position 0 length 1080"),
-        ("!1 9999999999999", "accepted dispositions 1 cents 9999999999999 records 9"),
+        ("!1 9999999999999", "accepted dispositions 1 cents 9999999999999 records 9 kind requests"),
         ("!0 5", "refused 15 record 0 position 0"),
         ("!2 5", "refused 15 record 0 position 0"),
         ("-1", "refused 18 record 0 position 0 length 1080"),
     ]),
-    ("numbers of a change", "accepted dispositions 2 cents 83050 records 16", &[
+    ("numbers of a change", "accepted dispositions 2 cents 83050 records 16 kind requests", &[
         ("!0 1", "refused 15 record 0 position 0"),
         ("!3 1", "refused 15 record 0 position 0"),
         ("!4 1", "refused 15 record 0 position 0"),
@@ -87,9 +89,9 @@ const DUE: [Due; 32] = [
         ("!9223372036854775809 1", "refused 15 record 0 position 0"),
         ("!18446744073709551614 1", "refused 15 record 0 position 0"),
         ("!18446744073709551615 1", "refused 15 record 0 position 0"),
-        ("!2 1", "accepted dispositions 2 cents 45001 records 16"),
+        ("!2 1", "accepted dispositions 2 cents 45001 records 16 kind requests"),
     ]),
-    ("numbers of a withdrawal", "accepted dispositions 2 cents 83050 records 16", &[
+    ("numbers of a withdrawal", "accepted dispositions 2 cents 83050 records 16 kind requests", &[
         ("-0", "refused 15 record 0 position 0 length 1920"),
         ("-3", "refused 15 record 0 position 0 length 1920"),
         ("-4", "refused 15 record 0 position 0 length 1920"),
@@ -106,194 +108,268 @@ const DUE: [Due; 32] = [
         ("-9223372036854775809", "refused 15 record 0 position 0 length 1920"),
         ("-18446744073709551614", "refused 15 record 0 position 0 length 1920"),
         ("-18446744073709551615", "refused 15 record 0 position 0 length 1920"),
-        ("-2", "accepted dispositions 1 cents 45000 records 9 length 1080"),
+        ("-2", "accepted dispositions 1 cents 45000 records 9 kind requests length 1080"),
         ("-2", "refused 15 record 0 position 0 length 1080"),
     ]),
-    ("amounts", "accepted dispositions 2 cents 83050 records 16", &[
-        ("!1 45000", "accepted dispositions 2 cents 83050 records 16"),
-        ("!1 0", "accepted dispositions 2 cents 38050 records 16"),
-        ("!1 0", "accepted dispositions 2 cents 38050 records 16"),
-        ("!2 0", "accepted dispositions 2 cents 0 records 16"),
-        ("!1 1", "accepted dispositions 2 cents 1 records 16"),
-        ("!2 9999999999999", "accepted dispositions 2 cents 10000000000000 records 16"),
-        ("!1 9999999999999", "accepted dispositions 2 cents 19999999999998 records 16"),
+    ("amounts", "accepted dispositions 2 cents 83050 records 16 kind requests", &[
+        ("!1 45000", "accepted dispositions 2 cents 83050 records 16 kind requests"),
+        ("!1 0", "accepted dispositions 2 cents 38050 records 16 kind requests"),
+        ("!1 0", "accepted dispositions 2 cents 38050 records 16 kind requests"),
+        ("!2 0", "accepted dispositions 2 cents 0 records 16 kind requests"),
+        ("!1 1", "accepted dispositions 2 cents 1 records 16 kind requests"),
+        ("!2 9999999999999", "accepted dispositions 2 cents 10000000000000 records 16 kind requests"),
+        ("!1 9999999999999", "accepted dispositions 2 cents 19999999999998 records 16 kind requests"),
         ("!1 10000000000000", "refused 16 record 0 position 0"),
         ("!1 10000000045000", "refused 16 record 0 position 0"),
-        ("!2 4294967296", "accepted dispositions 2 cents 10004294967295 records 16"),
+        ("!2 4294967296", "accepted dispositions 2 cents 10004294967295 records 16 kind requests"),
         ("!2 17592186044416", "refused 16 record 0 position 0"),
         ("!2 9223372036854775808", "refused 16 record 0 position 0"),
         ("!1 18446744073709551615", "refused 16 record 0 position 0"),
         ("!1 18446734073709551617", "refused 16 record 0 position 0"),
-        ("!1 1234567890123", "accepted dispositions 2 cents 1238862857419 records 16"),
+        ("!1 1234567890123", "accepted dispositions 2 cents 1238862857419 records 16 kind requests"),
     ]),
-    ("15 before 16 and 18", "accepted dispositions 2 cents 83050 records 16", &[
+    ("15 before 16 and 18", "accepted dispositions 2 cents 83050 records 16 kind requests", &[
         ("!0 10000000000000", "refused 15 record 0 position 0"),
         ("!3 10000000000000", "refused 15 record 0 position 0"),
         ("!3 18446744073709551615", "refused 15 record 0 position 0"),
         ("!2 10000000000000", "refused 16 record 0 position 0"),
         ("-0", "refused 15 record 0 position 0 length 1920"),
         ("-3", "refused 15 record 0 position 0 length 1920"),
-        ("-1", "accepted dispositions 1 cents 38050 records 9 length 1080"),
+        ("-1", "accepted dispositions 1 cents 38050 records 9 kind requests length 1080"),
         ("-2", "refused 15 record 0 position 0 length 1080"),
         ("-0", "refused 15 record 0 position 0 length 1080"),
         ("-1", "refused 18 record 0 position 0 length 1080"),
         ("!2 10000000000000", "refused 15 record 0 position 0"),
         ("!1 10000000000000", "refused 16 record 0 position 0"),
     ]),
-    ("7 to 12 records: from the front", "accepted dispositions 6 cents 21021 records 59", &[
-        ("-1", "accepted dispositions 5 cents 20020 records 52 length 6240"),
-        ("-1", "accepted dispositions 4 cents 18018 records 44 length 5280"),
-        ("-1", "accepted dispositions 3 cents 15015 records 35 length 4200"),
-        ("-1", "accepted dispositions 2 cents 11011 records 25 length 3000"),
-        ("-1", "accepted dispositions 1 cents 6006 records 14 length 1680"),
+    ("7 to 12 records: from the front", "accepted dispositions 6 cents 21021 records 59 kind requests", &[
+        ("-1", "accepted dispositions 5 cents 20020 records 52 kind requests length 6240"),
+        ("-1", "accepted dispositions 4 cents 18018 records 44 kind requests length 5280"),
+        ("-1", "accepted dispositions 3 cents 15015 records 35 kind requests length 4200"),
+        ("-1", "accepted dispositions 2 cents 11011 records 25 kind requests length 3000"),
+        ("-1", "accepted dispositions 1 cents 6006 records 14 kind requests length 1680"),
         ("-1", "refused 18 record 0 position 0 length 1680"),
     ]),
-    ("7 to 12 records: from the end", "accepted dispositions 6 cents 21021 records 59", &[
-        ("-6", "accepted dispositions 5 cents 15015 records 47 length 5640"),
-        ("-5", "accepted dispositions 4 cents 10010 records 36 length 4320"),
-        ("-4", "accepted dispositions 3 cents 6006 records 26 length 3120"),
-        ("-3", "accepted dispositions 2 cents 3003 records 17 length 2040"),
-        ("-2", "accepted dispositions 1 cents 1001 records 9 length 1080"),
+    ("7 to 12 records: from the end", "accepted dispositions 6 cents 21021 records 59 kind requests", &[
+        ("-6", "accepted dispositions 5 cents 15015 records 47 kind requests length 5640"),
+        ("-5", "accepted dispositions 4 cents 10010 records 36 kind requests length 4320"),
+        ("-4", "accepted dispositions 3 cents 6006 records 26 kind requests length 3120"),
+        ("-3", "accepted dispositions 2 cents 3003 records 17 kind requests length 2040"),
+        ("-2", "accepted dispositions 1 cents 1001 records 9 kind requests length 1080"),
         ("-1", "refused 18 record 0 position 0 length 1080"),
     ]),
-    ("12 to 7 records: from the front", "accepted dispositions 6 cents 21021 records 59", &[
-        ("-1", "accepted dispositions 5 cents 20020 records 47 length 5640"),
-        ("-1", "accepted dispositions 4 cents 18018 records 36 length 4320"),
-        ("-1", "accepted dispositions 3 cents 15015 records 26 length 3120"),
-        ("-1", "accepted dispositions 2 cents 11011 records 17 length 2040"),
-        ("-1", "accepted dispositions 1 cents 6006 records 9 length 1080"),
+    ("12 to 7 records: from the front", "accepted dispositions 6 cents 21021 records 59 kind requests", &[
+        ("-1", "accepted dispositions 5 cents 20020 records 47 kind requests length 5640"),
+        ("-1", "accepted dispositions 4 cents 18018 records 36 kind requests length 4320"),
+        ("-1", "accepted dispositions 3 cents 15015 records 26 kind requests length 3120"),
+        ("-1", "accepted dispositions 2 cents 11011 records 17 kind requests length 2040"),
+        ("-1", "accepted dispositions 1 cents 6006 records 9 kind requests length 1080"),
         ("-2", "refused 15 record 0 position 0 length 1080"),
         ("-1", "refused 18 record 0 position 0 length 1080"),
     ]),
-    ("12 to 7 records: from the middle", "accepted dispositions 6 cents 21021 records 59", &[
-        ("-3", "accepted dispositions 5 cents 18018 records 49 length 5880"),
-        ("-3", "accepted dispositions 4 cents 14014 records 40 length 4800"),
-        ("-3", "accepted dispositions 3 cents 9009 records 32 length 3840"),
-        ("-3", "accepted dispositions 2 cents 3003 records 25 length 3000"),
+    ("12 to 7 records: from the middle", "accepted dispositions 6 cents 21021 records 59 kind requests", &[
+        ("-3", "accepted dispositions 5 cents 18018 records 49 kind requests length 5880"),
+        ("-3", "accepted dispositions 4 cents 14014 records 40 kind requests length 4800"),
+        ("-3", "accepted dispositions 3 cents 9009 records 32 kind requests length 3840"),
+        ("-3", "accepted dispositions 2 cents 3003 records 25 kind requests length 3000"),
         ("-3", "refused 15 record 0 position 0 length 3000"),
-        ("-2", "accepted dispositions 1 cents 1001 records 14 length 1680"),
+        ("-2", "accepted dispositions 1 cents 1001 records 14 kind requests length 1680"),
         ("-2", "refused 15 record 0 position 0 length 1680"),
         ("-1", "refused 18 record 0 position 0 length 1680"),
     ]),
-    ("12 then 7 records: 1 withdrawn", "accepted dispositions 2 cents 3003 records 21", &[
-        ("-1", "accepted dispositions 1 cents 2002 records 9 length 1080"),
+    ("12 then 7 records: 1 withdrawn", "accepted dispositions 2 cents 3003 records 21 kind requests", &[
+        ("-1", "accepted dispositions 1 cents 2002 records 9 kind requests length 1080"),
     ]),
-    ("12 then 7 records: 2 withdrawn", "accepted dispositions 2 cents 3003 records 21", &[
-        ("-2", "accepted dispositions 1 cents 1001 records 14 length 1680"),
+    ("12 then 7 records: 2 withdrawn", "accepted dispositions 2 cents 3003 records 21 kind requests", &[
+        ("-2", "accepted dispositions 1 cents 1001 records 14 kind requests length 1680"),
     ]),
-    ("7 then 12 records: 1 withdrawn", "accepted dispositions 2 cents 3003 records 21", &[
-        ("-1", "accepted dispositions 1 cents 2002 records 14 length 1680"),
+    ("7 then 12 records: 1 withdrawn", "accepted dispositions 2 cents 3003 records 21 kind requests", &[
+        ("-1", "accepted dispositions 1 cents 2002 records 14 kind requests length 1680"),
     ]),
-    ("8 then 7 records: 1 withdrawn", "accepted dispositions 2 cents 3003 records 17", &[
-        ("-1", "accepted dispositions 1 cents 2002 records 9 length 1080"),
+    ("8 then 7 records: 1 withdrawn", "accepted dispositions 2 cents 3003 records 17 kind requests", &[
+        ("-1", "accepted dispositions 1 cents 2002 records 9 kind requests length 1080"),
     ]),
-    ("every variant", "accepted dispositions 12 cents 78078 records 112", &[
-        ("!5 0", "accepted dispositions 12 cents 73073 records 112"),
-        ("-4", "accepted dispositions 11 cents 69069 records 100 length 12000"),
-        ("!4 5005", "accepted dispositions 11 cents 74074 records 100"),
-        ("-11", "accepted dispositions 10 cents 62062 records 90 length 10800"),
+    ("every variant", "accepted dispositions 12 cents 78078 records 112 kind requests", &[
+        ("!5 0", "accepted dispositions 12 cents 73073 records 112 kind requests"),
+        ("-4", "accepted dispositions 11 cents 69069 records 100 kind requests length 12000"),
+        ("!4 5005", "accepted dispositions 11 cents 74074 records 100 kind requests"),
+        ("-11", "accepted dispositions 10 cents 62062 records 90 kind requests length 10800"),
         ("!11 1", "refused 15 record 0 position 0"),
-        ("-1", "accepted dispositions 9 cents 61061 records 82 length 9840"),
-        ("!9 1", "accepted dispositions 9 cents 50051 records 82"),
-        ("-5", "accepted dispositions 8 cents 43044 records 74 length 8880"),
-        ("-5", "accepted dispositions 7 cents 35036 records 65 length 7800"),
-        ("!5 9999999999999", "accepted dispositions 7 cents 10000000026026 records 65"),
+        ("-1", "accepted dispositions 9 cents 61061 records 82 kind requests length 9840"),
+        ("!9 1", "accepted dispositions 9 cents 50051 records 82 kind requests"),
+        ("-5", "accepted dispositions 8 cents 43044 records 74 kind requests length 8880"),
+        ("-5", "accepted dispositions 7 cents 35036 records 65 kind requests length 7800"),
+        ("!5 9999999999999", "accepted dispositions 7 cents 10000000026026 records 65 kind requests"),
         ("-8", "refused 15 record 0 position 0 length 7800"),
-        ("-7", "accepted dispositions 6 cents 10000000026025 records 56 length 6720"),
-        ("-1", "accepted dispositions 5 cents 10000000024023 records 45 length 5400"),
-        ("-4", "accepted dispositions 4 cents 24024 records 34 length 4080"),
-        ("-2", "accepted dispositions 3 cents 19019 records 27 length 3240"),
-        ("-3", "accepted dispositions 2 cents 9009 records 19 length 2280"),
-        ("!2 9009", "accepted dispositions 2 cents 12012 records 19"),
-        ("-1", "accepted dispositions 1 cents 9009 records 12 length 1440"),
+        ("-7", "accepted dispositions 6 cents 10000000026025 records 56 kind requests length 6720"),
+        ("-1", "accepted dispositions 5 cents 10000000024023 records 45 kind requests length 5400"),
+        ("-4", "accepted dispositions 4 cents 24024 records 34 kind requests length 4080"),
+        ("-2", "accepted dispositions 3 cents 19019 records 27 kind requests length 3240"),
+        ("-3", "accepted dispositions 2 cents 9009 records 19 kind requests length 2280"),
+        ("!2 9009", "accepted dispositions 2 cents 12012 records 19 kind requests"),
+        ("-1", "accepted dispositions 1 cents 9009 records 12 kind requests length 1440"),
         ("-1", "refused 18 record 0 position 0 length 1440"),
         ("!1 10000000000000", "refused 16 record 0 position 0"),
-        ("!1 6006", "accepted dispositions 1 cents 6006 records 12"),
+        ("!1 6006", "accepted dispositions 1 cents 6006 records 12 kind requests"),
     ]),
-    ("ten rents", "accepted dispositions 10 cents 55055 records 72", &[
-        ("-1", "accepted dispositions 9 cents 54054 records 65 length 7800"),
-        ("-9", "accepted dispositions 8 cents 44044 records 58 length 6960"),
-        ("!8 99999", "accepted dispositions 8 cents 135034 records 58"),
-        ("!8 100000", "accepted dispositions 8 cents 135035 records 58"),
+    ("ten rents", "accepted dispositions 10 cents 55055 records 72 kind requests", &[
+        ("-1", "accepted dispositions 9 cents 54054 records 65 kind requests length 7800"),
+        ("-9", "accepted dispositions 8 cents 44044 records 58 kind requests length 6960"),
+        ("!8 99999", "accepted dispositions 8 cents 135034 records 58 kind requests"),
+        ("!8 100000", "accepted dispositions 8 cents 135035 records 58 kind requests"),
     ]),
-    ("four rents of one amount", "accepted dispositions 4 cents 180000 records 30", &[
-        ("-1", "accepted dispositions 3 cents 135000 records 23 length 2760"),
-        ("-2", "accepted dispositions 2 cents 90000 records 16 length 1920"),
-        ("-2", "accepted dispositions 1 cents 45000 records 9 length 1080"),
+    ("four rents of one amount", "accepted dispositions 4 cents 180000 records 30 kind requests", &[
+        ("-1", "accepted dispositions 3 cents 135000 records 23 kind requests length 2760"),
+        ("-2", "accepted dispositions 2 cents 90000 records 16 kind requests length 1920"),
+        ("-2", "accepted dispositions 1 cents 45000 records 9 kind requests length 1080"),
     ]),
-    ("36 rents of one amount", "accepted dispositions 36 cents 1620000 records 254", &[
-        ("-1", "accepted dispositions 35 cents 1575000 records 247 length 29640"),
-        ("-35", "accepted dispositions 34 cents 1530000 records 240 length 28800"),
-        ("-17", "accepted dispositions 33 cents 1485000 records 233 length 27960"),
-        ("!33 45001", "accepted dispositions 33 cents 1485001 records 233"),
-        ("!1 44999", "accepted dispositions 33 cents 1485000 records 233"),
-        ("-33", "accepted dispositions 32 cents 1439999 records 226 length 27120"),
-        ("-1", "accepted dispositions 31 cents 1395000 records 219 length 26280"),
+    ("36 rents of one amount", "accepted dispositions 36 cents 1620000 records 254 kind requests", &[
+        ("-1", "accepted dispositions 35 cents 1575000 records 247 kind requests length 29640"),
+        ("-35", "accepted dispositions 34 cents 1530000 records 240 kind requests length 28800"),
+        ("-17", "accepted dispositions 33 cents 1485000 records 233 kind requests length 27960"),
+        ("!33 45001", "accepted dispositions 33 cents 1485001 records 233 kind requests"),
+        ("!1 44999", "accepted dispositions 33 cents 1485000 records 233 kind requests"),
+        ("-33", "accepted dispositions 32 cents 1439999 records 226 kind requests length 27120"),
+        ("-1", "accepted dispositions 31 cents 1395000 records 219 kind requests length 26280"),
     ]),
-    ("company code in 1 alone", "accepted dispositions 3 cents 128050 records 23", &[
-        ("-1", "accepted dispositions 2 cents 83050 records 16 length 1920"),
+    ("company code in 1 alone", "accepted dispositions 3 cents 128050 records 23 kind requests", &[
+        ("-1", "accepted dispositions 2 cents 83050 records 16 kind requests length 1920"),
     ]),
-    ("company code in 2 alone", "accepted dispositions 3 cents 128050 records 23", &[
-        ("-2", "accepted dispositions 2 cents 90000 records 16 length 1920"),
-        ("-1", "accepted dispositions 1 cents 45000 records 9 length 1080"),
+    ("company code in 2 alone", "accepted dispositions 3 cents 128050 records 23 kind requests", &[
+        ("-2", "accepted dispositions 2 cents 90000 records 16 kind requests length 1920"),
+        ("-1", "accepted dispositions 1 cents 45000 records 9 kind requests length 1080"),
     ]),
-    ("company code in 3 alone", "accepted dispositions 3 cents 128050 records 23", &[
-        ("-3", "accepted dispositions 2 cents 83050 records 16 length 1920"),
-        ("!1 1", "accepted dispositions 2 cents 38051 records 16"),
+    ("company code in 3 alone", "accepted dispositions 3 cents 128050 records 23 kind requests", &[
+        ("-3", "accepted dispositions 2 cents 83050 records 16 kind requests length 1920"),
+        ("!1 1", "accepted dispositions 2 cents 38051 records 16 kind requests"),
     ]),
-    ("company code in 1 and 3", "accepted dispositions 3 cents 128050 records 23", &[
-        ("-1", "accepted dispositions 2 cents 83050 records 16 length 1920"),
-        ("-2", "accepted dispositions 1 cents 38050 records 9 length 1080"),
+    ("company code in 1 and 3", "accepted dispositions 3 cents 128050 records 23 kind requests", &[
+        ("-1", "accepted dispositions 2 cents 83050 records 16 kind requests length 1920"),
+        ("-2", "accepted dispositions 1 cents 38050 records 9 kind requests length 1080"),
     ]),
-    ("company code in none", "accepted dispositions 3 cents 128050 records 23", &[
-        ("-2", "accepted dispositions 2 cents 90000 records 16 length 1920"),
-        ("!2 1", "accepted dispositions 2 cents 45001 records 16"),
+    ("company code in none", "accepted dispositions 3 cents 128050 records 23 kind requests", &[
+        ("-2", "accepted dispositions 2 cents 90000 records 16 kind requests length 1920"),
+        ("!2 1", "accepted dispositions 2 cents 45001 records 16 kind requests"),
     ]),
-    ("unchecked bytes: 1 withdrawn", "accepted dispositions 2 cents 83050 records 17", &[
-        ("!1 12345", "accepted dispositions 2 cents 50395 records 17"),
-        ("!2 5", "accepted dispositions 2 cents 12350 records 17"),
-        ("-1", "accepted dispositions 1 cents 5 records 9 length 1080"),
+    ("unchecked bytes: 1 withdrawn", "accepted dispositions 2 cents 83050 records 17 kind requests", &[
+        ("!1 12345", "accepted dispositions 2 cents 50395 records 17 kind requests"),
+        ("!2 5", "accepted dispositions 2 cents 12350 records 17 kind requests"),
+        ("-1", "accepted dispositions 1 cents 5 records 9 kind requests length 1080"),
         ("-1", "refused 18 record 0 position 0 length 1080"),
     ]),
-    ("unchecked bytes: 2 withdrawn", "accepted dispositions 2 cents 83050 records 17", &[
-        ("-2", "accepted dispositions 1 cents 45000 records 10 length 1200"),
-        ("!1 0", "accepted dispositions 1 cents 0 records 10"),
+    ("unchecked bytes: 2 withdrawn", "accepted dispositions 2 cents 83050 records 17 kind requests", &[
+        ("-2", "accepted dispositions 1 cents 45000 records 10 kind requests length 1200"),
+        ("!1 0", "accepted dispositions 1 cents 0 records 10 kind requests"),
     ]),
-    ("40-45 in IM alone", "accepted dispositions 2 cents 83050 records 16", &[
-        ("!1 1", "accepted dispositions 2 cents 38051 records 16"),
-        ("-1", "accepted dispositions 1 cents 38050 records 9 length 1080"),
+    ("40-45 in IM alone", "accepted dispositions 2 cents 83050 records 16 kind requests", &[
+        ("!1 1", "accepted dispositions 2 cents 38051 records 16 kind requests"),
+        ("-1", "accepted dispositions 1 cents 38050 records 9 kind requests length 1080"),
     ]),
-    ("40-45 unlike in EF", "accepted dispositions 2 cents 83050 records 16", &[
-        ("-2", "accepted dispositions 1 cents 45000 records 9 length 1080"),
-        ("!1 1", "accepted dispositions 1 cents 1 records 9"),
+    ("40-45 unlike in EF", "accepted dispositions 2 cents 83050 records 16 kind requests", &[
+        ("-2", "accepted dispositions 1 cents 45000 records 9 kind requests length 1080"),
+        ("!1 1", "accepted dispositions 1 cents 1 records 9 kind requests"),
     ]),
-    ("text in EF", "accepted dispositions 2 cents 83050 records 16", &[
-        ("!2 1", "accepted dispositions 2 cents 45001 records 16"),
-        ("-1", "accepted dispositions 1 cents 1 records 9 length 1080"),
+    ("text in EF", "accepted dispositions 2 cents 83050 records 16 kind requests", &[
+        ("!2 1", "accepted dispositions 2 cents 45001 records 16 kind requests"),
+        ("-1", "accepted dispositions 1 cents 1 records 9 kind requests length 1080"),
     ]),
-    ("a total of 999999999999999", "accepted dispositions 101 cents 999999999999999 records 709", &[
+    ("a total of 999999999999999", "accepted dispositions 101 cents 999999999999999 records 709 kind requests", &[
         ("!101 100", "refused 17 record 0 position 0"),
-        ("!101 99", "accepted dispositions 101 cents 999999999999999 records 709"),
-        ("!1 9999999999999", "accepted dispositions 101 cents 999999999999999 records 709"),
+        ("!101 99", "accepted dispositions 101 cents 999999999999999 records 709 kind requests"),
+        ("!1 9999999999999", "accepted dispositions 101 cents 999999999999999 records 709 kind requests"),
         ("!101 9999999999999", "refused 17 record 0 position 0"),
         ("!101 10000000000000", "refused 16 record 0 position 0"),
         ("!101 18446744073709551615", "refused 16 record 0 position 0"),
         ("!102 10000000000000", "refused 15 record 0 position 0"),
         ("!102 100", "refused 15 record 0 position 0"),
         ("!0 100", "refused 15 record 0 position 0"),
-        ("!50 9999999999998", "accepted dispositions 101 cents 999999999999998 records 709"),
+        ("!50 9999999999998", "accepted dispositions 101 cents 999999999999998 records 709 kind requests"),
         ("!101 101", "refused 17 record 0 position 0"),
-        ("!101 100", "accepted dispositions 101 cents 999999999999999 records 709"),
+        ("!101 100", "accepted dispositions 101 cents 999999999999999 records 709 kind requests"),
         ("!50 9999999999999", "refused 17 record 0 position 0"),
-        ("!50 9999999999998", "accepted dispositions 101 cents 999999999999999 records 709"),
-        ("!101 0", "accepted dispositions 101 cents 999999999999899 records 709"),
-        ("!50 9999999999999", "accepted dispositions 101 cents 999999999999900 records 709"),
-        ("!101 99", "accepted dispositions 101 cents 999999999999999 records 709"),
-        ("-1", "accepted dispositions 100 cents 990000000000000 records 702 length 84240"),
-        ("!100 9999999999999", "accepted dispositions 100 cents 999999999999900 records 702"),
-        ("-100", "accepted dispositions 99 cents 989999999999901 records 695 length 83400"),
+        ("!50 9999999999998", "accepted dispositions 101 cents 999999999999999 records 709 kind requests"),
+        ("!101 0", "accepted dispositions 101 cents 999999999999899 records 709 kind requests"),
+        ("!50 9999999999999", "accepted dispositions 101 cents 999999999999900 records 709 kind requests"),
+        ("!101 99", "accepted dispositions 101 cents 999999999999999 records 709 kind requests"),
+        ("-1", "accepted dispositions 100 cents 990000000000000 records 702 kind requests length 84240"),
+        ("!100 9999999999999", "accepted dispositions 100 cents 999999999999900 records 702 kind requests"),
+        ("-100", "accepted dispositions 99 cents 989999999999901 records 695 kind requests length 83400"),
         ("!100 1", "refused 15 record 0 position 0"),
-        ("-99", "accepted dispositions 98 cents 979999999999902 records 688 length 82560"),
+        ("-99", "accepted dispositions 98 cents 979999999999902 records 688 kind requests length 82560"),
+    ]),
+    // Recalls.
+    ("recalls: 2 changed to 40000", "accepted dispositions 2 cents 83050 records 16 kind recalls", &[
+        ("!2 40000", "accepted dispositions 2 cents 85000 records 16 kind recalls"),
+    ]),
+    ("recalls: 1 withdrawn", "accepted dispositions 2 cents 83050 records 16 kind recalls", &[
+        ("-1", "accepted dispositions 1 cents 38050 records 9 kind recalls length 1080"),
+    ]),
+    ("recalls: 2 withdrawn", "accepted dispositions 2 cents 83050 records 16 kind recalls", &[
+        ("-2", "accepted dispositions 1 cents 45000 records 9 kind recalls length 1080"),
+        ("-2", "refused 15 record 0 position 0 length 1080"),
+        ("-1", "refused 18 record 0 position 0 length 1080"),
+        ("!1 83050", "accepted dispositions 1 cents 83050 records 9 kind recalls"),
+        ("!2 1", "refused 15 record 0 position 0"),
+    ]),
+    ("recalls: amounts", "accepted dispositions 2 cents 83050 records 16 kind recalls", &[
+        ("!1 45000", "accepted dispositions 2 cents 83050 records 16 kind recalls"),
+        ("!1 0", "accepted dispositions 2 cents 38050 records 16 kind recalls"),
+        ("!1 0", "accepted dispositions 2 cents 38050 records 16 kind recalls"),
+        ("!2 0", "accepted dispositions 2 cents 0 records 16 kind recalls"),
+        ("!1 1", "accepted dispositions 2 cents 1 records 16 kind recalls"),
+        ("!2 9999999999999", "accepted dispositions 2 cents 10000000000000 records 16 kind recalls"),
+        ("!1 9999999999999", "accepted dispositions 2 cents 19999999999998 records 16 kind recalls"),
+        ("!1 10000000000000", "refused 16 record 0 position 0"),
+        ("!1 10000000045000", "refused 16 record 0 position 0"),
+        ("!2 4294967296", "accepted dispositions 2 cents 10004294967295 records 16 kind recalls"),
+        ("!2 17592186044416", "refused 16 record 0 position 0"),
+        ("!2 9223372036854775808", "refused 16 record 0 position 0"),
+        ("!1 18446744073709551615", "refused 16 record 0 position 0"),
+        ("!1 18446734073709551617", "refused 16 record 0 position 0"),
+        ("!1 1234567890123", "accepted dispositions 2 cents 1238862857419 records 16 kind recalls"),
+    ]),
+    ("recalls: 15 before 16 and 18", "accepted dispositions 2 cents 83050 records 16 kind recalls", &[
+        ("!0 10000000000000", "refused 15 record 0 position 0"),
+        ("!3 10000000000000", "refused 15 record 0 position 0"),
+        ("!3 18446744073709551615", "refused 15 record 0 position 0"),
+        ("!2 10000000000000", "refused 16 record 0 position 0"),
+        ("-0", "refused 15 record 0 position 0 length 1920"),
+        ("-3", "refused 15 record 0 position 0 length 1920"),
+        ("-1", "accepted dispositions 1 cents 38050 records 9 kind recalls length 1080"),
+        ("-2", "refused 15 record 0 position 0 length 1080"),
+        ("-0", "refused 15 record 0 position 0 length 1080"),
+        ("-1", "refused 18 record 0 position 0 length 1080"),
+        ("!2 10000000000000", "refused 15 record 0 position 0"),
+        ("!1 10000000000000", "refused 16 record 0 position 0"),
+    ]),
+    ("recalls: one rent", "accepted dispositions 1 cents 45000 records 9 kind recalls", &[
+        ("-1", "refused 18 record 0 position 0 length 1080"),
+        ("-0", "refused 15 record 0 position 0 length 1080"),
+        ("-2", "refused 15 record 0 position 0 length 1080"),
+        ("-18446744073709551615", "refused 15 record 0 position 0 length 1080"),
+        ("!1 0", "accepted dispositions 1 cents 0 records 9 kind recalls"),
+        ("-1", "refused 18 record 0 position 0 length 1080"),
+        ("!1 9999999999999", "accepted dispositions 1 cents 9999999999999 records 9 kind recalls"),
+        ("!0 5", "refused 15 record 0 position 0"),
+        ("!2 5", "refused 15 record 0 position 0"),
+        ("-1", "refused 18 record 0 position 0 length 1080"),
+    ]),
+    ("recalls: unchecked bytes, 1 withdrawn", "accepted dispositions 2 cents 83050 records 17 kind recalls", &[
+        ("!1 12345", "accepted dispositions 2 cents 50395 records 17 kind recalls"),
+        ("!2 5", "accepted dispositions 2 cents 12350 records 17 kind recalls"),
+        ("-1", "accepted dispositions 1 cents 5 records 9 kind recalls length 1080"),
+        ("-1", "refused 18 record 0 position 0 length 1080"),
+    ]),
+    ("recalls: 12 to 7 records, from the middle", "accepted dispositions 6 cents 21021 records 59 kind recalls", &[
+        ("-3", "accepted dispositions 5 cents 18018 records 49 kind recalls length 5880"),
+        ("!3 0", "accepted dispositions 5 cents 14014 records 49 kind recalls"),
+        ("-3", "accepted dispositions 4 cents 14014 records 40 kind recalls length 4800"),
+        ("-4", "accepted dispositions 3 cents 8008 records 33 kind recalls length 3960"),
+        ("!3 9999999999999", "accepted dispositions 3 cents 10000000003002 records 33 kind recalls"),
+        ("-2", "accepted dispositions 2 cents 10000000001000 records 22 kind recalls length 2640"),
+        ("!1 7007", "accepted dispositions 2 cents 10000000007006 records 22 kind recalls"),
+        ("-1", "accepted dispositions 1 cents 9999999999999 records 10 kind recalls length 1200"),
+        ("-1", "refused 18 record 0 position 0 length 1200"),
     ]),
 ];
 
@@ -312,30 +388,30 @@ const LOOK_ALIKES: [&str; 11] = [
     "14 in fields of 14",
     "position 1 not blank",
 ];
-const TWO_RENTS_OF_17: &str = "accepted dispositions 2 cents 83050 records 17";
+const TWO_RENTS_OF_17: &str = "accepted dispositions 2 cents 83050 records 17 kind requests";
 #[rustfmt::skip]
 const FIRST_WITHDRAWN: &[(&str, &str)] = &[
-    ("!2 10", "accepted dispositions 2 cents 45010 records 17"),
-    ("-1", "accepted dispositions 1 cents 10 records 9 length 1080"),
-    ("!1 20", "accepted dispositions 1 cents 20 records 9"),
+    ("!2 10", "accepted dispositions 2 cents 45010 records 17 kind requests"),
+    ("-1", "accepted dispositions 1 cents 10 records 9 kind requests length 1080"),
+    ("!1 20", "accepted dispositions 1 cents 20 records 9 kind requests"),
     ("-1", "refused 18 record 0 position 0 length 1080"),
 ];
 #[rustfmt::skip]
 const LAST_WITHDRAWN: &[(&str, &str)] = &[
-    ("!1 10", "accepted dispositions 2 cents 38060 records 17"),
-    ("-2", "accepted dispositions 1 cents 10 records 10 length 1200"),
-    ("!1 30", "accepted dispositions 1 cents 30 records 10"),
+    ("!1 10", "accepted dispositions 2 cents 38060 records 17 kind requests"),
+    ("-2", "accepted dispositions 1 cents 10 records 10 kind requests length 1200"),
+    ("!1 30", "accepted dispositions 1 cents 30 records 10 kind requests"),
     ("-2", "refused 15 record 0 position 0 length 1200"),
 ];
 /// The first amount is 14014.
 const FOURTEENS: &str = "14 in fields of 14";
-const FOURTEENS_READ: &str = "accepted dispositions 2 cents 52064 records 17";
-const FOURTEENS_CHANGED: &str = "accepted dispositions 2 cents 14024 records 17";
+const FOURTEENS_READ: &str = "accepted dispositions 2 cents 52064 records 17 kind requests";
+const FOURTEENS_CHANGED: &str = "accepted dispositions 2 cents 14024 records 17 kind requests";
 
 /// The flows that the reader refuses, and its answer: every call has that
 /// answer, and a withdrawal the length lent.
 #[rustfmt::skip]
-const REFUSED: [(&str, &str, usize); 25] = [
+const REFUSED: [(&str, &str, usize); 31] = [
     ("no byte", "refused 1 record 0 position 0", 0),
     ("a byte short", "refused 1 record 0 position 0", 1_919),
     ("a record short", "refused 4 record 16 position 0", 1_800),
@@ -361,6 +437,12 @@ const REFUSED: [(&str, &str, usize); 25] = [
     ("13 in EF", "refused 13 record 16 position 53", 1_920),
     ("13 in EF at 68", "refused 13 record 16 position 68", 1_920),
     ("14 in EF", "refused 14 record 16 position 83", 1_920),
+    ("22 in the second 14", "refused 22 record 9 position 29", 1_920),
+    ("recalls: 22 in the second 14", "refused 22 record 9 position 29", 1_920),
+    ("recalls: EF as of requests", "refused 13 record 16 position 53", 1_920),
+    ("recalls: the total at both", "refused 13 record 16 position 53", 1_920),
+    ("recalls: zeros at both", "refused 13 record 16 position 68", 1_920),
+    ("recalls: 13 in EF at 68", "refused 13 record 16 position 68", 1_920),
 ];
 const OF_REFUSED: [&str; 7] = [
     "!1 45000",
@@ -472,7 +554,20 @@ fn the_two_rents_in_clear() {
     left.extend(second_rent("0000001"));
     left.push(trailer("0000001", "000000000038050", "0000009"));
     left.extend(vec![vec![b' '; 120]; 7]);
-    for (case, due) in given.iter().zip([changed, left]) {
+    let mut recalls_changed = two_recalls().0;
+    recalls_changed[8][33..46].copy_from_slice(b"0000000040000");
+    recalls_changed[15] = recall_trailer("0000002", "000000000085000", "0000016");
+    let mut recalls_left = vec![header()];
+    recalls_left.extend(recall(second_rent("0000001")));
+    recalls_left.push(recall_trailer("0000001", "000000000038050", "0000009"));
+    recalls_left.extend(vec![vec![b' '; 120]; 7]);
+    for (name, due) in [
+        ("two rents: 2 changed to 40000", changed),
+        ("two rents: 1 withdrawn", left),
+        ("recalls: 2 changed to 40000", recalls_changed),
+        ("recalls: 1 withdrawn", recalls_left),
+    ] {
+        let case = given.iter().find(|case| case.name == name).unwrap();
         assert_eq!((case.asked.len(), due.len()), (17, 16));
         for (n, ((question, line), due)) in (1..).zip(case.asked[1..].iter().zip(due)) {
             assert_eq!(*question, format!("@{n}"));
@@ -535,7 +630,13 @@ impl Parts {
         }
         let mut trailer = self.trailer.clone();
         let count = self.dispositions.len();
-        trailer[45..67].copy_from_slice(format!("{count:07}{cents:015}").as_bytes());
+        // Requests have the sum at 53-67, recalls at 68-82.
+        let (negative, positive) = match &self.dispositions[0][0][28..33] {
+            b"07000" => (cents, 0),
+            _ => (0, cents),
+        };
+        let sums = format!("{count:07}{negative:015}{positive:015}");
+        trailer[45..82].copy_from_slice(sums.as_bytes());
         trailer[82..89].copy_from_slice(format!("{:07}", records.len() + 1).as_bytes());
         records.push(trailer);
         records.concat()
@@ -655,6 +756,22 @@ fn refused_flows_stay() {
             assert_eq!(flow, case.flow, "{}", case.name);
         }
     }
+}
+
+/// The generated flows are of both kinds, and 17 comes of recalls too.
+#[test]
+fn generated_flows_are_of_both_kinds() {
+    let (input, output) = amend_files();
+    let given = given(&input, &output);
+    let kinds = GENERATED.map(|name| {
+        let case = given.iter().find(|case| case.name == name).unwrap();
+        reads_as(case).rsplit(' ').next().unwrap()
+    });
+    let due = ["recalls", "requests", "recalls", "recalls", "requests"];
+    assert_eq!(kinds, due);
+    let largest = given.iter().find(|case| case.name == GENERATED[0]).unwrap();
+    let refused = |line: &&(&str, &str)| line.1.starts_with("refused 17 ");
+    assert!(calls_of(largest).iter().filter(refused).count() >= 5);
 }
 
 /// The generated lists have accepted and refused calls of each kind.

@@ -11,7 +11,7 @@ use oracle::list::{is_canonical, write_flow, write_list};
 use oracle::reader::read;
 use oracle::rng::Rng;
 use oracle::shrink::shrink;
-use oracle::{Answer, Refusal};
+use oracle::{Answer, FlowKind, Refusal};
 
 #[test]
 fn where_a_disposition_is() {
@@ -101,9 +101,21 @@ fn check_change(before: &[u8], after: &[u8], k: u64, answer: Answer) {
     let opening = find(before, k).unwrap().bytes.start;
     let trailer = before.len() - 120;
     for index in 0..before.len() {
+        let total = total_of(answer);
         let named = (opening + 33..opening + 46).contains(&index)
-            || (trailer + 52..trailer + 67).contains(&index);
+            || (trailer + total.0 - 1..trailer + total.1).contains(&index);
         assert!(named || before[index] == after[index]);
+    }
+}
+
+/// First and last position of the trailer's total of an accepted flow.
+fn total_of(answer: Answer) -> (usize, usize) {
+    match answer {
+        Answer::Accepted {
+            kind: FlowKind::Recalls,
+            ..
+        } => (68, 82),
+        _ => (53, 67),
     }
 }
 
@@ -119,8 +131,9 @@ fn check_withdrawal(before: &[u8], after: &[u8], k: u64, answer: Answer, len: us
     let kept = [&before[..gone.start], &before[gone.end..]].concat();
     for (index, (old, new)) in kept.iter().zip(after).enumerate() {
         let position = index % 120 + 1;
+        let (first, last) = total_of(answer);
         let named = match index >= len - 120 {
-            true => matches!(position, 46..=67 | 83..=89),
+            true => matches!(position, 46..=52 | 83..=89) || (first..=last).contains(&position),
             false => index >= gone.start && matches!(position, 4..=10),
         };
         assert!(named || old == new);
@@ -206,6 +219,40 @@ fn the_ledger_by_hand() {
     assert_eq!(ledger.list(), [&list[..50], &list[50 + 593..]].concat());
 }
 
+/// Document 02, E1: the ledger answers with the kind that its H or Q gives.
+#[test]
+fn the_ledger_of_recalls_by_hand() {
+    let mut ledger = Ledger::new(&two_recalls_list()).unwrap();
+    let change = |k, cents| Call::Change { k, cents };
+    let withdraw = |k| Call::Withdraw { k };
+    for (call, answer, len) in [
+        (change(2, 40_000), recalled(2, 85_000, 16), None),
+        (change(3, 1), refused(15, 0, 0), None),
+        (change(1, 10_000_000_000_000), refused(16, 0, 0), None),
+        (withdraw(1), recalled(1, 40_000, 9), Some(1_080)),
+        (withdraw(1), refused(18, 0, 0), None),
+        (change(1, 38_050), recalled(1, 38_050, 9), None),
+    ] {
+        assert_eq!(ledger.call(call), (answer, len), "{call:?}");
+    }
+    let list = two_recalls_list();
+    assert_eq!(ledger.list(), [&list[..50], &list[50 + 593..]].concat());
+}
+
+/// Lists that no flow has: the latest of several headers, and none at all.
+#[test]
+fn the_kind_of_a_ledger_with_other_headers() {
+    let rent = &two_rents_list()[50..];
+    let header = |kind| item(kind, &[("", 49)]);
+    let change = Call::Change { k: 1, cents: 0 };
+    let answer = |list: Vec<u8>| Ledger::new(&list).unwrap().call(change).0;
+    let two = [header('H'), header('Q'), rent.to_vec()].concat();
+    assert_eq!(answer(two), recalled(2, 38_050, 17));
+    let behind = [rent, &header('Q'), &header('H')].concat();
+    assert_eq!(answer(behind), accepted(2, 38_050, 17));
+    assert_eq!(answer(rent.to_vec()), accepted(2, 38_050, 15));
+}
+
 /// A list that no flow has: its sum exceeds 64 bits.
 #[test]
 fn a_ledger_total_beyond_64_bits() {
@@ -220,6 +267,7 @@ fn a_ledger_total_beyond_64_bits() {
 
 #[test]
 fn a_list_that_is_none_has_no_ledger() {
+    assert_eq!(Ledger::new(b"Y"), None);
     assert_eq!(Ledger::new(b"Q"), None);
     assert_eq!(Ledger::new(b"D123"), None);
     let opening = item('D', &[("310326", 6), ("          450", 13), ("", 39)]);
@@ -238,10 +286,16 @@ fn shrinking_keeps_the_fault() {
     // Forty rents with one wrong causale shrink to that one.
     let mut flow = oracle::samples::forty_rents().flow();
     let at = find(&flow, 23).unwrap().bytes.start;
-    flow[at + 28..at + 33].copy_from_slice(b"07100");
+    flow[at + 28..at + 33].copy_from_slice(b"07200");
     let small = shrink(&flow, |flow| number(read(flow)) == Some(6));
     assert_eq!(read(&small), refused(6, 2, 29));
     assert!(small.len() <= 14 * 120);
+    // With one recall among them, to that one and one before it.
+    flow[at + 28..at + 33].copy_from_slice(b"07100");
+    let small = shrink(&flow, |flow| number(read(flow)) == Some(22));
+    assert_eq!(number(read(&small)), Some(22));
+    let openings = small.chunks(120).filter(|record| &record[1..3] == b"14");
+    assert_eq!(openings.count(), 2);
     // A right flow shrinks to one disposition.
     let flow = oracle::samples::forty_rents().flow();
     let small = shrink(&flow, |flow| number(read(flow)).is_none());

@@ -34,8 +34,12 @@ fn judged(input: &[u8]) -> String {
 #[test]
 fn judge_prints_one_line() {
     let flow = two_rents().bytes();
-    let due = "accepted dispositions 2 cents 83050 records 16\n";
+    let due = "accepted dispositions 2 cents 83050 records 16 kind requests\n";
     assert_eq!(judged(&flow), due);
+    let due = "accepted dispositions 2 cents 83050 records 16 kind recalls\n";
+    assert_eq!(judged(&two_recalls().bytes()), due);
+    let mixed = two_rents().with(9, 29, b"07100").with(9, 47, b"+").bytes();
+    assert_eq!(judged(&mixed), "refused 22 record 9 position 29\n");
     let wrong = two_rents().with(10, 4, b"0000001").bytes();
     assert_eq!(judged(&wrong), "refused 9 record 10 position 4\n");
     let none = "refused 1 record 0 position 0\n";
@@ -53,7 +57,7 @@ fn judge_holds_546_records() {
     let flow = draft.flow();
     assert_eq!(flow.len(), 65_520);
     let line = program::line(&flow);
-    assert!(line.starts_with("accepted dispositions ") && line.ends_with(" records 546"));
+    assert!(line.starts_with("accepted dispositions ") && line.contains(" records 546 kind "));
     assert_eq!(judged(&flow), line + "\n");
 }
 
@@ -96,6 +100,13 @@ fn samples_are_written() {
     assert_eq!(flow, two_rents().bytes());
     let list = fs::read(dir.join("two-rents.list")).unwrap();
     assert_eq!(list, two_rents_list());
+    let flow = fs::read(dir.join("two-rents-recall.flow")).unwrap();
+    assert_eq!(flow, two_recalls().bytes());
+    let list = fs::read(dir.join("two-rents-recall.list")).unwrap();
+    assert_eq!(list, two_recalls_list());
+    let mixed = fs::read(dir.join("refused-22-kind.flow")).unwrap();
+    let second = two_rents().with(9, 29, b"07100").with(9, 47, b"+");
+    assert_eq!(mixed, second.bytes());
     let table = fs::read_to_string(dir.join("README.md")).unwrap();
     for number in NUMBERS {
         assert!(table.contains(&format!("`refused {number} record")));

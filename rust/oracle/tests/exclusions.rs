@@ -14,6 +14,7 @@ use oracle::Answer;
 fn a_reader_that_refuses_everything_or_has_one_reply() {
     assert_eq!(two_rents().read(), accepted(2, 83_050, 16));
     assert_eq!(one_rent().read(), accepted(1, 45_000, 9));
+    assert_eq!(two_recalls().read(), recalled(2, 83_050, 16));
     assert_eq!(read(b""), refused(1, 0, 0));
 }
 
@@ -86,7 +87,11 @@ fn made_up_counts() {
             let text = std::str::from_utf8(&record[33..46]).unwrap();
             text.parse::<u64>().unwrap()
         });
-        let due = accepted(
+        let answer = match &openings().next().unwrap()[28..33] {
+            b"07000" => accepted,
+            _ => recalled,
+        };
+        let due = answer(
             openings().count() as u64,
             cents.sum(),
             flow.len() as u64 / 120,

@@ -1,5 +1,5 @@
 //! The cases of `oracle vectors flow` for where a disposition is, against
-//! literal answers from document 01.
+//! literal answers from documents 01 and 02 (E1).
 //!
 //! What the lines below would catch:
 //! - k counted from 0, k = 0 taken for 1, k cut to 8, 16 or 32 bits or taken as
@@ -19,6 +19,7 @@
 //! - an answer before the flow is read to its end, or 15 before the reader's
 //!   refusal: the flows cut or refused, of most of which the first disposition
 //!   is whole;
+//! - a recall not found, or taken for none: "recalls" and its faults;
 //! - a refusal's part that is not empty: the 0 at the end of its line.
 
 mod common;
@@ -39,7 +40,7 @@ type Due = (&'static str, &'static str, &'static [(u64, &'static str)]);
 /// The right flows but the one of 36 dispositions, in the order of the file.
 #[rustfmt::skip]
 const FOUND: [Due; 19] = [
-    ("one disposition", "accepted dispositions 1 cents 45000 records 9", &[
+    ("one disposition", "accepted dispositions 1 cents 45000 records 9 kind requests", &[
         (0, NONE),
         (1, r#"found first 2 records 7 cents 45000 part 840 " 140000001" " 700000001""#),
         (2, NONE),
@@ -48,7 +49,7 @@ const FOUND: [Due; 19] = [
         (2305843009213693953, NONE), (9223372036854775808, NONE), (9223372036854775809, NONE),
         (18446744073709551614, NONE), (18446744073709551615, NONE),
     ]),
-    ("two dispositions", "accepted dispositions 2 cents 83050 records 16", &[
+    ("two dispositions", "accepted dispositions 2 cents 83050 records 16 kind requests", &[
         (0, NONE),
         (1, r#"found first 2 records 7 cents 45000 part 840 " 140000001" " 700000001""#),
         (2, r#"found first 9 records 7 cents 38050 part 840 " 140000002" " 700000002""#),
@@ -58,7 +59,7 @@ const FOUND: [Due; 19] = [
         (2305843009213693953, NONE), (9223372036854775808, NONE), (9223372036854775809, NONE),
         (18446744073709551614, NONE), (18446744073709551615, NONE),
     ]),
-    ("7 to 12 records", "accepted dispositions 6 cents 21021 records 59", &[
+    ("7 to 12 records", "accepted dispositions 6 cents 21021 records 59 kind requests", &[
         (0, NONE),
         (1, r#"found first 2 records 7 cents 1001 part 840 " 140000001" " 700000001""#),
         (2, r#"found first 9 records 8 cents 2002 part 960 " 140000002" " 700000002""#),
@@ -68,7 +69,7 @@ const FOUND: [Due; 19] = [
         (6, r#"found first 47 records 12 cents 6006 part 1440 " 140000006" " 700000006""#),
         (7, NONE),
     ]),
-    ("12 to 7 records", "accepted dispositions 6 cents 21021 records 59", &[
+    ("12 to 7 records", "accepted dispositions 6 cents 21021 records 59 kind requests", &[
         (0, NONE),
         (1, r#"found first 2 records 12 cents 1001 part 1440 " 140000001" " 700000001""#),
         (2, r#"found first 14 records 11 cents 2002 part 1320 " 140000002" " 700000002""#),
@@ -78,7 +79,7 @@ const FOUND: [Due; 19] = [
         (6, r#"found first 52 records 7 cents 6006 part 840 " 140000006" " 700000006""#),
         (7, NONE),
     ]),
-    ("16 in every other", "accepted dispositions 5 cents 15015 records 40", &[
+    ("16 in every other", "accepted dispositions 5 cents 15015 records 40 kind requests", &[
         (0, NONE),
         (1, r#"found first 2 records 8 cents 1001 part 960 " 140000001" " 700000001""#),
         (2, r#"found first 10 records 7 cents 2002 part 840 " 140000002" " 700000002""#),
@@ -87,14 +88,14 @@ const FOUND: [Due; 19] = [
         (5, r#"found first 32 records 8 cents 5005 part 960 " 140000005" " 700000005""#),
         (6, NONE),
     ]),
-    ("8 records each", "accepted dispositions 3 cents 6006 records 26", &[
+    ("8 records each", "accepted dispositions 3 cents 6006 records 26 kind requests", &[
         (0, NONE),
         (1, r#"found first 2 records 8 cents 1001 part 960 " 140000001" " 700000001""#),
         (2, r#"found first 10 records 8 cents 2002 part 960 " 140000002" " 700000002""#),
         (3, r#"found first 18 records 8 cents 3003 part 960 " 140000003" " 700000003""#),
         (4, NONE),
     ]),
-    ("every variant", "accepted dispositions 12 cents 78078 records 112", &[
+    ("every variant", "accepted dispositions 12 cents 78078 records 112 kind requests", &[
         (0, NONE),
         (1, r#"found first 2 records 8 cents 1001 part 960 " 140000001" " 700000001""#),
         (2, r#"found first 10 records 11 cents 2002 part 1320 " 140000002" " 700000002""#),
@@ -110,7 +111,7 @@ const FOUND: [Due; 19] = [
         (12, r#"found first 102 records 10 cents 12012 part 1200 " 140000012" " 700000012""#),
         (13, NONE),
     ]),
-    ("amounts", "accepted dispositions 4 cents 11234567890123 records 30", &[
+    ("amounts", "accepted dispositions 4 cents 11234567890123 records 30 kind requests", &[
         (0, NONE),
         (1, r#"found first 2 records 7 cents 0 part 840 " 140000001" " 700000001""#),
         (2, r#"found first 9 records 7 cents 9999999999999 part 840 " 140000002" " 700000002""#),
@@ -132,7 +133,7 @@ const FOUND: [Due; 19] = [
     ("EF as text and across two records", EVERY, IN_EVERY),
     ("14 in IM and EF", EVERY, IN_EVERY),
     ("EF with an amount at 34-46", EVERY, IN_EVERY),
-    ("14 in fields of 14", "accepted dispositions 2 cents 52064 records 17", &[
+    ("14 in fields of 14", "accepted dispositions 2 cents 52064 records 17 kind requests", &[
         (0, NONE),
         (1, r#"found first 2 records 8 cents 14014 part 960 " 140000001" " 700000001""#),
         (2, r#"found first 10 records 7 cents 38050 part 840 " 140000002" " 700000002""#),
@@ -146,8 +147,18 @@ const FOUND: [Due; 19] = [
     ]),
 ];
 
+/// The flow of recalls, with text like a record 14 in its first 30.
+#[rustfmt::skip]
+const RECALLS: Due = ("recalls", "accepted dispositions 2 cents 83050 records 16 kind recalls", &[
+    (0, NONE),
+    (1, r#"found first 2 records 7 cents 45000 part 840 " 140000001" " 700000001""#),
+    (2, r#"found first 9 records 7 cents 38050 part 840 " 140000002" " 700000002""#),
+    (3, NONE),
+    (MAX, NONE),
+]);
+
 /// Two dispositions of 8 and 7 records.
-const EVERY: &str = "accepted dispositions 2 cents 83050 records 17";
+const EVERY: &str = "accepted dispositions 2 cents 83050 records 17 kind requests";
 #[rustfmt::skip]
 const IN_EVERY: &[(u64, &str)] = &[
     (0, NONE),
@@ -172,7 +183,7 @@ const OF_36: [(u64, u64, u64); 36] = [
 /// The flows that the reader refuses, in the order of the file, and its line:
 /// the answer to every number is that line and an empty part.
 #[rustfmt::skip]
-const REFUSED: [(&str, &str); 24] = [
+const REFUSED: [(&str, &str); 27] = [
     ("no byte", "refused 1 record 0 position 0"),
     ("the header alone", "refused 4 record 2 position 0"),
     ("cut inside the first disposition", "refused 4 record 6 position 0"),
@@ -196,7 +207,10 @@ const REFUSED: [(&str, &str); 24] = [
     ("13 in EF", "refused 13 record 16 position 53"),
     ("13 in EF at 68", "refused 13 record 16 position 68"),
     ("14 in EF", "refused 14 record 16 position 83"),
+    ("22 in the second 14", "refused 22 record 9 position 29"),
     ("14 after EF", "refused 3 record 10 position 2"),
+    ("recalls: 22 in the second 14", "refused 22 record 9 position 29"),
+    ("recalls: EF as of requests", "refused 13 record 16 position 53"),
 ];
 
 /// A case as the two files have it: name, line of the flow, the reader's line,
@@ -246,11 +260,16 @@ fn due_of_36() -> Vec<(u64, String)> {
 fn every_answer_is_the_literal_one() {
     let (input, output) = find_files();
     let given = given(&input, &output);
-    assert_eq!(given.len(), FOUND.len() + 1 + REFUSED.len());
+    assert_eq!(given.len(), FOUND.len() + 2 + REFUSED.len());
     let (many, others): (Vec<_>, Vec<_>) = given
         .iter()
         .partition(|case| case.name == "36 dispositions");
+    let (recalls, others): (Vec<_>, Vec<_>) =
+        others.into_iter().partition(|case| case.name == RECALLS.0);
     let (found, refused) = others.split_at(FOUND.len());
+    for case in recalls {
+        assert_eq!((case.answer, &case.asked[..]), (RECALLS.1, RECALLS.2));
+    }
     for (case, (name, answer, asked)) in found.iter().zip(FOUND) {
         assert_eq!((case.name, case.answer), (name, answer));
         assert_eq!(case.asked, asked, "{name}");
@@ -258,7 +277,7 @@ fn every_answer_is_the_literal_one() {
     for case in many {
         assert_eq!(
             case.answer,
-            "accepted dispositions 36 cents 666666 records 332"
+            "accepted dispositions 36 cents 666666 records 332 kind requests"
         );
         let asked: Vec<(u64, String)> = case
             .asked
@@ -285,7 +304,7 @@ fn lengths_and_numbers_are_all_there() {
         let found = output.lines().filter(|line| line.starts_with("found"));
         assert!(found.filter(|line| line.contains(&with_length)).count() >= 3);
     }
-    for number in 1..=15 {
+    for number in (1..=15).chain([22]) {
         let start = format!("refused {number} ");
         let refused = output.lines().filter(|line| line.ends_with(" part 0"));
         assert!(refused.filter(|line| line.starts_with(&start)).count() >= 4);

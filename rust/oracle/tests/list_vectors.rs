@@ -1,5 +1,6 @@
-//! The cases of `oracle vectors list`, against literal answers from document 01
-//! and against a second statement of what a list encodes and a flow carries.
+//! The cases of `oracle vectors list`, against literal answers from documents 01
+//! and 02 (E1), and against a second statement of what a list encodes and a flow
+//! carries.
 //!
 //! What the lines would catch:
 //! - a carried part that begins or ends at another position, a body of another
@@ -13,7 +14,9 @@
 //! - a room taken a byte too long or too short, bytes written after the length,
 //!   output written before the refusal: the number of bytes kept;
 //! - a refusal of the list's place instead of the record's: the refused values;
-//! - a flow called canonical that is not, or the reverse: the round trips.
+//! - a flow called canonical that is not, or the reverse: the round trips;
+//! - a Q taken for an H or for no kind, a recall with causale, sign or total of
+//!   a request, a list read back from recalls that opens with H: the recalls.
 
 mod common;
 
@@ -29,7 +32,7 @@ type Due = (&'static str, &'static [(&'static str, &'static str)]);
 
 /// The cases in the order of the file, but those of one byte that is no kind.
 #[rustfmt::skip]
-const DUE: [Due; 422] = [
+const DUE: [Due; 501] = [
     ("two rents", &[
         (">0", "refused 21 record 0 position 0"),
         (">1", "refused 21 record 0 position 0"),
@@ -37,32 +40,32 @@ const DUE: [Due; 422] = [
         (">120", "refused 21 record 0 position 0"),
         (">1800", "refused 21 record 0 position 0"),
         (">1919", "refused 21 record 0 position 0"),
-        (">1920", "accepted dispositions 2 cents 83050 records 16 length 1920"),
-        (">1921", "accepted dispositions 2 cents 83050 records 16 length 1920"),
-        (">2039", "accepted dispositions 2 cents 83050 records 16 length 1920"),
-        (">2040", "accepted dispositions 2 cents 83050 records 16 length 1920"),
-        (">3000", "accepted dispositions 2 cents 83050 records 16 length 1920"),
+        (">1920", "accepted dispositions 2 cents 83050 records 16 kind requests length 1920"),
+        (">1921", "accepted dispositions 2 cents 83050 records 16 kind requests length 1920"),
+        (">2039", "accepted dispositions 2 cents 83050 records 16 kind requests length 1920"),
+        (">2040", "accepted dispositions 2 cents 83050 records 16 kind requests length 1920"),
+        (">3000", "accepted dispositions 2 cents 83050 records 16 kind requests length 1920"),
         ("><", "there 1920 back 1236 same"),
-        (">131008", "accepted dispositions 2 cents 83050 records 16 length 1920"),
+        (">131008", "accepted dispositions 2 cents 83050 records 16 kind requests length 1920"),
     ]),
     ("one rent", &[
-        (">1080", "accepted dispositions 1 cents 45000 records 9 length 1080"),
+        (">1080", "accepted dispositions 1 cents 45000 records 9 kind requests length 1080"),
         ("><", "there 1080 back 643 same"),
     ]),
     ("one rent with S and X", &[
-        (">1200", "accepted dispositions 1 cents 45000 records 10 length 1200"),
+        (">1200", "accepted dispositions 1 cents 45000 records 10 kind requests length 1200"),
         ("><", "there 1200 back 671 same"),
     ]),
     ("distinct bytes, S and X then R", &[
-        (">2160", "accepted dispositions 2 cents 2469135780246 records 18 length 2160"),
+        (">2160", "accepted dispositions 2 cents 2469135780246 records 18 kind requests length 2160"),
         ("><", "there 2160 back 1375 same"),
     ]),
     ("distinct bytes, five X", &[
-        (">1560", "accepted dispositions 1 cents 1234567890123 records 13 length 1560"),
+        (">1560", "accepted dispositions 1 cents 1234567890123 records 13 kind requests length 1560"),
         ("><", "there 1560 back 1087 same"),
     ]),
     ("every byte from 32 to 126", &[
-        (">1080", "accepted dispositions 1 cents 45000 records 9 length 1080"),
+        (">1080", "accepted dispositions 1 cents 45000 records 9 kind requests length 1080"),
         ("><", "there 1080 back 643 same"),
     ]),
     ("empty list", &[
@@ -82,9 +85,10 @@ const DUE: [Due; 422] = [
     ("kind 104 second", &[(">1200", "refused 20 record 2 position 0")]),
     ("kind 104 in the middle", &[(">1200", "refused 20 record 5 position 0")]),
     ("kind 104 last", &[(">1200", "refused 20 record 9 position 0")]),
-    ("kind 81 first", &[(">1200", "refused 20 record 1 position 0")]),
-    ("kind 81 second", &[(">1200", "refused 20 record 2 position 0")]),
-    ("kind 81 in the middle", &[(">1200", "refused 20 record 5 position 0")]),
+    // Q takes the next 49 bytes for its body, and a blank for the next kind.
+    ("kind 81 first", &[(">1200", "refused 20 record 2 position 0")]),
+    ("kind 81 second", &[(">1200", "refused 20 record 3 position 0")]),
+    ("kind 81 in the middle", &[(">1200", "refused 20 record 6 position 0")]),
     ("kind 81 last", &[(">1200", "refused 20 record 9 position 0")]),
     ("kind 32 first", &[(">1200", "refused 20 record 1 position 0")]),
     ("kind 32 second", &[(">1200", "refused 20 record 2 position 0")]),
@@ -110,6 +114,9 @@ const DUE: [Due; 422] = [
     ("H cut by one byte", &[(">240", "refused 20 record 1 position 0")]),
     ("H cut by half of it", &[(">240", "refused 20 record 1 position 0")]),
     ("H cut by its body", &[(">240", "refused 20 record 1 position 0")]),
+    ("Q cut by one byte", &[(">240", "refused 20 record 1 position 0")]),
+    ("Q cut by half of it", &[(">240", "refused 20 record 1 position 0")]),
+    ("Q cut by its body", &[(">240", "refused 20 record 1 position 0")]),
     ("D cut by one byte", &[(">360", "refused 20 record 2 position 0")]),
     ("D cut by half of it", &[(">360", "refused 20 record 2 position 0")]),
     ("D cut by its body", &[(">360", "refused 20 record 2 position 0")]),
@@ -149,6 +156,8 @@ const DUE: [Due; 422] = [
     ("A a byte long", &[(">1920", "refused 20 record 6 position 0")]),
     ("Z a byte short", &[(">1920", "refused 20 record 9 position 0")]),
     ("Z a byte long", &[(">1920", "refused 20 record 9 position 0")]),
+    ("Q a byte short", &[(">1920", "refused 20 record 2 position 0")]),
+    ("Q a byte long", &[(">1920", "refused 20 record 2 position 0")]),
     ("20 at the end, 7 in H", &[
         (">0", "refused 20 record 15 position 0"),
         (">119", "refused 20 record 15 position 0"),
@@ -198,12 +207,12 @@ const DUE: [Due; 422] = [
         (">240", "refused 3 record 1 position 2"),
         (">241", "refused 3 record 1 position 2"),
     ]),
-    ("two X", &[(">1200", "accepted dispositions 1 cents 45000 records 10 length 1200")]),
-    ("three X", &[(">1320", "accepted dispositions 1 cents 45000 records 11 length 1320")]),
-    ("four X", &[(">1440", "accepted dispositions 1 cents 45000 records 12 length 1440")]),
-    ("five X", &[(">1560", "accepted dispositions 1 cents 45000 records 13 length 1560")]),
-    ("S and five X", &[(">1680", "accepted dispositions 1 cents 45000 records 14 length 1680")]),
-    ("S and R", &[(">1200", "accepted dispositions 1 cents 45000 records 10 length 1200")]),
+    ("two X", &[(">1200", "accepted dispositions 1 cents 45000 records 10 kind requests length 1200")]),
+    ("three X", &[(">1320", "accepted dispositions 1 cents 45000 records 11 kind requests length 1320")]),
+    ("four X", &[(">1440", "accepted dispositions 1 cents 45000 records 12 kind requests length 1440")]),
+    ("five X", &[(">1560", "accepted dispositions 1 cents 45000 records 13 kind requests length 1560")]),
+    ("S and five X", &[(">1680", "accepted dispositions 1 cents 45000 records 14 kind requests length 1680")]),
+    ("S and R", &[(">1200", "accepted dispositions 1 cents 45000 records 10 kind requests length 1200")]),
     ("six X", &[(">1680", "refused 3 record 11 position 2")]),
     ("S and six X", &[(">1800", "refused 3 record 12 position 2")]),
     ("R after X", &[(">1200", "refused 3 record 7 position 2")]),
@@ -248,6 +257,7 @@ const DUE: [Due; 422] = [
     ("ends with X alone", &[(">240", "refused 3 record 1 position 2")]),
     ("ends with K alone", &[(">240", "refused 3 record 1 position 2")]),
     ("ends with Z alone", &[(">240", "refused 3 record 1 position 2")]),
+    ("ends with Q alone", &[(">240", "refused 3 record 2 position 2")]),
     ("ends with H after H", &[(">360", "refused 3 record 2 position 2")]),
     ("ends with S after H", &[(">360", "refused 3 record 2 position 2")]),
     ("ends with C after H", &[(">360", "refused 3 record 2 position 2")]),
@@ -257,6 +267,12 @@ const DUE: [Due; 422] = [
     ("ends with X after H", &[(">360", "refused 3 record 2 position 2")]),
     ("ends with K after H", &[(">360", "refused 3 record 2 position 2")]),
     ("ends with Z after H", &[(">360", "refused 3 record 2 position 2")]),
+    ("ends with Q after H", &[(">360", "refused 3 record 2 position 2")]),
+    ("ends with H after Q", &[(">360", "refused 3 record 2 position 2")]),
+    ("ends with S after Q", &[(">360", "refused 3 record 2 position 2")]),
+    ("ends with C after Q", &[(">360", "refused 3 record 2 position 2")]),
+    ("ends with Z after Q", &[(">360", "refused 3 record 2 position 2")]),
+    ("ends with Q after Q", &[(">360", "refused 3 record 2 position 2")]),
     ("ends with H after D", &[(">480", "refused 3 record 3 position 2")]),
     ("ends with D after D", &[(">480", "refused 3 record 3 position 2")]),
     ("ends with B after D", &[(">480", "refused 3 record 3 position 2")]),
@@ -265,6 +281,7 @@ const DUE: [Due; 422] = [
     ("ends with X after D", &[(">480", "refused 3 record 3 position 2")]),
     ("ends with K after D", &[(">480", "refused 3 record 3 position 2")]),
     ("ends with Z after D", &[(">480", "refused 3 record 3 position 2")]),
+    ("ends with Q after D", &[(">480", "refused 3 record 3 position 2")]),
     ("ends with H after S", &[(">600", "refused 3 record 4 position 2")]),
     ("ends with D after S", &[(">600", "refused 3 record 4 position 2")]),
     ("ends with S after S", &[(">600", "refused 3 record 4 position 2")]),
@@ -315,6 +332,7 @@ const DUE: [Due; 422] = [
     ("ends with X after Z", &[(">1200", "refused 3 record 9 position 2")]),
     ("ends with K after Z", &[(">1200", "refused 3 record 9 position 2")]),
     ("ends with Z after Z", &[(">1200", "refused 3 record 9 position 2")]),
+    ("ends with Q after Z", &[(">1200", "refused 3 record 9 position 2")]),
     ("H 4-8 is ''", &[(">240", "refused 7 record 1 position 4")]),
     ("H 9-13 is '0123:'", &[(">240", "refused 5 record 1 position 9")]),
     ("H 9-13 is '/1234'", &[(">240", "refused 5 record 1 position 9")]),
@@ -328,13 +346,13 @@ const DUE: [Due; 422] = [
     ("H 105-111 is '1E05678'", &[(">240", "refused 6 record 1 position 106")]),
     ("H 105-111 is '1$0567:'", &[(">240", "refused 5 record 1 position 107")]),
     ("H 105-111 is '      1'", &[(">240", "refused 6 record 1 position 105")]),
-    ("H 105-111 in a right list is '1$05678'", &[(">1080", "accepted dispositions 1 cents 45000 records 9 length 1080")]),
-    ("H date in a right list is '290228'", &[(">1080", "accepted dispositions 1 cents 45000 records 9 length 1080")]),
+    ("H 105-111 in a right list is '1$05678'", &[(">1080", "accepted dispositions 1 cents 45000 records 9 kind requests length 1080")]),
+    ("H date in a right list is '290228'", &[(">1080", "accepted dispositions 1 cents 45000 records 9 kind requests length 1080")]),
     ("D date is '290227'", &[(">1080", "refused 8 record 2 position 23")]),
     ("D date is '310426'", &[(">1080", "refused 8 record 2 position 23")]),
     ("D date is '29022:'", &[(">1080", "refused 5 record 2 position 23")]),
     ("D date is ''", &[(">1080", "refused 5 record 2 position 23")]),
-    ("D date in a right list is '290228'", &[(">1080", "accepted dispositions 1 cents 45000 records 9 length 1080")]),
+    ("D date in a right list is '290228'", &[(">1080", "accepted dispositions 1 cents 45000 records 9 kind requests length 1080")]),
     ("D amount is '0000000450.00'", &[(">1080", "refused 5 record 2 position 34")]),
     ("D amount is '/000000045000'", &[(">1080", "refused 5 record 2 position 34")]),
     ("D amount is '000000004500:'", &[(">1080", "refused 5 record 2 position 34")]),
@@ -342,13 +360,13 @@ const DUE: [Due; 422] = [
     ("D 53-57 is '024'", &[(">1080", "refused 5 record 2 position 53")]),
     ("D 53-57 is '    0'", &[(">1080", "refused 5 record 2 position 53")]),
     ("D 53-57 is '0240:'", &[(">1080", "refused 5 record 2 position 53")]),
-    ("D 53-57 in a right list is ''", &[(">1080", "accepted dispositions 1 cents 45000 records 9 length 1080")]),
-    ("D 53-57 in a right list is '99999'", &[(">1080", "accepted dispositions 1 cents 45000 records 9 length 1080")]),
+    ("D 53-57 in a right list is ''", &[(">1080", "accepted dispositions 1 cents 45000 records 9 kind requests length 1080")]),
+    ("D 53-57 in a right list is '99999'", &[(">1080", "accepted dispositions 1 cents 45000 records 9 kind requests length 1080")]),
     ("D at 97 is '0'", &[(">1080", "refused 6 record 2 position 97")]),
     ("D at 97 is '7'", &[(">1080", "refused 6 record 2 position 97")]),
     ("D at 97 is 'A'", &[(">1080", "refused 6 record 2 position 97")]),
-    ("D at 97 in a right list is ''", &[(">1080", "accepted dispositions 1 cents 45000 records 9 length 1080")]),
-    ("D at 97 in a right list is '9'", &[(">1080", "accepted dispositions 1 cents 45000 records 9 length 1080")]),
+    ("D at 97 in a right list is ''", &[(">1080", "accepted dispositions 1 cents 45000 records 9 kind requests length 1080")]),
+    ("D at 97 in a right list is '9'", &[(">1080", "accepted dispositions 1 cents 45000 records 9 kind requests length 1080")]),
     ("S 11-12 is 'DE'", &[(">1200", "refused 6 record 3 position 11")]),
     ("S 11-12 is ''", &[(">1200", "refused 6 record 3 position 11")]),
     ("S 13-14 is '6:'", &[(">1200", "refused 5 record 3 position 13")]),
@@ -359,16 +377,20 @@ const DUE: [Due; 422] = [
     ("S 16-20 is '00000'", &[(">1200", "refused 10 record 3 position 16")]),
     ("S 21-25 is '0240:'", &[(">1200", "refused 5 record 3 position 21")]),
     ("S 21-25 is '00000'", &[(">1200", "refused 6 record 3 position 21")]),
-    ("S 21-25 is '00001'", &[(">1200", "accepted dispositions 1 cents 45000 records 10 length 1200")]),
+    ("S 21-25 is '00001'", &[(">1200", "accepted dispositions 1 cents 45000 records 10 kind requests length 1200")]),
     ("S 26-37 is ''", &[(">1200", "refused 7 record 3 position 26")]),
     ("Z at 94 is 'A'", &[(">1080", "refused 6 record 8 position 94")]),
     ("Z at 94 is 'p'", &[(">1080", "refused 6 record 8 position 94")]),
-    ("Z at 94 is 'P'", &[(">1080", "accepted dispositions 1 cents 45000 records 9 length 1080")]),
-    ("Z at 94 is 'B'", &[(">1080", "accepted dispositions 1 cents 45000 records 9 length 1080")]),
+    ("Z at 94 is 'P'", &[(">1080", "accepted dispositions 1 cents 45000 records 9 kind requests length 1080")]),
+    ("Z at 94 is 'B'", &[(">1080", "accepted dispositions 1 cents 45000 records 9 kind requests length 1080")]),
     ("byte 0 in H at 4", &[(">1080", "refused 2 record 1 position 4")]),
     ("byte 31 in H at 45", &[(">1080", "refused 2 record 1 position 45")]),
     ("byte 127 in H at 105", &[(">1080", "refused 2 record 1 position 105")]),
     ("byte 128 in H at 111", &[(">1080", "refused 2 record 1 position 111")]),
+    ("byte 0 in Q at 4", &[(">1080", "refused 2 record 1 position 4")]),
+    ("byte 31 in Q at 45", &[(">1080", "refused 2 record 1 position 45")]),
+    ("byte 127 in Q at 105", &[(">1080", "refused 2 record 1 position 105")]),
+    ("byte 128 in Q at 111", &[(">1080", "refused 2 record 1 position 111")]),
     ("byte 0 in D at 23", &[(">1080", "refused 2 record 2 position 23")]),
     ("byte 31 in D at 28", &[(">1080", "refused 2 record 2 position 28")]),
     ("byte 127 in D at 34", &[(">1080", "refused 2 record 2 position 34")]),
@@ -396,55 +418,55 @@ const DUE: [Due; 422] = [
     ("byte 127 in Z at 120", &[(">1080", "refused 2 record 8 position 120")]),
     ("byte 0 in the second Z at 120", &[(">1920", "refused 2 record 15 position 120")]),
     ("amount 0", &[
-        (">1080", "accepted dispositions 1 cents 0 records 9 length 1080"),
+        (">1080", "accepted dispositions 1 cents 0 records 9 kind requests length 1080"),
         ("><", "there 1080 back 643 same"),
     ]),
     ("amount 9999999999999", &[
-        (">1080", "accepted dispositions 1 cents 9999999999999 records 9 length 1080"),
+        (">1080", "accepted dispositions 1 cents 9999999999999 records 9 kind requests length 1080"),
         ("><", "there 1080 back 643 same"),
     ]),
     ("amount 1234567890123", &[
-        (">1080", "accepted dispositions 1 cents 1234567890123 records 9 length 1080"),
+        (">1080", "accepted dispositions 1 cents 1234567890123 records 9 kind requests length 1080"),
         ("><", "there 1080 back 643 same"),
     ]),
     ("amounts that carry", &[
-        (">1920", "accepted dispositions 2 cents 10000000000000 records 16 length 1920"),
+        (">1920", "accepted dispositions 2 cents 10000000000000 records 16 kind requests length 1920"),
         ("><", "there 1920 back 1236 same"),
     ]),
     ("H 40-45 used", &[
-        (">1080", "accepted dispositions 1 cents 45000 records 9 length 1080"),
+        (">1080", "accepted dispositions 1 cents 45000 records 9 kind requests length 1080"),
         ("><", "there 1080 back 643 same"),
     ]),
     ("H at 45 used", &[
-        (">1080", "accepted dispositions 1 cents 45000 records 9 length 1080"),
+        (">1080", "accepted dispositions 1 cents 45000 records 9 kind requests length 1080"),
         ("><", "there 1080 back 643 same"),
     ]),
     ("H 105-111 used", &[
-        (">1080", "accepted dispositions 1 cents 45000 records 9 length 1080"),
+        (">1080", "accepted dispositions 1 cents 45000 records 9 kind requests length 1080"),
         ("><", "there 1080 back 643 same"),
     ]),
     ("company code absent in all", &[
-        (">1920", "accepted dispositions 2 cents 83050 records 16 length 1920"),
+        (">1920", "accepted dispositions 2 cents 83050 records 16 kind requests length 1920"),
         ("><", "there 1920 back 1236 same"),
     ]),
     ("company code absent then present", &[
-        (">1920", "accepted dispositions 2 cents 83050 records 16 length 1920"),
+        (">1920", "accepted dispositions 2 cents 83050 records 16 kind requests length 1920"),
         ("><", "there 1920 back 1236 same"),
     ]),
     ("company code present then absent", &[
-        (">1920", "accepted dispositions 2 cents 83050 records 16 length 1920"),
+        (">1920", "accepted dispositions 2 cents 83050 records 16 kind requests length 1920"),
         ("><", "there 1920 back 1236 same"),
     ]),
     ("company code present, absent, equal", &[
-        (">2760", "accepted dispositions 3 cents 128050 records 23 length 2760"),
+        (">2760", "accepted dispositions 3 cents 128050 records 23 kind requests length 2760"),
         ("><", "there 2760 back 1829 same"),
     ]),
     ("A R K blank", &[
-        (">1080", "accepted dispositions 1 cents 45000 records 9 length 1080"),
+        (">1080", "accepted dispositions 1 cents 45000 records 9 kind requests length 1080"),
         ("><", "there 1080 back 643 same"),
     ]),
     ("another ABI in H and S", &[
-        (">1200", "accepted dispositions 1 cents 45000 records 10 length 1200"),
+        (">1200", "accepted dispositions 1 cents 45000 records 10 kind requests length 1200"),
         ("><", "there 1200 back 671 same"),
     ]),
     ("company code different", &[(">1920", "refused 11 record 9 position 92")]),
@@ -473,14 +495,14 @@ const DUE: [Due; 422] = [
     ("6 in the last Z", &[(">1080", "refused 6 record 8 position 94")]),
     ("5 at both ends of H", &[(">1080", "refused 5 record 1 position 9")]),
     ("12 dispositions", &[
-        (">11040", "accepted dispositions 12 cents 78078 records 92 length 11040"),
+        (">11040", "accepted dispositions 12 cents 78078 records 92 kind requests length 11040"),
         ("><", "there 11040 back 7334 same"),
     ]),
     ("6 in the last of 91 items", &[(">11040", "refused 6 record 91 position 94")]),
     ("a total of 999999999999999", &[
         (">85079", "refused 21 record 0 position 0"),
-        (">85080", "accepted dispositions 101 cents 999999999999999 records 709 length 85080"),
-        (">85081", "accepted dispositions 101 cents 999999999999999 records 709 length 85080"),
+        (">85080", "accepted dispositions 101 cents 999999999999999 records 709 kind requests length 85080"),
+        (">85081", "accepted dispositions 101 cents 999999999999999 records 709 kind requests length 85080"),
         ("><", "there 85080 back 59943 same"),
     ]),
     ("a total of 1000000000000000", &[
@@ -495,43 +517,43 @@ const DUE: [Due; 422] = [
         ("<1", "refused 21 record 0 position 0"),
         ("<50", "refused 21 record 0 position 0"),
         ("<1235", "refused 21 record 0 position 0"),
-        ("<1236", "accepted dispositions 2 cents 83050 records 16 length 1236"),
-        ("<1237", "accepted dispositions 2 cents 83050 records 16 length 1236"),
-        ("<1355", "accepted dispositions 2 cents 83050 records 16 length 1236"),
-        ("<1356", "accepted dispositions 2 cents 83050 records 16 length 1236"),
-        ("<1920", "accepted dispositions 2 cents 83050 records 16 length 1236"),
-        ("<3000", "accepted dispositions 2 cents 83050 records 16 length 1236"),
+        ("<1236", "accepted dispositions 2 cents 83050 records 16 kind requests length 1236"),
+        ("<1237", "accepted dispositions 2 cents 83050 records 16 kind requests length 1236"),
+        ("<1355", "accepted dispositions 2 cents 83050 records 16 kind requests length 1236"),
+        ("<1356", "accepted dispositions 2 cents 83050 records 16 kind requests length 1236"),
+        ("<1920", "accepted dispositions 2 cents 83050 records 16 kind requests length 1236"),
+        ("<3000", "accepted dispositions 2 cents 83050 records 16 kind requests length 1236"),
         ("<>", "there 1236 back 1920 same"),
-        ("<131008", "accepted dispositions 2 cents 83050 records 16 length 1236"),
+        ("<131008", "accepted dispositions 2 cents 83050 records 16 kind requests length 1236"),
     ]),
     ("back: one rent", &[
         ("<642", "refused 21 record 0 position 0"),
-        ("<643", "accepted dispositions 1 cents 45000 records 9 length 643"),
-        ("<644", "accepted dispositions 1 cents 45000 records 9 length 643"),
+        ("<643", "accepted dispositions 1 cents 45000 records 9 kind requests length 643"),
+        ("<644", "accepted dispositions 1 cents 45000 records 9 kind requests length 643"),
         ("<>", "there 643 back 1080 same"),
     ]),
     ("back: 16 and 50", &[
         ("<670", "refused 21 record 0 position 0"),
-        ("<671", "accepted dispositions 1 cents 45000 records 10 length 671"),
-        ("<672", "accepted dispositions 1 cents 45000 records 10 length 671"),
+        ("<671", "accepted dispositions 1 cents 45000 records 10 kind requests length 671"),
+        ("<672", "accepted dispositions 1 cents 45000 records 10 kind requests length 671"),
         ("<>", "there 671 back 1200 same"),
     ]),
     ("back: 16 and 59", &[
         ("<670", "refused 21 record 0 position 0"),
-        ("<671", "accepted dispositions 1 cents 45000 records 10 length 671"),
-        ("<672", "accepted dispositions 1 cents 45000 records 10 length 671"),
+        ("<671", "accepted dispositions 1 cents 45000 records 10 kind requests length 671"),
+        ("<672", "accepted dispositions 1 cents 45000 records 10 kind requests length 671"),
         ("<>", "there 671 back 1200 same"),
     ]),
     ("back: five 59s", &[
         ("<1086", "refused 21 record 0 position 0"),
-        ("<1087", "accepted dispositions 1 cents 45000 records 13 length 1087"),
-        ("<1088", "accepted dispositions 1 cents 45000 records 13 length 1087"),
+        ("<1087", "accepted dispositions 1 cents 45000 records 13 kind requests length 1087"),
+        ("<1088", "accepted dispositions 1 cents 45000 records 13 kind requests length 1087"),
         ("<>", "there 1087 back 1560 same"),
     ]),
     ("back: 16 in the second", &[
         ("<1374", "refused 21 record 0 position 0"),
-        ("<1375", "accepted dispositions 2 cents 83050 records 18 length 1375"),
-        ("<1376", "accepted dispositions 2 cents 83050 records 18 length 1375"),
+        ("<1375", "accepted dispositions 2 cents 83050 records 18 kind requests length 1375"),
+        ("<1376", "accepted dispositions 2 cents 83050 records 18 kind requests length 1375"),
         ("<>", "there 1375 back 2160 same"),
     ]),
     ("back: no byte", &[
@@ -672,6 +694,12 @@ const DUE: [Due; 422] = [
         ("<2000", "refused 14 record 16 position 83"),
         ("<>", "refused 14 record 16 position 83"),
     ]),
+    ("back: 22 in the second 14", &[
+        ("<0", "refused 22 record 9 position 29"),
+        ("<1235", "refused 22 record 9 position 29"),
+        ("<2000", "refused 22 record 9 position 29"),
+        ("<>", "refused 22 record 9 position 29"),
+    ]),
     ("back: a list for a flow", &[
         ("<0", "refused 1 record 0 position 0"),
         ("<1235", "refused 1 record 0 position 0"),
@@ -680,172 +708,172 @@ const DUE: [Due; 422] = [
     ]),
     ("back: unchecked bytes distinct, S and X then R", &[
         ("<1263", "refused 21 record 0 position 0"),
-        ("<1264", "accepted dispositions 2 cents 83050 records 17 length 1264"),
+        ("<1264", "accepted dispositions 2 cents 83050 records 17 kind requests length 1264"),
         ("<>", "there 1264 back 2040 differs at 0"),
     ]),
     ("back: unchecked bytes distinct, five X", &[
         ("<1086", "refused 21 record 0 position 0"),
-        ("<1087", "accepted dispositions 1 cents 45000 records 13 length 1087"),
+        ("<1087", "accepted dispositions 1 cents 45000 records 13 kind requests length 1087"),
         ("<>", "there 1087 back 1560 differs at 0"),
     ]),
     ("back: not canonical in IM at 1", &[
-        ("<643", "accepted dispositions 1 cents 45000 records 9 length 643"),
+        ("<643", "accepted dispositions 1 cents 45000 records 9 kind requests length 643"),
         ("<>", "there 643 back 1080 differs at 0"),
     ]),
     ("back: not canonical in IM at 46", &[
-        ("<643", "accepted dispositions 1 cents 45000 records 9 length 643"),
+        ("<643", "accepted dispositions 1 cents 45000 records 9 kind requests length 643"),
         ("<>", "there 643 back 1080 differs at 45"),
     ]),
     ("back: not canonical in IM at 104", &[
-        ("<643", "accepted dispositions 1 cents 45000 records 9 length 643"),
+        ("<643", "accepted dispositions 1 cents 45000 records 9 kind requests length 643"),
         ("<>", "there 643 back 1080 differs at 103"),
     ]),
     ("back: not canonical in IM at 112", &[
-        ("<643", "accepted dispositions 1 cents 45000 records 9 length 643"),
+        ("<643", "accepted dispositions 1 cents 45000 records 9 kind requests length 643"),
         ("<>", "there 643 back 1080 differs at 111"),
     ]),
     ("back: not canonical in IM at 113", &[
-        ("<643", "accepted dispositions 1 cents 45000 records 9 length 643"),
+        ("<643", "accepted dispositions 1 cents 45000 records 9 kind requests length 643"),
         ("<>", "there 643 back 1080 differs at 112"),
     ]),
     ("back: not canonical in IM at 115", &[
-        ("<643", "accepted dispositions 1 cents 45000 records 9 length 643"),
+        ("<643", "accepted dispositions 1 cents 45000 records 9 kind requests length 643"),
         ("<>", "there 643 back 1080 differs at 114"),
     ]),
     ("back: not canonical in IM at 120", &[
-        ("<643", "accepted dispositions 1 cents 45000 records 9 length 643"),
+        ("<643", "accepted dispositions 1 cents 45000 records 9 kind requests length 643"),
         ("<>", "there 643 back 1080 differs at 119"),
     ]),
     ("back: not canonical in 14 at 1", &[
-        ("<643", "accepted dispositions 1 cents 45000 records 9 length 643"),
+        ("<643", "accepted dispositions 1 cents 45000 records 9 kind requests length 643"),
         ("<>", "there 643 back 1080 differs at 120"),
     ]),
     ("back: not canonical in 14 at 11", &[
-        ("<643", "accepted dispositions 1 cents 45000 records 9 length 643"),
+        ("<643", "accepted dispositions 1 cents 45000 records 9 kind requests length 643"),
         ("<>", "there 643 back 1080 differs at 130"),
     ]),
     ("back: not canonical in 14 at 22", &[
-        ("<643", "accepted dispositions 1 cents 45000 records 9 length 643"),
+        ("<643", "accepted dispositions 1 cents 45000 records 9 kind requests length 643"),
         ("<>", "there 643 back 1080 differs at 141"),
     ]),
     ("back: not canonical in 14 at 70", &[
-        ("<643", "accepted dispositions 1 cents 45000 records 9 length 643"),
+        ("<643", "accepted dispositions 1 cents 45000 records 9 kind requests length 643"),
         ("<>", "there 643 back 1080 differs at 189"),
     ]),
     ("back: not canonical in 14 at 91", &[
-        ("<643", "accepted dispositions 1 cents 45000 records 9 length 643"),
+        ("<643", "accepted dispositions 1 cents 45000 records 9 kind requests length 643"),
         ("<>", "there 643 back 1080 differs at 210"),
     ]),
     ("back: not canonical in 14 at 114", &[
-        ("<643", "accepted dispositions 1 cents 45000 records 9 length 643"),
+        ("<643", "accepted dispositions 1 cents 45000 records 9 kind requests length 643"),
         ("<>", "there 643 back 1080 differs at 233"),
     ]),
     ("back: not canonical in 14 at 119", &[
-        ("<643", "accepted dispositions 1 cents 45000 records 9 length 643"),
+        ("<643", "accepted dispositions 1 cents 45000 records 9 kind requests length 643"),
         ("<>", "there 643 back 1080 differs at 238"),
     ]),
     ("back: not canonical in 16 at 1", &[
-        ("<671", "accepted dispositions 1 cents 45000 records 10 length 671"),
+        ("<671", "accepted dispositions 1 cents 45000 records 10 kind requests length 671"),
         ("<>", "there 671 back 1200 differs at 240"),
     ]),
     ("back: not canonical in 16 at 38", &[
-        ("<671", "accepted dispositions 1 cents 45000 records 10 length 671"),
+        ("<671", "accepted dispositions 1 cents 45000 records 10 kind requests length 671"),
         ("<>", "there 671 back 1200 differs at 277"),
     ]),
     ("back: not canonical in 16 at 120", &[
-        ("<671", "accepted dispositions 1 cents 45000 records 10 length 671"),
+        ("<671", "accepted dispositions 1 cents 45000 records 10 kind requests length 671"),
         ("<>", "there 671 back 1200 differs at 359"),
     ]),
     ("back: not canonical in 20 at 1", &[
-        ("<643", "accepted dispositions 1 cents 45000 records 9 length 643"),
+        ("<643", "accepted dispositions 1 cents 45000 records 9 kind requests length 643"),
         ("<>", "there 643 back 1080 differs at 240"),
     ]),
     ("back: not canonical in 20 at 107", &[
-        ("<643", "accepted dispositions 1 cents 45000 records 9 length 643"),
+        ("<643", "accepted dispositions 1 cents 45000 records 9 kind requests length 643"),
         ("<>", "there 643 back 1080 differs at 346"),
     ]),
     ("back: not canonical in 20 at 120", &[
-        ("<643", "accepted dispositions 1 cents 45000 records 9 length 643"),
+        ("<643", "accepted dispositions 1 cents 45000 records 9 kind requests length 643"),
         ("<>", "there 643 back 1080 differs at 359"),
     ]),
     ("back: not canonical in 30 at 1", &[
-        ("<643", "accepted dispositions 1 cents 45000 records 9 length 643"),
+        ("<643", "accepted dispositions 1 cents 45000 records 9 kind requests length 643"),
         ("<>", "there 643 back 1080 differs at 360"),
     ]),
     ("back: not canonical in 30 at 87", &[
-        ("<643", "accepted dispositions 1 cents 45000 records 9 length 643"),
+        ("<643", "accepted dispositions 1 cents 45000 records 9 kind requests length 643"),
         ("<>", "there 643 back 1080 differs at 446"),
     ]),
     ("back: not canonical in 30 at 120", &[
-        ("<643", "accepted dispositions 1 cents 45000 records 9 length 643"),
+        ("<643", "accepted dispositions 1 cents 45000 records 9 kind requests length 643"),
         ("<>", "there 643 back 1080 differs at 479"),
     ]),
     ("back: not canonical in 40 at 1", &[
-        ("<643", "accepted dispositions 1 cents 45000 records 9 length 643"),
+        ("<643", "accepted dispositions 1 cents 45000 records 9 kind requests length 643"),
         ("<>", "there 643 back 1080 differs at 480"),
     ]),
     ("back: not canonical in 50 at 1", &[
-        ("<643", "accepted dispositions 1 cents 45000 records 9 length 643"),
+        ("<643", "accepted dispositions 1 cents 45000 records 9 kind requests length 643"),
         ("<>", "there 643 back 1080 differs at 600"),
     ]),
     ("back: not canonical in 59 at 1", &[
-        ("<671", "accepted dispositions 1 cents 45000 records 10 length 671"),
+        ("<671", "accepted dispositions 1 cents 45000 records 10 kind requests length 671"),
         ("<>", "there 671 back 1200 differs at 720"),
     ]),
     ("back: not canonical in 51 at 1", &[
-        ("<643", "accepted dispositions 1 cents 45000 records 9 length 643"),
+        ("<643", "accepted dispositions 1 cents 45000 records 9 kind requests length 643"),
         ("<>", "there 643 back 1080 differs at 720"),
     ]),
     ("back: not canonical in 70 at 1", &[
-        ("<643", "accepted dispositions 1 cents 45000 records 9 length 643"),
+        ("<643", "accepted dispositions 1 cents 45000 records 9 kind requests length 643"),
         ("<>", "there 643 back 1080 differs at 840"),
     ]),
     ("back: not canonical in 70 at 11", &[
-        ("<643", "accepted dispositions 1 cents 45000 records 9 length 643"),
+        ("<643", "accepted dispositions 1 cents 45000 records 9 kind requests length 643"),
         ("<>", "there 643 back 1080 differs at 850"),
     ]),
     ("back: not canonical in 70 at 93", &[
-        ("<643", "accepted dispositions 1 cents 45000 records 9 length 643"),
+        ("<643", "accepted dispositions 1 cents 45000 records 9 kind requests length 643"),
         ("<>", "there 643 back 1080 differs at 932"),
     ]),
     ("back: not canonical in 70 at 95", &[
-        ("<643", "accepted dispositions 1 cents 45000 records 9 length 643"),
+        ("<643", "accepted dispositions 1 cents 45000 records 9 kind requests length 643"),
         ("<>", "there 643 back 1080 differs at 934"),
     ]),
     ("back: not canonical in EF at 1", &[
-        ("<643", "accepted dispositions 1 cents 45000 records 9 length 643"),
+        ("<643", "accepted dispositions 1 cents 45000 records 9 kind requests length 643"),
         ("<>", "there 643 back 1080 differs at 960"),
     ]),
     ("back: not canonical in EF at 40", &[
-        ("<643", "accepted dispositions 1 cents 45000 records 9 length 643"),
+        ("<643", "accepted dispositions 1 cents 45000 records 9 kind requests length 643"),
         ("<>", "there 643 back 1080 differs at 999"),
     ]),
     ("back: not canonical in EF at 45", &[
-        ("<643", "accepted dispositions 1 cents 45000 records 9 length 643"),
+        ("<643", "accepted dispositions 1 cents 45000 records 9 kind requests length 643"),
         ("<>", "there 643 back 1080 differs at 1004"),
     ]),
     ("back: not canonical in EF at 90", &[
-        ("<643", "accepted dispositions 1 cents 45000 records 9 length 643"),
+        ("<643", "accepted dispositions 1 cents 45000 records 9 kind requests length 643"),
         ("<>", "there 643 back 1080 differs at 1049"),
     ]),
     ("back: not canonical in EF at 113", &[
-        ("<643", "accepted dispositions 1 cents 45000 records 9 length 643"),
+        ("<643", "accepted dispositions 1 cents 45000 records 9 kind requests length 643"),
         ("<>", "there 643 back 1080 differs at 1072"),
     ]),
     ("back: not canonical in EF at 115", &[
-        ("<643", "accepted dispositions 1 cents 45000 records 9 length 643"),
+        ("<643", "accepted dispositions 1 cents 45000 records 9 kind requests length 643"),
         ("<>", "there 643 back 1080 differs at 1074"),
     ]),
     ("back: not canonical in EF at 120", &[
-        ("<643", "accepted dispositions 1 cents 45000 records 9 length 643"),
+        ("<643", "accepted dispositions 1 cents 45000 records 9 kind requests length 643"),
         ("<>", "there 643 back 1080 differs at 1079"),
     ]),
     ("back: 40-45 in IM alone", &[
-        ("<643", "accepted dispositions 1 cents 45000 records 9 length 643"),
+        ("<643", "accepted dispositions 1 cents 45000 records 9 kind requests length 643"),
         ("<>", "there 643 back 1080 differs at 999"),
     ]),
     ("back: 40-45 unlike in EF", &[
-        ("<643", "accepted dispositions 1 cents 45000 records 9 length 643"),
+        ("<643", "accepted dispositions 1 cents 45000 records 9 kind requests length 643"),
         ("<>", "there 643 back 1080 differs at 1004"),
     ]),
     ("back: canonical, 14 at 58", &[("<>", "there 643 back 1080 same")]),
@@ -870,6 +898,165 @@ const DUE: [Due; 422] = [
     ("back: canonical, 70 at 96", &[("<>", "there 643 back 1080 same")]),
     ("back: canonical, 70 at 120", &[("<>", "there 643 back 1080 same")]),
     ("back: 40-45 alike in IM and EF", &[("<>", "there 643 back 1080 same")]),
+    // Lists of recalls.
+    ("recalls: two rents", &[
+        (">0", "refused 21 record 0 position 0"),
+        (">120", "refused 21 record 0 position 0"),
+        (">1919", "refused 21 record 0 position 0"),
+        (">1920", "accepted dispositions 2 cents 83050 records 16 kind recalls length 1920"),
+        (">1921", "accepted dispositions 2 cents 83050 records 16 kind recalls length 1920"),
+        (">3000", "accepted dispositions 2 cents 83050 records 16 kind recalls length 1920"),
+        ("><", "there 1920 back 1236 same"),
+    ]),
+    ("recalls: one rent", &[
+        (">1080", "accepted dispositions 1 cents 45000 records 9 kind recalls length 1080"),
+        ("><", "there 1080 back 643 same"),
+    ]),
+    ("recalls: one rent with S and X", &[
+        (">1200", "accepted dispositions 1 cents 45000 records 10 kind recalls length 1200"),
+        ("><", "there 1200 back 671 same"),
+    ]),
+    ("recalls: distinct bytes", &[
+        (">2160", "accepted dispositions 2 cents 2469135780246 records 18 kind recalls length 2160"),
+        ("><", "there 2160 back 1375 same"),
+    ]),
+    ("recalls: amount 0", &[
+        (">1080", "accepted dispositions 1 cents 0 records 9 kind recalls length 1080"),
+        ("><", "there 1080 back 643 same"),
+    ]),
+    ("recalls: amounts that carry", &[
+        (">1920", "accepted dispositions 2 cents 10000000000000 records 16 kind recalls length 1920"),
+        ("><", "there 1920 back 1236 same"),
+    ]),
+    ("recalls: Q 40-45 and 105-111 used", &[
+        (">1080", "accepted dispositions 1 cents 45000 records 9 kind recalls length 1080"),
+        ("><", "there 1080 back 643 same"),
+    ]),
+    ("recalls: company code absent then present", &[
+        (">1920", "accepted dispositions 2 cents 83050 records 16 kind recalls length 1920"),
+        ("><", "there 1920 back 1236 same"),
+    ]),
+    ("recalls: another ABI in Q and S", &[
+        (">1200", "accepted dispositions 1 cents 45000 records 10 kind recalls length 1200"),
+        ("><", "there 1200 back 671 same"),
+    ]),
+    ("recalls: keys in Z", &[
+        (">1080", "accepted dispositions 1 cents 45000 records 9 kind recalls length 1080"),
+        ("><", "there 1080 back 643 same"),
+    ]),
+    // 10 * 9999999999999 less 0 to 9 cents; 50 + 5 * 593 + 5 * 621 bytes.
+    ("recalls: ten near the largest amount", &[
+        (">9240", "accepted dispositions 10 cents 99999999999945 records 77 kind recalls length 9240"),
+        ("><", "there 9240 back 6120 same"),
+    ]),
+    ("7 in Q, at several rooms", &[
+        (">0", "refused 21 record 0 position 0"),
+        (">1079", "refused 21 record 0 position 0"),
+        (">1080", "refused 7 record 1 position 4"),
+        (">1081", "refused 7 record 1 position 4"),
+    ]),
+    ("20 at the end, 7 in Q", &[
+        (">0", "refused 20 record 8 position 0"),
+        (">1079", "refused 20 record 8 position 0"),
+        (">1080", "refused 20 record 8 position 0"),
+        (">1081", "refused 20 record 8 position 0"),
+    ]),
+    ("20 behind Q after H", &[
+        (">0", "refused 20 record 3 position 0"),
+        (">480", "refused 20 record 3 position 0"),
+    ]),
+    ("Q alone, at several rooms", &[
+        (">0", "refused 21 record 0 position 0"),
+        (">120", "refused 21 record 0 position 0"),
+        (">239", "refused 21 record 0 position 0"),
+        (">240", "refused 3 record 2 position 2"),
+        (">241", "refused 3 record 2 position 2"),
+    ]),
+    ("Q twice", &[(">1200", "refused 3 record 2 position 2")]),
+    ("Q after H", &[(">1200", "refused 3 record 2 position 2")]),
+    ("H after Q", &[(">1200", "refused 3 record 2 position 2")]),
+    ("Q inside a disposition", &[(">1200", "refused 3 record 5 position 2")]),
+    ("H inside a disposition of recalls", &[(">1200", "refused 3 record 5 position 2")]),
+    ("Q between dispositions", &[(">2040", "refused 3 record 9 position 2")]),
+    ("H between recalls", &[(">2040", "refused 3 record 9 position 2")]),
+    ("Q at the end", &[(">1200", "refused 3 record 9 position 2")]),
+    ("H at the end of recalls", &[(">1200", "refused 3 record 9 position 2")]),
+    ("D before Q", &[(">1080", "refused 3 record 1 position 2")]),
+    ("D before Q and H", &[(">1320", "refused 3 record 1 position 2")]),
+    ("a disposition before Q", &[(">1080", "refused 3 record 1 position 2")]),
+    ("Q behind the first D", &[(">1320", "refused 3 record 3 position 2")]),
+    ("Q and Z", &[(">360", "refused 3 record 2 position 2")]),
+    ("recalls: six X", &[(">1680", "refused 3 record 11 position 2")]),
+    ("recalls: no Z", &[(">960", "refused 3 record 8 position 2")]),
+    ("recalls: the second D alone", &[(">1200", "refused 3 record 10 position 2")]),
+    ("Q 4-8 is ''", &[(">240", "refused 7 record 1 position 4")]),
+    ("Q 9-13 is '0123:'", &[(">240", "refused 5 record 1 position 9")]),
+    ("Q date is '290227'", &[(">240", "refused 8 record 1 position 14")]),
+    ("Q date is '29022:'", &[(">240", "refused 5 record 1 position 14")]),
+    ("Q 20-39 is ''", &[(">240", "refused 7 record 1 position 20")]),
+    ("Q 105-111 is '2$05678'", &[(">240", "refused 6 record 1 position 105")]),
+    ("Q 105-111 is '1E05678'", &[(">240", "refused 6 record 1 position 106")]),
+    ("Q 105-111 is '1$0567:'", &[(">240", "refused 5 record 1 position 107")]),
+    ("recalls: D date is '290227'", &[(">1080", "refused 8 record 2 position 23")]),
+    ("recalls: D amount is '0000000450.00'", &[(">1080", "refused 5 record 2 position 34")]),
+    ("recalls: D at 97 is '0'", &[(">1080", "refused 6 record 2 position 97")]),
+    ("recalls: Z at 94 is 'A'", &[(">1080", "refused 6 record 8 position 94")]),
+    ("recalls: company code different", &[(">1920", "refused 11 record 9 position 92")]),
+    ("recalls: S with the ABI of another Q", &[(">1200", "refused 10 record 3 position 16")]),
+    ("7 in Q then 2 in D", &[(">360", "refused 7 record 1 position 20")]),
+    ("a byte outside in D before Q", &[(">360", "refused 2 record 1 position 113")]),
+    ("a byte outside in Q after H", &[(">360", "refused 2 record 2 position 4")]),
+    ("7 in H then Q", &[(">360", "refused 7 record 1 position 4")]),
+    // Flows of recalls read back.
+    ("back: recalls: two rents", &[
+        ("<0", "refused 21 record 0 position 0"),
+        ("<50", "refused 21 record 0 position 0"),
+        ("<1235", "refused 21 record 0 position 0"),
+        ("<1236", "accepted dispositions 2 cents 83050 records 16 kind recalls length 1236"),
+        ("<1237", "accepted dispositions 2 cents 83050 records 16 kind recalls length 1236"),
+        ("<3000", "accepted dispositions 2 cents 83050 records 16 kind recalls length 1236"),
+        ("<>", "there 1236 back 1920 same"),
+    ]),
+    ("back: recalls: 16 and 59", &[
+        ("<670", "refused 21 record 0 position 0"),
+        ("<671", "accepted dispositions 1 cents 45000 records 10 kind recalls length 671"),
+        ("<>", "there 671 back 1200 same"),
+    ]),
+    ("back: recalls: unchecked bytes distinct", &[
+        ("<1263", "refused 21 record 0 position 0"),
+        ("<1264", "accepted dispositions 2 cents 83050 records 17 kind recalls length 1264"),
+        ("<>", "there 1264 back 2040 differs at 0"),
+    ]),
+    ("back: recalls: text in IM at 46", &[
+        ("<643", "accepted dispositions 1 cents 45000 records 9 kind recalls length 643"),
+        ("<>", "there 643 back 1080 differs at 45"),
+    ]),
+    ("back: recalls: text in 14 at 11", &[
+        ("<643", "accepted dispositions 1 cents 45000 records 9 kind recalls length 643"),
+        ("<>", "there 643 back 1080 differs at 130"),
+    ]),
+    ("back: recalls: text in EF at 90", &[
+        ("<643", "accepted dispositions 1 cents 45000 records 9 kind recalls length 643"),
+        ("<>", "there 643 back 1080 differs at 1049"),
+    ]),
+    ("back: recalls: 40-45 in IM alone", &[
+        ("<643", "accepted dispositions 1 cents 45000 records 9 kind recalls length 643"),
+        ("<>", "there 643 back 1080 differs at 999"),
+    ]),
+    ("back: recalls: keys in 70", &[
+        ("<643", "accepted dispositions 1 cents 45000 records 9 kind recalls length 643"),
+        ("<>", "there 643 back 1080 same"),
+    ]),
+    ("back: recalls: 22 in the second 14", &[
+        ("<0", "refused 22 record 9 position 29"),
+        ("<2000", "refused 22 record 9 position 29"),
+        ("<>", "refused 22 record 9 position 29"),
+    ]),
+    ("back: recalls: EF as of requests", &[
+        ("<0", "refused 13 record 16 position 53"),
+        ("<2000", "refused 13 record 16 position 53"),
+        ("<>", "refused 13 record 16 position 53"),
+    ]),
 ];
 
 /// A line of the input that asks, and its line of the output.
@@ -914,9 +1101,13 @@ fn every_answer_is_the_literal_one() {
     let given = given(&input, &output);
     let (one_byte, others): (Vec<_>, Vec<_>) =
         given.iter().partition(|case| is_one_byte(case.name));
-    assert_eq!(one_byte.len(), 104);
+    assert_eq!(one_byte.len(), 105);
     for case in one_byte {
-        let line = "refused 20 record 1 position 0 length 0 kept 1264";
+        // Q has 49 bytes of the 111 for its body; the next is no kind.
+        let line = match case.name {
+            "kind 81" => "refused 20 record 2 position 0 length 0 kept 1264",
+            _ => "refused 20 record 1 position 0 length 0 kept 1264",
+        };
         assert_eq!(case.asked, [(">1200", line)], "{}", case.name);
     }
     assert_eq!(others.len(), DUE.len());
@@ -950,7 +1141,7 @@ fn is_line(question: &str, line: &str, due: &str) -> bool {
 /// The carried positions of a kind, and the type of its record.
 fn table(kind: u8) -> (&'static str, Vec<usize>) {
     let (record, first, others): (_, _, &[(usize, usize)]) = match kind {
-        b'H' => ("IM", (4, 45), &[(105, 111)]),
+        b'H' | b'Q' => ("IM", (4, 45), &[(105, 111)]),
         b'D' => ("14", (23, 28), &[(34, 46), (53, 69), (92, 113)]),
         b'S' => ("16", (11, 37), &[]),
         b'C' => ("20", (11, 106), &[]),
@@ -969,22 +1160,22 @@ fn table(kind: u8) -> (&'static str, Vec<usize>) {
     (record, positions)
 }
 
-/// What a list of whole items under one H encodes.
+/// What a list of whole items under one H or Q encodes.
 fn encoded(mut list: &[u8]) -> Vec<u8> {
-    let header = list[1..50].to_vec();
+    let (recalls, header) = (list[0] == b'Q', list[1..50].to_vec());
     let (mut flow, mut count, mut cents) = (Vec::new(), 0, 0);
     while let Some((&kind, rest)) = list.split_first() {
         let (record_type, positions) = table(kind);
         let mut record = row(&[(2, record_type)]);
-        if kind == b'H' {
+        if record_type == "IM" {
             record[113] = b'E';
         } else {
             count += u32::from(kind == b'D');
             record[3..10].copy_from_slice(format!("{count:07}").as_bytes());
         }
         if kind == b'D' {
-            record[28..33].copy_from_slice(b"07000");
-            record[46] = b'-';
+            record[28..33].copy_from_slice(if recalls { b"07100" } else { b"07000" });
+            record[46] = if recalls { b'+' } else { b'-' };
             record[47..52].copy_from_slice(&header[5..10]);
             record[119] = b'E';
             let amount = std::str::from_utf8(&rest[6..19]).unwrap();
@@ -997,7 +1188,8 @@ fn encoded(mut list: &[u8]) -> Vec<u8> {
         list = &rest[positions.len()..];
     }
     let records = flow.len() / 120 + 1;
-    let counts = format!("{count:07}{cents:015}{:015}{records:07}", 0);
+    let (negative, positive) = if recalls { (0, cents) } else { (cents, 0) };
+    let counts = format!("{count:07}{negative:015}{positive:015}{records:07}");
     let mut trailer = row(&[(2, "EF"), (46, &counts), (114, "E")]);
     trailer[3..45].copy_from_slice(&header[..42]);
     flow.extend(trailer);
@@ -1007,8 +1199,12 @@ fn encoded(mut list: &[u8]) -> Vec<u8> {
 /// The list that a flow carries.
 fn carried(flow: &[u8]) -> Vec<u8> {
     let mut list = Vec::new();
+    let header = match &flow[148..153] {
+        b"07100" => b'Q',
+        _ => b'H',
+    };
     for record in flow.chunks(120) {
-        for kind in b"HDSCBARXKZ" {
+        for kind in &[header, b'D', b'S', b'C', b'B', b'A', b'R', b'X', b'K', b'Z'] {
             let (record_type, positions) = table(*kind);
             if record[1..3] == *record_type.as_bytes() {
                 list.push(*kind);
@@ -1091,7 +1287,10 @@ fn every_number_comes() {
     let lines: Vec<Line> = input.lines().zip(output.lines()).collect();
     for (sign, numbers) in [
         ('>', &[2, 3, 5, 6, 7, 8, 10, 11, 17, 20, 21][..]),
-        ('<', &[1, 2, 3, 4, 5, 6, 7, 8, 9, 10, 11, 12, 13, 14, 21]),
+        (
+            '<',
+            &[1, 2, 3, 4, 5, 6, 7, 8, 9, 10, 11, 12, 13, 14, 21, 22],
+        ),
     ] {
         for number in numbers {
             let start = format!("refused {number} ");
@@ -1099,6 +1298,16 @@ fn every_number_comes() {
             assert!(lines.iter().filter(given).count() >= 2, "{sign} {number}");
         }
     }
+}
+
+/// Writing never gives 22: an H or Q tells the kind of every D behind it, and
+/// another one is refused by 3 before.
+#[test]
+fn writing_never_gives_22() {
+    let (input, output) = list_files();
+    let written = input.lines().zip(output.lines());
+    let mut written = written.filter(|(question, _)| question.starts_with('>'));
+    assert!(written.all(|(_, line)| !line.starts_with("refused 22 ")));
 }
 
 /// The file has the bytes of the cases, and fits the program that reads it.
@@ -1141,4 +1350,6 @@ fn the_two_rents_are_the_example() {
     let bytes_of = |name: &str| &cases.iter().find(|case| case.name == name).unwrap().bytes;
     assert_eq!(bytes_of("two rents"), &two_rents_list());
     assert_eq!(bytes_of("back: two rents"), &two_rents().bytes());
+    assert_eq!(bytes_of("recalls: two rents"), &two_recalls_list());
+    assert_eq!(bytes_of("back: recalls: two rents"), &two_recalls().bytes());
 }

@@ -21,6 +21,7 @@ fn flow_of(list: &[u8]) -> Vec<u8> {
 fn bodies_have_the_lengths_of_the_table() {
     for (kind, record, len) in [
         (b'H', b"IM", 49),
+        (b'Q', b"IM", 49),
         (b'D', b"14", 58),
         (b'S', b"16", 27),
         (b'C', b"20", 96),
@@ -35,7 +36,7 @@ fn bodies_have_the_lengths_of_the_table() {
         assert_eq!((&layout.record, layout.body_len()), (record, len));
     }
     let kinds = (0..=255).filter(|&kind| layout_of_kind(kind).is_some());
-    assert_eq!(kinds.count(), 10);
+    assert_eq!(kinds.count(), 11);
 }
 
 #[test]
@@ -43,6 +44,8 @@ fn the_two_rent_list_both_ways() {
     assert_eq!(two_rents_list().len(), 50 + 2 * 593);
     assert_eq!(list_of(&two_rents().bytes()), two_rents_list());
     assert_eq!(flow_of(&two_rents_list()), two_rents().bytes());
+    assert_eq!(list_of(&two_recalls().bytes()), two_recalls_list());
+    assert_eq!(flow_of(&two_recalls_list()), two_recalls().bytes());
 }
 
 /// Every position carried comes back; every other is blank or fixed again.
@@ -58,9 +61,9 @@ fn exactly_the_carried_positions_come_back() {
         b"EF" => false,
         _ => position > 10,
     };
-    let right = all_types().bytes();
-    assert_eq!(flow_of(&list_of(&right)), right);
-    for index in 0..right.len() {
+    let flows = [all_types().bytes(), all_types_recalled().bytes()];
+    for (right, index) in flows.iter().flat_map(|f| (0..f.len()).map(move |i| (f, i))) {
+        assert_eq!(flow_of(&list_of(right)), *right);
         let mut flow = right.clone();
         flow[index] = if flow[index] == b'~' { b'!' } else { b'~' };
         if let Answer::Refused { .. } = read(&flow) {

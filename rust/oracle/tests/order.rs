@@ -10,7 +10,7 @@ type Case = (usize, usize, &'static [u8], u8, u8);
 
 /// Faults by record and rising position, each with number and position due.
 /// A later row of the same record is later in order.
-const FAULTS: [Case; 55] = [
+const FAULTS: [Case; 56] = [
     (1, 60, b"\x7f", 2, 60),
     (1, 2, b"14", 3, 2),
     (1, 4, b"     ", 7, 4),
@@ -23,7 +23,7 @@ const FAULTS: [Case; 55] = [
     (2, 2, b"10", 3, 2),
     (2, 4, b"0000000", 9, 4),
     (2, 23, b"300226", 8, 23),
-    (2, 29, b"07100", 6, 29),
+    (2, 29, b"07200", 6, 29),
     (2, 34, b":", 5, 34),
     (2, 47, b"+", 6, 47),
     (2, 48, b"99999", 10, 48),
@@ -51,6 +51,7 @@ const FAULTS: [Case; 55] = [
     (13, 4, b"0000003", 9, 4),
     (13, 94, b"X", 6, 94),
     (14, 4, b"0000001", 9, 4),
+    (14, 29, b"07100", 22, 29),
     (14, 48, b"12340", 10, 48),
     (14, 92, b"ZZZZZ", 11, 92),
     (14, 97, b"7", 6, 97),
@@ -67,6 +68,26 @@ const FAULTS: [Case; 55] = [
     (21, 114, b"F", 10, 114),
     (21, 115, b"\x7f", 2, 115),
 ];
+
+/// The faults of a flow of recalls that are others than those of requests.
+const RECALL_FAULTS: [Case; 4] = [
+    (2, 47, b"-", 6, 47),
+    (14, 29, b"07000", 22, 29),
+    (21, 53, b"000000000000009", 13, 53),
+    (21, 68, b"000000000083051", 13, 68),
+];
+
+/// The faults of a flow of recalls: those of requests, but with others where
+/// the kind decides.
+fn recall_faults() -> Vec<Case> {
+    let replaced = |fault: &&Case| {
+        RECALL_FAULTS
+            .iter()
+            .any(|r| (r.0, r.1) == (fault.0, fault.1))
+    };
+    let same = FAULTS.iter().filter(|fault| !replaced(fault));
+    same.chain(&RECALL_FAULTS).copied().collect()
+}
 
 fn due(fault: &Case) -> oracle::Answer {
     refused(fault.3, fault.0 as u64, fault.4)
@@ -87,18 +108,28 @@ fn each_fault_alone() {
         let flow = all_types().with(fault.0, fault.1, fault.2);
         assert_eq!(flow.read(), due(fault), "{fault:?}");
     }
+    for fault in &recall_faults() {
+        let flow = all_types_recalled().with(fault.0, fault.1, fault.2);
+        assert_eq!(flow.read(), due(fault), "{fault:?}");
+    }
 }
 
 #[test]
 fn of_two_faults_the_first_in_order_wins() {
-    for one in &FAULTS {
-        for other in &FAULTS {
+    check_pairs(&all_types(), &FAULTS);
+    check_pairs(&all_types_recalled(), &recall_faults());
+}
+
+fn check_pairs(right: &Flow, faults: &[Case]) {
+    for one in faults {
+        for other in faults {
             // A changed header changes what the later records must equal.
             let same_field = one.0 == other.0 && one.1 == other.1;
             if same_field {
                 continue;
             }
-            let flow = all_types()
+            let flow = right
+                .clone()
                 .with(one.0, one.1, one.2)
                 .with(other.0, other.1, other.2);
             let first = if rank(one) < rank(other) { one } else { other };

@@ -1,5 +1,5 @@
 //! The reader's cases of `oracle vectors flow`, against answers written by hand
-//! from document 01, and the flows of edge sizes of `oracle vectors flows`.
+//! from documents 01 and 02 (E1), and the flows of edge sizes of `oracle vectors flows`.
 
 mod common;
 
@@ -12,7 +12,7 @@ use oracle::{generate, program};
 
 /// Every case's name and the answer due, in the order of the file.
 #[rustfmt::skip]
-const DUE: [(&str, &str); 454] = [
+const DUE: [(&str, &str); 509] = [
     // Lengths.
     ("length 0", "refused 1 record 0 position 0"),
     ("length 1", "refused 1 record 0 position 0"),
@@ -25,11 +25,11 @@ const DUE: [(&str, &str); 454] = [
     ("length 121 and a bad first byte", "refused 1 record 0 position 0"),
     ("each record ended by a line feed", "refused 1 record 0 position 0"),
     // The order of records in whole flows.
-    ("one disposition", "accepted dispositions 1 cents 45000 records 9"),
-    ("two dispositions", "accepted dispositions 2 cents 83050 records 16"),
-    ("two 59s", "accepted dispositions 1 cents 45000 records 10"),
-    ("five 59s", "accepted dispositions 1 cents 45000 records 13"),
-    ("16 and five 59s", "accepted dispositions 1 cents 45000 records 14"),
+    ("one disposition", "accepted dispositions 1 cents 45000 records 9 kind requests"),
+    ("two dispositions", "accepted dispositions 2 cents 83050 records 16 kind requests"),
+    ("two 59s", "accepted dispositions 1 cents 45000 records 10 kind requests"),
+    ("five 59s", "accepted dispositions 1 cents 45000 records 13 kind requests"),
+    ("16 and five 59s", "accepted dispositions 1 cents 45000 records 14 kind requests"),
     ("six 59s", "refused 3 record 11 position 2"),
     ("59 after 50", "refused 3 record 7 position 2"),
     ("50 after 59", "refused 3 record 7 position 2"),
@@ -121,9 +121,9 @@ const DUE: [(&str, &str); 454] = [
     ("ends with 16 after 70", "refused 3 record 9 position 2"),
     ("ends with 20 after 70", "refused 3 record 9 position 2"),
     // The bounds of a byte.
-    ("byte 32 in 20 at 107", "accepted dispositions 1 cents 45000 records 9"),
-    ("byte 92 in 20 at 107", "accepted dispositions 1 cents 45000 records 9"),
-    ("byte 126 in 20 at 107", "accepted dispositions 1 cents 45000 records 9"),
+    ("byte 32 in 20 at 107", "accepted dispositions 1 cents 45000 records 9 kind requests"),
+    ("byte 92 in 20 at 107", "accepted dispositions 1 cents 45000 records 9 kind requests"),
+    ("byte 126 in 20 at 107", "accepted dispositions 1 cents 45000 records 9 kind requests"),
     ("byte 0 in 20 at 107", "refused 2 record 3 position 107"),
     ("byte 10 in 20 at 107", "refused 2 record 3 position 107"),
     ("byte 31 in 20 at 107", "refused 2 record 3 position 107"),
@@ -138,15 +138,15 @@ const DUE: [(&str, &str); 454] = [
     ("20 11-34 blank", "refused 7 record 4 position 11"),
     ("30 11-40 blank", "refused 7 record 5 position 11"),
     ("59 11-65 blank", "refused 7 record 7 position 11"),
-    ("obligatory first bytes alone", "accepted dispositions 1 cents 45000 records 10"),
-    ("obligatory last bytes alone", "accepted dispositions 1 cents 45000 records 10"),
+    ("obligatory first bytes alone", "accepted dispositions 1 cents 45000 records 10 kind requests"),
+    ("obligatory last bytes alone", "accepted dispositions 1 cents 45000 records 10 kind requests"),
     // IM.
     ("IM 9-13 is '0123:'", "refused 5 record 1 position 9"),
     ("IM 9-13 is '/1234'", "refused 5 record 1 position 9"),
     ("IM 9-13 is '     '", "refused 5 record 1 position 9"),
     ("IM 9-13 is '0123 '", "refused 5 record 1 position 9"),
     ("IM 9-13 is ' 1234'", "refused 5 record 1 position 9"),
-    ("IM date is '290228'", "accepted dispositions 1 cents 45000 records 9"),
+    ("IM date is '290228'", "accepted dispositions 1 cents 45000 records 9 kind requests"),
     ("IM date is '29022:'", "refused 5 record 1 position 14"),
     ("IM date is '290227'", "refused 8 record 1 position 14"),
     ("IM date is '290200'", "refused 4 record 2 position 0"),
@@ -161,7 +161,7 @@ const DUE: [(&str, &str); 454] = [
     ("IM date is '/90228'", "refused 5 record 1 position 14"),
     ("IM date is '      '", "refused 5 record 1 position 14"),
     ("IM date is '2902 7'", "refused 5 record 1 position 14"),
-    ("IM 105-111 is '1$05678'", "accepted dispositions 1 cents 45000 records 9"),
+    ("IM 105-111 is '1$05678'", "accepted dispositions 1 cents 45000 records 9 kind requests"),
     ("IM 105-111 is '2$05678'", "refused 6 record 1 position 105"),
     ("IM 105-111 is '1E05678'", "refused 6 record 1 position 106"),
     ("IM 105-111 is '1$0567:'", "refused 5 record 1 position 107"),
@@ -189,7 +189,7 @@ const DUE: [(&str, &str); 454] = [
     ("14 number is '000001 '", "refused 5 record 2 position 4"),
     ("14 number is '9999999'", "refused 9 record 2 position 4"),
     ("14 number is '00000001'", "refused 9 record 2 position 4"),
-    ("14 date is '290228'", "accepted dispositions 1 cents 45000 records 9"),
+    ("14 date is '290228'", "accepted dispositions 1 cents 45000 records 9 kind requests"),
     ("14 date is '29022:'", "refused 5 record 2 position 23"),
     ("14 date is '290227'", "refused 8 record 2 position 23"),
     ("14 date is '290200'", "refused 4 record 3 position 0"),
@@ -209,12 +209,18 @@ const DUE: [(&str, &str); 454] = [
     ("14 date is '/90228'", "refused 5 record 2 position 23"),
     ("14 date is '      '", "refused 5 record 2 position 23"),
     ("14 date is '2902 7'", "refused 5 record 2 position 23"),
-    ("14 29-33 is '07100'", "refused 6 record 2 position 29"),
+    ("14 29-33 is '07100'", "refused 6 record 2 position 47"),
+    ("14 29-33 is '07200'", "refused 6 record 2 position 29"),
     ("14 29-33 is '07001'", "refused 6 record 2 position 29"),
     ("14 29-33 is '17000'", "refused 6 record 2 position 29"),
     ("14 29-33 is '     '", "refused 6 record 2 position 29"),
     ("14 29-33 is '0700O'", "refused 6 record 2 position 29"),
     ("14 29-33 is '7000 '", "refused 6 record 2 position 29"),
+    ("14 29-33 is '07006'", "refused 6 record 2 position 29"),
+    ("14 29-33 is '07008'", "refused 6 record 2 position 29"),
+    ("14 29-33 is '07010'", "refused 6 record 2 position 29"),
+    ("14 29-33 is '07011'", "refused 6 record 2 position 29"),
+    ("14 29-33 is '00000'", "refused 6 record 2 position 29"),
     ("14 amount is '0000000450.00'", "refused 5 record 2 position 34"),
     ("14 amount is '000000004500:'", "refused 5 record 2 position 34"),
     ("14 amount is '/000000045000'", "refused 5 record 2 position 34"),
@@ -235,7 +241,7 @@ const DUE: [(&str, &str); 454] = [
     ("14 48-52 is '9999A'", "refused 5 record 2 position 48"),
     ("14 48-52 is '11234'", "refused 10 record 2 position 48"),
     ("14 48-52 is '00000'", "refused 10 record 2 position 48"),
-    ("14 53-57 is '     '", "accepted dispositions 1 cents 45000 records 9"),
+    ("14 53-57 is '     '", "accepted dispositions 1 cents 45000 records 9 kind requests"),
     ("14 53-57 is '024  '", "refused 5 record 2 position 53"),
     ("14 53-57 is '00000'", "refused 4 record 3 position 0"),
     ("14 53-57 is '99999'", "refused 4 record 3 position 0"),
@@ -246,14 +252,14 @@ const DUE: [(&str, &str); 454] = [
     ("14 53-57 is '0240:'", "refused 5 record 2 position 53"),
     ("14 53-57 is '/2400'", "refused 5 record 2 position 53"),
     ("14 53-57 is 'ABCDE'", "refused 5 record 2 position 53"),
-    ("14 at 97 is ' '", "accepted dispositions 1 cents 45000 records 9"),
-    ("14 at 97 is '1'", "accepted dispositions 1 cents 45000 records 9"),
-    ("14 at 97 is '2'", "accepted dispositions 1 cents 45000 records 9"),
-    ("14 at 97 is '3'", "accepted dispositions 1 cents 45000 records 9"),
-    ("14 at 97 is '4'", "accepted dispositions 1 cents 45000 records 9"),
-    ("14 at 97 is '5'", "accepted dispositions 1 cents 45000 records 9"),
-    ("14 at 97 is '6'", "accepted dispositions 1 cents 45000 records 9"),
-    ("14 at 97 is '9'", "accepted dispositions 1 cents 45000 records 9"),
+    ("14 at 97 is ' '", "accepted dispositions 1 cents 45000 records 9 kind requests"),
+    ("14 at 97 is '1'", "accepted dispositions 1 cents 45000 records 9 kind requests"),
+    ("14 at 97 is '2'", "accepted dispositions 1 cents 45000 records 9 kind requests"),
+    ("14 at 97 is '3'", "accepted dispositions 1 cents 45000 records 9 kind requests"),
+    ("14 at 97 is '4'", "accepted dispositions 1 cents 45000 records 9 kind requests"),
+    ("14 at 97 is '5'", "accepted dispositions 1 cents 45000 records 9 kind requests"),
+    ("14 at 97 is '6'", "accepted dispositions 1 cents 45000 records 9 kind requests"),
+    ("14 at 97 is '9'", "accepted dispositions 1 cents 45000 records 9 kind requests"),
     ("14 at 97 is '0'", "refused 6 record 2 position 97"),
     ("14 at 97 is '7'", "refused 6 record 2 position 97"),
     ("14 at 97 is '8'", "refused 6 record 2 position 97"),
@@ -267,8 +273,8 @@ const DUE: [(&str, &str); 454] = [
     ("14 at 120 is 'D'", "refused 6 record 2 position 120"),
     ("14 at 120 is 'F'", "refused 6 record 2 position 120"),
     // 16.
-    ("16 11-12 is 'IT'", "accepted dispositions 1 cents 45000 records 10"),
-    ("16 11-12 is 'SM'", "accepted dispositions 1 cents 45000 records 10"),
+    ("16 11-12 is 'IT'", "accepted dispositions 1 cents 45000 records 10 kind requests"),
+    ("16 11-12 is 'SM'", "accepted dispositions 1 cents 45000 records 10 kind requests"),
     ("16 11-12 is 'DE'", "refused 6 record 3 position 11"),
     ("16 11-12 is 'IM'", "refused 6 record 3 position 11"),
     ("16 11-12 is 'ST'", "refused 6 record 3 position 11"),
@@ -291,7 +297,7 @@ const DUE: [(&str, &str); 454] = [
     ("16 16-20 is '9999A'", "refused 5 record 3 position 16"),
     ("16 16-20 is '11234'", "refused 10 record 3 position 16"),
     ("16 16-20 is '00000'", "refused 10 record 3 position 16"),
-    ("16 21-25 is '00001'", "accepted dispositions 1 cents 45000 records 10"),
+    ("16 21-25 is '00001'", "accepted dispositions 1 cents 45000 records 10 kind requests"),
     ("16 21-25 is '0240:'", "refused 5 record 3 position 21"),
     ("16 21-25 is '00000'", "refused 6 record 3 position 21"),
     ("16 21-25 is '99999'", "refused 4 record 4 position 0"),
@@ -300,8 +306,8 @@ const DUE: [(&str, &str); 454] = [
     ("16 21-25 is '0000 '", "refused 5 record 3 position 21"),
     ("16 21-25 is '     '", "refused 5 record 3 position 21"),
     // 70.
-    ("70 at 94 is 'P'", "accepted dispositions 1 cents 45000 records 9"),
-    ("70 at 94 is 'B'", "accepted dispositions 1 cents 45000 records 9"),
+    ("70 at 94 is 'P'", "accepted dispositions 1 cents 45000 records 9 kind requests"),
+    ("70 at 94 is 'B'", "accepted dispositions 1 cents 45000 records 9 kind requests"),
     ("70 at 94 is 'A'", "refused 6 record 8 position 94"),
     ("70 at 94 is ' '", "refused 4 record 9 position 0"),
     ("70 at 94 is '!'", "refused 6 record 8 position 94"),
@@ -321,15 +327,17 @@ const DUE: [(&str, &str); 454] = [
     ("EF total is '000000000044999'", "refused 13 record 9 position 53"),
     ("EF total is '000000000045001'", "refused 13 record 9 position 53"),
     ("EF total is '00000000004500:'", "refused 5 record 9 position 53"),
+    ("EF total is '000000000000000'", "refused 13 record 9 position 53"),
     ("EF zeros is '000000000000001'", "refused 13 record 9 position 68"),
     ("EF zeros is '100000000000000'", "refused 13 record 9 position 68"),
     ("EF zeros is '00000000000000:'", "refused 5 record 9 position 68"),
+    ("EF zeros is '000000000045000'", "refused 13 record 9 position 68"),
     ("EF records is '0000007'", "refused 14 record 9 position 83"),
     ("EF records is '0000008'", "refused 14 record 9 position 83"),
     ("EF records is '0000010'", "refused 14 record 9 position 83"),
     ("EF records is '000000:'", "refused 5 record 9 position 83"),
     ("EF at 114 is 'L'", "refused 10 record 9 position 114"),
-    ("EF 40-45 is 'OTHER '", "accepted dispositions 1 cents 45000 records 9"),
+    ("EF 40-45 is 'OTHER '", "accepted dispositions 1 cents 45000 records 9 kind requests"),
     // The number at 4-10.
     ("14 number is '000000:'", "refused 5 record 2 position 4"),
     ("14 number is '0000000'", "refused 9 record 2 position 4"),
@@ -368,9 +376,9 @@ const DUE: [(&str, &str); 454] = [
     ("70 number is '0000002'", "refused 9 record 8 position 4"),
     ("70 number is '0000010'", "refused 9 record 8 position 4"),
     // Texts and amounts.
-    ("40 50 51 blank", "accepted dispositions 1 cents 45000 records 9"),
-    ("amount 0", "accepted dispositions 1 cents 0 records 9"),
-    ("amount 9999999999999", "accepted dispositions 1 cents 9999999999999 records 9"),
+    ("40 50 51 blank", "accepted dispositions 1 cents 45000 records 9 kind requests"),
+    ("amount 0", "accepted dispositions 1 cents 0 records 9 kind requests"),
+    ("amount 9999999999999", "accepted dispositions 1 cents 9999999999999 records 9 kind requests"),
     ("amount 0 and the old total", "refused 13 record 9 position 53"),
     // Types that are none.
     ("IM as im", "refused 3 record 1 position 2"),
@@ -436,14 +444,29 @@ const DUE: [(&str, &str); 454] = [
     ("second 14 has number 3", "refused 9 record 9 position 4"),
     ("second 20 has number 1", "refused 9 record 10 position 4"),
     // Company codes.
-    ("company code absent in all", "accepted dispositions 2 cents 83050 records 16"),
-    ("company code absent then present", "accepted dispositions 2 cents 83050 records 16"),
+    ("company code absent in all", "accepted dispositions 2 cents 83050 records 16 kind requests"),
+    ("company code absent then present", "accepted dispositions 2 cents 83050 records 16 kind requests"),
     ("company code present then different", "refused 11 record 9 position 92"),
     ("company code different by a blank", "refused 11 record 9 position 92"),
     ("company code of one byte at another place", "refused 11 record 9 position 92"),
     ("company code unlike IM 4-8", "refused 4 record 3 position 0"),
-    ("company code present, absent, equal", "accepted dispositions 3 cents 128050 records 23"),
+    ("company code present, absent, equal", "accepted dispositions 3 cents 128050 records 23 kind requests"),
     ("company code present, absent, different", "refused 11 record 16 position 92"),
+    // Causale and sign of the first 14 and of later ones.
+    ("07200 and '+' in 14", "refused 6 record 2 position 29"),
+    ("07100, 5 at 34 and '-' in 14", "refused 5 record 2 position 34"),
+    ("a recall second", "refused 22 record 9 position 29"),
+    ("a recall second, each with its total", "refused 22 record 9 position 29"),
+    ("a recall second, signed as a request", "refused 22 record 9 position 29"),
+    ("a recall second, 5 at 34", "refused 22 record 9 position 29"),
+    ("a recall second, signed as neither", "refused 22 record 9 position 29"),
+    ("a recall second, numbered 3", "refused 9 record 9 position 4"),
+    ("a recall second, no date", "refused 8 record 9 position 23"),
+    ("a recall second, a bad byte at 120", "refused 2 record 9 position 120"),
+    ("a recall second, wrong at 48, 92 and 120", "refused 22 record 9 position 29"),
+    ("a recall third", "refused 22 record 16 position 29"),
+    ("07200 in the second 14", "refused 6 record 9 position 29"),
+    ("a recall's sign in the second 14", "refused 6 record 9 position 47"),
     // Two faults of one record.
     ("IM wrong at 4 and 9", "refused 7 record 1 position 4"),
     ("IM wrong at 9 and 14", "refused 5 record 1 position 9"),
@@ -486,9 +509,43 @@ const DUE: [(&str, &str); 454] = [
     // Whole dispositions, unchecked positions, large totals.
     ("the second disposition numbered 1", "refused 9 record 9 position 4"),
     ("the first disposition twice", "refused 9 record 9 position 4"),
-    ("unchecked positions all ~", "accepted dispositions 2 cents 83050 records 17"),
-    ("11 largest amounts", "accepted dispositions 11 cents 109999999999989 records 79"),
+    ("unchecked positions all ~", "accepted dispositions 2 cents 83050 records 17 kind requests"),
+    ("11 largest amounts", "accepted dispositions 11 cents 109999999999989 records 79 kind requests"),
     ("101 largest amounts", "refused 13 record 709 position 53"),
+    // Recalls.
+    ("recall: one disposition", "accepted dispositions 1 cents 45000 records 9 kind recalls"),
+    ("recall: two dispositions", "accepted dispositions 2 cents 83050 records 16 kind recalls"),
+    ("recall: amount 0", "accepted dispositions 1 cents 0 records 9 kind recalls"),
+    ("recall: ends after 14", "refused 4 record 3 position 0"),
+    ("recall: 14 29-33 is '07000'", "refused 6 record 2 position 47"),
+    ("recall: 14 29-33 is '07200'", "refused 6 record 2 position 29"),
+    ("recall: 14 29-33 is '07101'", "refused 6 record 2 position 29"),
+    ("recall: 14 29-33 is '17100'", "refused 6 record 2 position 29"),
+    ("recall: 14 29-33 is '0710O'", "refused 6 record 2 position 29"),
+    ("recall: 14 29-33 is '7100 '", "refused 6 record 2 position 29"),
+    ("recall: 14 at 47 is '-'", "refused 6 record 2 position 47"),
+    ("recall: 14 at 47 is ' '", "refused 6 record 2 position 47"),
+    ("recall: 14 at 47 is ','", "refused 6 record 2 position 47"),
+    ("recall: 14 at 47 is '*'", "refused 6 record 2 position 47"),
+    ("recall: 14 wrong at 23 and 29", "refused 8 record 2 position 23"),
+    ("recall: 14 wrong at 29 and 34", "refused 6 record 2 position 29"),
+    ("recall: 14 wrong at 29 and 47", "refused 6 record 2 position 29"),
+    ("recall: 14 wrong at 34 and 47", "refused 5 record 2 position 34"),
+    ("recall: 14 wrong at 47 and 48", "refused 6 record 2 position 47"),
+    ("recall: a request second", "refused 22 record 9 position 29"),
+    ("recall: a request second, signed as a recall", "refused 22 record 9 position 29"),
+    ("recall: 07200 in the second 14", "refused 6 record 9 position 29"),
+    ("recall: a request's sign in the second 14", "refused 6 record 9 position 47"),
+    ("recall: a request first", "refused 22 record 9 position 29"),
+    ("recall: EF as of requests", "refused 13 record 9 position 53"),
+    ("recall: EF with the total at both", "refused 13 record 9 position 53"),
+    ("recall: EF with zeros at both", "refused 13 record 9 position 68"),
+    ("recall: EF 53-67 is '00000000000000:'", "refused 5 record 9 position 53"),
+    ("recall: EF 68-82 is '000000000044999'", "refused 13 record 9 position 68"),
+    ("recall: EF 68-82 is '00000000004500:'", "refused 5 record 9 position 68"),
+    ("recall: EF 5 at 53, 13 at 68", "refused 5 record 9 position 53"),
+    ("recall: EF 13 at 53, 5 at 68", "refused 13 record 9 position 53"),
+    ("recall: EF 13 at 68, 14 at 83", "refused 13 record 9 position 68"),
 ];
 
 /// The cases of a file: the name, and the line after it.
@@ -557,14 +614,14 @@ fn names_are_unique_and_the_input_is_short() {
     let names: HashSet<&str> = pairs(&output).into_iter().map(|pair| pair.0).collect();
     assert_eq!(names.len(), DUE.len());
     assert!(names.iter().all(|name| name.is_ascii() && name.len() < 50));
-    assert!(input.len() < 400_000);
+    assert!(input.len() < 450_000);
 }
 
 #[test]
 fn every_number_comes_three_times() {
     let (_, output) = reader_files();
     let given = pairs(&output);
-    for number in 1..=14 {
+    for number in (1..=14).chain([22]) {
         let start = format!("refused {number} ");
         let with_number = given.iter().filter(|(_, line)| line.starts_with(&start));
         assert!(with_number.count() >= 3, "number {number}");
@@ -579,8 +636,8 @@ const CHECKS: [(&str, &[(u8, u8)]); 11] = [
         (7, 4), (5, 9), (5, 14), (8, 14), (7, 20), (6, 105), (6, 106), (5, 107), (6, 114),
     ]),
     ("14", &[
-        (5, 4), (9, 4), (5, 23), (8, 23), (6, 29), (5, 34), (6, 47), (5, 48), (10, 48), (5, 53),
-        (11, 92), (6, 97), (6, 120),
+        (5, 4), (9, 4), (5, 23), (8, 23), (6, 29), (22, 29), (5, 34), (6, 47), (5, 48), (10, 48),
+        (5, 53), (11, 92), (6, 97), (6, 120),
     ]),
     ("16", &[
         (5, 4), (9, 4), (6, 11), (5, 13), (7, 15), (5, 16), (10, 16), (5, 21), (6, 21), (7, 26),
@@ -614,6 +671,32 @@ fn every_check_is_broken_in_a_whole_flow() {
                 whole && (1..=records.len()).filter(|r| of_kind(r)).any(due_at)
             });
             assert!(shown, "{kind}: {number} at {position}");
+        }
+    }
+}
+
+/// What the kind decides is broken in flows of either kind (document 02, E1):
+/// causale and sign of the first 14 and of a later one, and both totals.
+#[test]
+fn every_check_of_the_kind_is_broken_in_both_kinds() {
+    let cases = cases();
+    for causale in [b"07000", b"07100"] {
+        for (number, record, position) in [
+            (6, 2, 47),
+            (6, 9, 29),
+            (22, 9, 29),
+            (6, 9, 47),
+            (5, 9, 53),
+            (13, 9, 53),
+            (5, 9, 68),
+            (13, 9, 68),
+        ] {
+            let due = refused(number, record, position).to_string();
+            let shown = cases.iter().zip(&DUE).any(|(case, (_, line))| {
+                let told = case.flow.get(148..153) == Some(&causale[..]);
+                told && *line == due
+            });
+            assert!(shown, "{causale:?}: {due}");
         }
     }
 }
@@ -655,5 +738,9 @@ fn counted(flow: &[u8]) -> String {
         .map(|digits| digits.parse().unwrap())
         .collect();
     let (count, cents) = (amounts.len(), amounts.iter().sum::<u64>());
-    format!("accepted dispositions {count} cents {cents} records 546")
+    let kind = match &flow[148..153] {
+        b"07000" => "requests",
+        _ => "recalls",
+    };
+    format!("accepted dispositions {count} cents {cents} records 546 kind {kind}")
 }

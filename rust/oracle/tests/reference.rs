@@ -1,6 +1,6 @@
 //! The reader against a second statement of the same rules: all faults of a
 //! record are gathered in no order at all, and the first is chosen by the
-//! order of document 01. Compared on every single byte put anywhere, and on
+//! order of documents 01 and 02 (E1). Compared on every single byte put anywhere, and on
 //! generated flows. The digit and date rules are those of `fields`, which has
 //! tests of its own.
 
@@ -29,11 +29,15 @@ fn reference(flow: &[u8]) -> Answer {
     }
     let openings = openings(&records);
     let cents = sum(&openings) as u64;
-    accepted(openings.len() as u64, cents, records.len() as u64)
+    let answer = match openings[0][28..33] == *b"07100" {
+        true => recalled,
+        false => accepted,
+    };
+    answer(openings.len() as u64, cents, records.len() as u64)
 }
 
 /// Rank, number, position. Ranks: 2 before 3 before fields by position; for
-/// one field 5 first.
+/// one field 5 first, and 6 before 22.
 type Fault = ((u8, u8, bool), u8, u8);
 
 fn kind(record: &[u8]) -> &[u8] {
@@ -160,7 +164,13 @@ impl<'a> Found<'a> {
             b"14" => {
                 self.listed(120, "E");
                 self.listed(97, " 1234569");
-                self.listed(47, "-");
+                let causale = self.at(29, 33);
+                match causale {
+                    b"07000" => self.listed(47, "-"),
+                    b"07100" => self.listed(47, "+"),
+                    _ => self.fault_if(true, 6, 29),
+                }
+                self.fault_if(causale != &openings[0][28..33], 22, 29);
                 let codes = openings.iter().rev().skip(1).map(|o| &o[91..96]);
                 let latest = codes.clone().find(|code| *code != b"     ");
                 let code = self.at(92, 96);
@@ -172,7 +182,6 @@ impl<'a> Found<'a> {
                 self.digits(48, 52);
                 self.equal(48, 52, &header[8..13], 10);
                 self.digits(34, 46);
-                self.equal(29, 33, b"07000", 6);
                 self.date(23);
             }
             b"16" => {
@@ -194,10 +203,14 @@ impl<'a> Found<'a> {
                 for (first, last) in [(114, 114), (20, 39), (14, 19), (9, 13), (4, 8)] {
                     self.equal(first, last, &header[first - 1..last], 10);
                 }
+                let (negative, positive) = match &openings[0][28..33] {
+                    b"07000" => (sum(&openings), 0),
+                    _ => (0, sum(&openings)),
+                };
                 for (first, last, due, number) in [
                     (83, 89, records.len() as u128, 14),
-                    (68, 82, 0, 13),
-                    (53, 67, sum(&openings), 13),
+                    (68, 82, positive, 13),
+                    (53, 67, negative, 13),
                     (46, 52, openings.len() as u128, 12),
                 ] {
                     self.digits(first, last);
@@ -213,9 +226,11 @@ impl<'a> Found<'a> {
 #[test]
 fn every_byte_at_every_place() {
     // Every type of record: 59 in the first disposition, 50 in the second.
-    let mut flow = all_types().with(1, 105, b"1$05678").bytes();
-    for index in 0..flow.len() {
-        check_bytes_at(&mut flow, index);
+    for flow in [all_types(), all_types_recalled()] {
+        let mut flow = flow.with(1, 105, b"1$05678").bytes();
+        for index in 0..flow.len() {
+            check_bytes_at(&mut flow, index);
+        }
     }
 }
 
@@ -227,6 +242,36 @@ fn check_bytes_at(flow: &mut [u8], index: usize) {
         assert_eq!(read(flow), reference(flow), "{place:?} {byte}");
     }
     flow[index] = right;
+}
+
+/// Two dispositions with causale and sign of every kind in each, under
+/// trailers with the sum at either place, at both and at none.
+#[test]
+fn kinds_in_every_mixture() {
+    let causales = [b"07000", b"07100", b"07200", b"0710O", b"     "];
+    let pairs = || {
+        causales
+            .into_iter()
+            .flat_map(|c| [(c, b"-"), (c, b"+"), (c, b" ")])
+    };
+    let sums = [b"000000000083050", b"000000000000000", b"00000000008305 "];
+    for (one, other) in pairs().flat_map(|one| pairs().map(move |other| (one, other))) {
+        for (negative, positive) in sums.into_iter().flat_map(|n| sums.map(|p| (n, p))) {
+            let flow = two_rents()
+                .with(2, 29, one.0)
+                .with(2, 47, one.1)
+                .with(9, 29, other.0)
+                .with(9, 47, other.1)
+                .with(16, 53, negative)
+                .with(16, 68, positive);
+            let due = reference(&flow.bytes());
+            assert_eq!(
+                flow.read(),
+                due,
+                "{one:?} {other:?} {negative:?} {positive:?}"
+            );
+        }
+    }
 }
 
 #[test]

@@ -215,6 +215,67 @@ pub fn flow_of(list: &[u8]) -> Vec<u8> {
     flow
 }
 
+/// The recall flow of these requests, rising, of a canonical flow of requests. It is put together from the
+/// flow's own records: a name and a date of its own, numbers from 1, causale 07100 and sign + in each record
+/// 14, and in the trailer zeros at 53-67 and the sum at 68-82 (document 003, section 3).
+pub fn recalled(flow: &[u8], numbers: &[u64], date: &str, name: &str) -> Vec<u8> {
+    let (records, _) = flow.as_chunks::<120>();
+    let [header, inner @ .., trailer] = records else {
+        panic!("no flow");
+    };
+    let own = format!("{date}{name:<20}");
+    let mut recall = vec![*header];
+    let mut cents: u64 = 0;
+    for (place, k) in (1..).zip(numbers) {
+        let number = format!("{k:07}");
+        for record in inner
+            .iter()
+            .filter(|record| &record[3..10] == number.as_bytes())
+        {
+            let mut record = *record;
+            record[3..10].copy_from_slice(format!("{place:07}").as_bytes());
+            if &record[1..3] == b"14" {
+                record[28..33].copy_from_slice(b"07100");
+                record[46] = b'+';
+                let amount = str::from_utf8(&record[33..46]).unwrap();
+                cents += amount.parse::<u64>().unwrap();
+            }
+            recall.push(record);
+        }
+    }
+    recall.push(*trailer);
+    let (count, records) = (numbers.len(), recall.len());
+    let totals = format!("{count:07}{:015}{cents:015}{records:07}", 0);
+    recall[records - 1][45..89].copy_from_slice(totals.as_bytes());
+    for end in [0, records - 1] {
+        recall[end][13..39].copy_from_slice(own.as_bytes());
+    }
+    recall.concat()
+}
+
+/// The line over the requests.
+pub const TITLES: &str =
+    " NUMBER  DUE                   AMOUNT  DEBTOR                         REFERENCE\n";
+
+/// The two requests of two-rents.flow, as their rows; of two-rents-recall.flow the two recalls.
+pub const ROSSI: &str =
+    "      1  31/03/2026            450,00  ROSSI GIULIA                   0000000017\n";
+pub const BIANCHI: &str =
+    "      2  31/03/2026            380,50  BIANCHI MARCO                  0000000023\n";
+
+/// The row of request `number` of forty-rents.flow: 300,00 euro and 12,50 more for each.
+pub fn student(number: u64) -> String {
+    let cents = 30_000 + 1_250 * number;
+    let amount = format!("{},{:02}", cents / 100, cents % 100);
+    format!(
+        "{number:7}  31/03/2026 {amount:>17}  STUDENTE {number:02}                    {number:010}\n"
+    )
+}
+
+/// The name and the date that recall flows have here, where nothing else is said.
+pub const NAME: &str = "--name=RECALL-MARCH";
+pub const DATE: &str = "--date=170326";
+
 /// The rulers over the two halves of a record.
 pub const RULER_1: &str = "   ----+----1----+----2----+----3----+----4----+----5----+----6";
 pub const RULER_2: &str = "   ----+----7----+----8----+----9----+---10----+---11----+---12";

@@ -5,7 +5,7 @@
 use std::fs;
 use std::path::PathBuf;
 
-use mav::{Accepted, Reason, Refusal};
+use mav::{Accepted, FlowKind, Reason, Refusal};
 
 /// The repository's folder.
 pub fn root() -> PathBuf {
@@ -18,11 +18,21 @@ pub fn sample(file: &str) -> Vec<u8> {
     fs::read(&path).unwrap_or_else(|error| panic!("{}: {error}", path.display()))
 }
 
+/// The answer to a flow of requests.
 pub fn accepted(dispositions: u64, cents: u64, records: u64) -> Accepted {
     Accepted {
         dispositions,
         cents,
         records,
+        kind: FlowKind::Requests,
+    }
+}
+
+/// The same of recalls.
+pub fn recalled(dispositions: u64, cents: u64, records: u64) -> Accepted {
+    Accepted {
+        kind: FlowKind::Recalls,
+        ..accepted(dispositions, cents, records)
     }
 }
 
@@ -37,6 +47,11 @@ pub fn refused(reason: Reason, record: u64, position: u64) -> Refusal {
 /// A refusal at record 0, position 0.
 pub fn of_call(reason: Reason) -> Refusal {
     refused(reason, 0, 0)
+}
+
+/// Puts bytes into a record of a flow, from a position on, both counted from 1.
+pub fn put(flow: &mut [u8], record: usize, position: usize, bytes: &[u8]) {
+    flow[positions(record, position, position + bytes.len() - 1)].copy_from_slice(bytes);
 }
 
 /// The positions of a record of a flow, both ends counted, as indexes from 0.

@@ -1,15 +1,28 @@
-//! The two-rent example of document 01 and its relatives, set down by hand
-//! position by position.
+//! The two-rent example of document 01 and its relatives, as requests and as
+//! recalls, set down by hand position by position.
 
 #![allow(dead_code)]
 
 use oracle::answer::{Answer, Refusal};
+use oracle::FlowKind;
 
+/// The answer to a flow of requests.
 pub fn accepted(dispositions: u64, cents: u64, records: u64) -> Answer {
     Answer::Accepted {
         dispositions,
         cents,
         records,
+        kind: FlowKind::Requests,
+    }
+}
+
+/// The answer to a flow of recalls.
+pub fn recalled(dispositions: u64, cents: u64, records: u64) -> Answer {
+    Answer::Accepted {
+        dispositions,
+        cents,
+        records,
+        kind: FlowKind::Recalls,
     }
 }
 
@@ -109,6 +122,15 @@ pub fn closing(number: &str) -> Vec<u8> {
 }
 
 pub fn trailer(count: &str, total: &str, records: &str) -> Vec<u8> {
+    trailer_with(count, total, "000000000000000", records)
+}
+
+/// The trailer of a flow of recalls.
+pub fn recall_trailer(count: &str, total: &str, records: &str) -> Vec<u8> {
+    trailer_with(count, "000000000000000", total, records)
+}
+
+fn trailer_with(count: &str, negative: &str, positive: &str, records: &str) -> Vec<u8> {
     row(&[
         (2, "EF"),
         (4, "AB123"),
@@ -116,8 +138,8 @@ pub fn trailer(count: &str, total: &str, records: &str) -> Vec<u8> {
         (14, "150326"),
         (20, "RENT-MARCH"),
         (46, count),
-        (53, total),
-        (68, "000000000000000"),
+        (53, negative),
+        (68, positive),
         (83, records),
         (114, "E"),
     ])
@@ -178,6 +200,48 @@ pub fn one_rent() -> Flow {
     records.extend(first_rent("0000001"));
     records.push(trailer("0000001", "000000000045000", "0000009"));
     Flow(records)
+}
+
+/// The records of a rent as those of a recall.
+pub fn recall(mut rent: Vec<Vec<u8>>) -> Vec<Vec<u8>> {
+    rent[0][28..33].copy_from_slice(b"07100");
+    rent[0][46] = b'+';
+    rent
+}
+
+/// The two-rent flow as one of recalls, 16 records.
+pub fn two_recalls() -> Flow {
+    let mut records = vec![header()];
+    records.extend(recall(first_rent("0000001")));
+    records.extend(recall(second_rent("0000002")));
+    records.push(recall_trailer("0000002", "000000000083050", "0000016"));
+    Flow(records)
+}
+
+/// One rent recalled.
+pub fn one_recall() -> Flow {
+    let mut records = vec![header()];
+    records.extend(recall(first_rent("0000001")));
+    records.push(recall_trailer("0000001", "000000000045000", "0000009"));
+    Flow(records)
+}
+
+/// `all_types` as a flow of recalls, 21 records.
+pub fn all_types_recalled() -> Flow {
+    let mut records = all_types().0;
+    for opening in [1, 13] {
+        records[opening][28..33].copy_from_slice(b"07100");
+        records[opening][46] = b'+';
+    }
+    records[20] = recall_trailer("0000002", "000000000083050", "0000021");
+    Flow(records)
+}
+
+/// The request list of the two-rent flow as one of recalls: Q for H.
+pub fn two_recalls_list() -> Vec<u8> {
+    let mut list = two_rents_list();
+    list[0] = b'Q';
+    list
 }
 
 /// The request list of the two-rent flow.

@@ -17,6 +17,7 @@ use Rattle.flow.specs.declared.location.WithTotals.{WithTotals}
 use Rattle.amend.specs.Amended.{writtenInRecord}
 use Rattle.amend.specs.Change.{totalsChanged, changed}
 use Rattle.amend.proofs.FoundFacts.{FoundFacts, found-facts}
+use Rattle.amend.proofs.RulesKept.{total-place}
 use Rattle.amend.proofs.Unchanged.{change-found, left-unchanged}
 use Rattle.amend.proofs.amount.change.Statement.{statement}
 use Rattle.amend.proofs.amount.change.Tie as tie
@@ -50,11 +51,11 @@ returns c =
     let at = c .before .before in
     left-unchanged (Refused (c .refusal-of-call .result)) (length (flow at)) (flow at) (ap refused (c .refusal-of-call .ensures)) refl ∙ sym (change-found _ _ (there at) _ ∙ rw (lt-leb (new at) mostAmount (c .before .if1 .taken)))
 
-sub-t15 : tie.Need-sub-t15
-sub-t15 c = known (c .before .before .before .before .before) .share
+sub-t16 : tie.Need-sub-t16
+sub-t16 c = known (c .before .before .before .before .before) .share
 
-add-t16 : tie.Need-add-t16
-add-t16 c = omega (arith, known (c .before .before .before .before .before) .share, known (c .before .before .before .before .before) .cents)
+add-t17 : tie.Need-add-t17
+add-t17 c = omega (arith, known (c .before .before .before .before .before) .share, known (c .before .before .before .before .before) .cents)
 
 returns-2 : tie.Need-returns-2
 returns-2 c =
@@ -69,19 +70,24 @@ place-number-requires c κs =
 
 place-number-requires-2 : tie.Need-place-number-requires-2
 place-number-requires-2 c κs =
-    let s = known (c .before .before .before .before .before .before .before .before .before .before .before .before) in
-    omega (arith, s .starts, s .ends, s .size)
+    let at = c .before .before .before .before .before .before .before .before .before .before .before .before .before .before in
+    let s = known at in
+    omega (arith, s .starts, s .ends, s .size, total-place (found at .totals .kind), c .before .total-first .ensures, c .total-last .ensures)
 
 returns-3 : tie.Need-returns-3
 returns-3 c = sym (change-found _ _ (sym (c .before .before .before .find-with-totals .ensures) ∙ ap foundWithTotalsVerdict (c .before .refusal .given .1)) _)
 
 returns-4 : tie.Need-returns-4
 returns-4 c =
-    let end = c .before .before .before .before .before .before .before .before in
+    let end = c .before .before .before .before .before .before .before .before .before .before in
     let at = end .before .before .before .before .before .before .before in
     let t = made at in
-    let first = c .before .before .before .before .before .before .place-number .ensures in
-    let bytes : c .before .before .place-number2 .last .0 ≡ changed (found at .location .first) (new at) t (flow at) = c .before .before .place-number2 .ensures ∙ ap (writtenInRecord (t .records) 53 (digits 15 (t .cents))) first in
+    let begins = c .before .before .before .before .total-first in
+    let ends = c .before .before .before .total-last in
+    let wide : ends .result - (begins .result - 1) ≡ 15 = omega (arith, begins .ensures, ends .ensures, total-place (t .kind)) in
+    let first = c .before .before .before .before .before .before .before .before .place-number .ensures in
+    let bytes : c .before .before .place-number2 .last .0 ≡ changed (found at .location .first) (new at) t (flow at) =
+    c .before .before .place-number2 .ensures ∙ (λ i. writtenInRecord (t .records) (begins .ensures i) (digits (wide i) (t .cents)) (first i)) in
     ap (λ (l : List ℕ). record { answer = accepted t; size = length (flow at); bytes = l }) bytes
     ∙ sym (change-found _ _ (there at) _ ∙ rw (le-leb (new at) mostAmount (end .before .before .before .before .before .before .if1 .left), le-leb (t .cents) mostCents (end .if2 .left)))
 
@@ -95,12 +101,14 @@ change-spec =
     (search needs)
     (search needs)
     returns
-    sub-t15
-    add-t16
+    sub-t16
+    add-t17
     (search needs)
     (search needs)
     returns-2
     place-number-requires
+    (search needs)
+    (search needs)
     place-number-requires-2
     (search needs)
     returns-3

@@ -54,11 +54,11 @@ returns c =
     left-unchanged (c .refused2 .result .answer) (c .refused2 .result .length) (flow at) (c .refused2 .ensures .0 ∙ ap refused (c .before .refusal-of-call .ensures)) (c .refused2 .ensures .1)
     ∙ sym (withdraw-found _ _ (there at) ∙ rw (le-ltb 1 (found at .totals .dispositions) (c .before .before .if1 .taken)))
 
-sub-t18 : tie.Need-sub-t18
-sub-t18 c = let s = known (c .before .before .before .before .before .before .before) in omega arith
-
 sub-t19 : tie.Need-sub-t19
-sub-t19 c = let s = known (c .before .before .before .before .before .before .before .before .before) in omega arith
+sub-t19 c = let s = known (c .before .before .before .before .before .before .before) in omega arith
+
+sub-t20 : tie.Need-sub-t20
+sub-t20 c = let s = known (c .before .before .before .before .before .before .before .before .before) in omega arith
 
 sub-at : tie.Need-sub-at
 sub-at c = let s = known (c .before .before .before .before .before .before .before .before .before .before) in omega arith
@@ -93,8 +93,8 @@ mul-blank c = let s = known (moving (numbering (counting (blanking c)))) in omeg
 blank-requires : tie.Need-blank-requires
 blank-requires c κs = let s = known (moving (numbering (counting (blanking c)))) in omega arith
 
-mul-t18 : tie.Need-mul-t18
-mul-t18 c = let s = known (moving (numbering (counting (blanking (c .before .before .before .before))))) in omega arith
+mul-t19 : tie.Need-mul-t19
+mul-t19 c = let s = known (moving (numbering (counting (blanking (c .before .before .before .before))))) in omega arith
 
 returns-2 : tie.Need-returns-2
 returns-2 c =
@@ -141,8 +141,8 @@ withdraw-spec =
     (search needs)
     returns
     (search needs)
-    sub-t18
     sub-t19
+    sub-t20
     (search needs)
     sub-at
     mul-move-up
@@ -158,7 +158,7 @@ withdraw-spec =
     (search needs)
     mul-blank
     blank-requires
-    mul-t18
+    mul-t19
     (search needs)
     returns-2
     (search needs)

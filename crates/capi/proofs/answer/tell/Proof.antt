@@ -8,7 +8,7 @@ use Rattle.capi.proofs.answer.tell.Statement.{statement}
 use Rattle.capi.proofs.answer.tell.Tie as tie
 
 returns : tie.Need-returns
-returns c = c .accept .ensures ∙ sym (ap (λ (t : Answer). ofVerdict (answerVerdict t) (c .before .before .before .before .before .args .length)) (c .before .before .before .told .given .1))
+returns c = c .accept-flow .ensures ∙ sym (ap (λ (t : Answer). ofVerdict (answerVerdict t) (c .before .before .before .before .before .args .length)) (c .before .before .before .told .given .1))
 
 returns-2 : tie.Need-returns-2
 returns-2 c = c .refuse .ensures ∙ sym (ap (λ (t : Answer). ofVerdict (answerVerdict t) (c .before .before .before .before .before .args .length)) (c .before .before .before .told2 .given .1))

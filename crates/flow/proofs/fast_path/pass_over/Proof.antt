@@ -2,19 +2,18 @@
 use Prim.Native.Nat.{ℕ, _-_, _/_}
 use mathlib.Core.Bool.{true}
 use mathlib.Core.List.{List}
-use mathlib.Core.Path.{_≡_, refl, sym, _∙_, ap, subst}
+use mathlib.Core.Path.{_≡_, sym, _∙_, ap, subst}
 use native.Mathlib.Numerals.{add-one}
 use lib.ListN.{length}
 use borrow.Author.Needs.{needs}
 use borrow.Author.Tests.{not-false}
 use Rattle.records.specs.Field.{field}
 use Rattle.records.specs.QuickTest.{passesQuickTest}
-use Rattle.records.proofs.QuickTestRight.{quick-test-right}
 use Rattle.flow.specs.FastPath.{Inside}
 use Rattle.flow.specs.Records.{recordAt}
 use Rattle.flow.specs.declared.order.TypeFound.the-variants.{Of}
 use Rattle.flow.proofs.Cut.{record-part}
-use Rattle.flow.proofs.FastPath.{Passing, pass-begin, counts-stay, pass-next}
+use Rattle.flow.proofs.FastPath.{pass-begin, pass-next, Passing}
 use Rattle.flow.proofs.fast_path.pass_over.Statement.{statement}
 use Rattle.flow.proofs.fast_path.pass_over.Tie as tie
 
@@ -25,7 +24,7 @@ abbrev μ-loop : tie.MeasureT-loop
 μ-loop flow from here₀ i₀ here i = length flow / 120 - i
 
 loop-holds : tie.Need-loop-holds Inv-loop μ-loop
-loop-holds c = pass-begin _ _ _ (c .before .pre .0) (c .before .pre .1 .0) (c .before .pre .1 .1)
+loop-holds c = pass-begin _ _ _ (c .before .pre .0) (c .before .pre .1)
 
 abbrev flow-of : tie.At-loop Inv-loop μ-loop → List ℕ
 flow-of at = at .before .before .args .flow .now
@@ -46,13 +45,6 @@ passed-test c =
       rw rec at (subst (Inside _ _) (found .kind .given .1) (asked .kind-inside .ensures)),
       sym (λ j. passesQuickTest kind (number j) (rec j)) ∙ sym (c .before .passes-quick-test .ensures) ∙ not-false _ (c .if1 .left),
     )
-
-pass-requires : tie.Need-pass-requires Inv-loop μ-loop
-pass-requires c κs =
-    let at = c .before .before .before .before .before .before .before .before .before .before .before in
-    let i = at .loop .i in
-    let kind = c .before .before .before .before .kind .given .0 .0 in
-    (quick-test-right kind (field 4 10 (recordAt (i - 1) (flow-of at))) (recordAt i (flow-of at)) (passed-test c .1) .1, (refl, counts-stay (at .loop .inv)))
 
 loop-again : tie.Need-loop-again Inv-loop μ-loop
 loop-again c =
@@ -96,7 +88,7 @@ pass-over-spec =
     (search needs)
     (search needs)
     (search needs)
-    pass-requires
+    (search needs)
     (search needs)
     (search needs)
     loop-again

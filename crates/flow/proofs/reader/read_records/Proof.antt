@@ -12,10 +12,10 @@ use Rattle.records.specs.RecordVerdict.{judgedVerdict}
 use Rattle.flow.specs.FastPath.{NumberBefore}
 use Rattle.flow.specs.Judge.{ended}
 use Rattle.flow.specs.Records.{recordAt, recordsOf, recordsFrom, mostBytes}
-use Rattle.flow.specs.Walking.{judgeRecord, saturated}
+use Rattle.flow.specs.Walking.{step, judgeRecord, saturated}
 use Rattle.flow.proofs.Lengths.{length-said}
 use Rattle.flow.proofs.Cut.{cut-next, cut-end, record-part, record-whole}
-use Rattle.flow.proofs.FastPath.{numbered-saturated, saturated-twice, pass-on}
+use Rattle.flow.proofs.FastPath.{numbered-saturated, pass-on}
 use Rattle.flow.proofs.Reading.{Reading, begin, go-on, refuse, finish, ended-alike}
 use Rattle.flow.proofs.reader.read_records.Statement.{statement}
 use Rattle.flow.proofs.reader.read_records.Tie as tie
@@ -54,7 +54,7 @@ returns c =
     rw (c .before .before .before .before .as-count .ensures, add-one) (refuse (at .loop .inv .2) _ _ (cut-next _ _ _ (c .before .before .before .before .before .before .loop-test .taken)) _ _ told)
 
 pass-over-requires : tie.Need-pass-over-requires Inv-loop μ-loop
-pass-over-requires c κs = (omega arith, (omega arith, ap saturated (c .next .ensures) ∙ saturated-twice _ ∙ sym (c .next .ensures)))
+pass-over-requires c κs = (omega arith, omega arith)
 
 loop-less : tie.Need-loop-less Inv-loop μ-loop
 loop-less c = omega (arith, c .before .pass-over .ensures .on)
@@ -69,12 +69,14 @@ loop-again c =
     let i = at .loop .i in
     let flow = flow-of at in
     let told = found judged ∙ ap judgedVerdict (c .before .before .before .before .before .before .right .given .1) in
+    let right = c .before .before .before .before .before .before .right .given .0 .0 in
+    let walk-so : walked .result ≡ saturated (step (at .loop .walk) (right .kind) (right .cents) (recordAt i flow)) = walked .ensures ∙ ap (λ (rec : List ℕ). saturated (step (at .loop .walk) (right .kind) (right .cents) rec)) (handed at) in
     let back : suc i - 1 ≡ i = omega arith in
-    let numbered : NumberBefore (walked .result) (recordAt (suc i - 1) flow) = rw (walked .ensures, back) (numbered-saturated _ _ _ _ _ _ _ (record-whole flow i (within .loop-test .taken)) told) in (
+    let numbered : NumberBefore (walked .result) (recordAt (suc i - 1) flow) = rw (walk-so, back) (numbered-saturated _ _ _ _ _ _ _ (record-whole flow i (within .loop-test .taken)) told) in (
       passed .ensures .within,
       at .loop .inv .1,
       rw (c .before .before .before .latest-company .ensures .0, c .before .before .before .before .field .ensures .0, handed at)
-          (pass-on flow (walked .result) (rw (walked .ensures) (go-on (at .loop .inv .2) _ _ (cut-next _ _ _ (within .loop-test .taken)) _ _ told)) numbered (rw add-one at (passed .ensures))),
+          (pass-on flow (walked .result) (rw walk-so (go-on (at .loop .inv .2) _ _ (cut-next _ _ _ (within .loop-test .taken)) _ _ told)) numbered (rw add-one at (passed .ensures))),
     )
 
 end-requires : tie.Need-end-requires Inv-loop μ-loop

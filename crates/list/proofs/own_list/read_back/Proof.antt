@@ -7,6 +7,7 @@ use borrow.Author.Needs.{needs}
 use borrow.Author.Tests.{le-leb, lt-leb}
 use Rattle.flow.specs.Judge.{judge}
 use Rattle.flow.specs.Verdict.{accepted, refused, answerVerdict}
+use Rattle.flow.proofs.Accepted.{accepted-exact}
 use Rattle.flow.proofs.Dispositions.{accepted-length}
 use Rattle.list.specs.ReadBack.{listOf, judgeRoom, readBack}
 use Rattle.list.proofs.own_list.read_back.Statement.{statement}
@@ -18,7 +19,10 @@ read :
 read c = sym (c .before .before .before .read .ensures) ∙ ap answerVerdict (c .before .totals .given .1)
 
 list-length-requires : tie.Need-list-length-requires
-list-length-requires c κs = accepted-length _ (read c) .2
+list-length-requires c κs = (accepted-length _ (read c) .2, accepted-exact _ _ (read c) .3)
+
+store-list-requires : tie.Need-store-list-requires
+store-list-requires c κs = (accepted-exact _ _ (read (c .before .before .before)) .3, search needs)
 
 returns : tie.Need-returns
 unfolding readBack judgeRoom
@@ -60,7 +64,7 @@ read-back-spec =
     (search needs)
     (search needs)
     returns
-    (search needs)
+    store-list-requires
     (search needs)
     (search needs)
     returns-2

@@ -20,14 +20,14 @@ use Rattle.list.proofs.own_list.store_item.Tie as tie
 returns : tie.Need-returns
 returns c =
     let start = c .before .before .before .before .before in
-    let none : rowIn (start .args .rec .now) ≡ Missing = sym (c .before .before .row-in .ensures) ∙ c .enum-told .given .1 in
-    (rw none (omega arith), rw (no-item _ none) (sym (put-nothing (start .args .at) (start .args .out .now))))
+    let none : rowIn (start .args .flow) (start .args .rec .now) ≡ Missing = sym (c .before .before .row-in .ensures) ∙ c .enum-told .given .1 in
+    (rw none (omega arith), rw (no-item _ _ none) (sym (put-nothing (start .args .at) (start .args .out .now))))
 
 -- the kind of the record's row
 abbrev kind-of : tie.After-known-told → ItemKind
 kind-of c = c .before .kind .given .0 .0
 
-row-so : (c : tie.After-known-told) → rowIn (c .before .before .before .before .before .before .args .rec .now) ≡ Of (kind-of c)
+row-so : (c : tie.After-known-told) → let start = c .before .before .before .before .before .before in rowIn (start .args .flow) (start .args .rec .now) ≡ Of (kind-of c)
 row-so c = sym (c .before .before .before .row-in .ensures) ∙ c .before .kind .given .1
 
 -- there is room for the item
@@ -49,7 +49,7 @@ part-store-body-end c =
 stored :
     (c : tie.After-store-body) → let start = c .before .before .before .before .before .before .before .before .before .before in let from = start .args .at in let out = start .args .out .now in
     putMid (from + 1) (from + 1 + c .before .before .body-length .result - (from + 1)) (set out from (c .before .before .before .letter .result)) (c .store-body .last .1 .1 .0)
-    ≡ put from (listBytes (itemOf (start .args .rec .now))) out
+    ≡ put from (listBytes (itemOf (start .args .flow) (start .args .rec .now))) out
 stored c =
     let known = c .before .before .before .before in
     let kind = kind-of known in
@@ -62,13 +62,13 @@ stored c =
     let size : length body ≡ end - (from + 1) = omega (arith, body-gathered rec (start .pre .0) kind, c .before .before .body-length .ensures) in
     let over : putMid (from + 1) (end - (from + 1)) out (c .store-body .last .1 .1 .0) ≡ put (from + 1) body out = ap (putMid (from + 1) (end - (from + 1)) out) (c .store-body .ensures) ∙ lent-is-put (from + 1) end out body size in
     let fits : from + 1 + bodyLength kind ≤ length (start .args .out .now) = omega (arith, room known) in
-    over ∙ rw (c .before .before .before .letter .ensures) (item-stored rec (start .pre .0) kind (row-so known) from _ fits)
+    over ∙ rw (c .before .before .before .letter .ensures) (item-stored _ rec (start .pre .0) kind (row-so known) from _ fits)
 
 same-length : tie.Need-same-length
 same-length c =
     let start = c .before .before .before .before .before .before .before .before .before .before .before .before in
     let rec = start .args .rec .now in
-    ap length (stored (c .before .before)) ∙ put-length (start .args .at) (listBytes (itemOf rec)) (start .args .out .now) (rw (item-count rec (start .pre .0)) (start .pre .1))
+    ap length (stored (c .before .before)) ∙ put-length (start .args .at) (listBytes (itemOf (start .args .flow) rec)) (start .args .out .now) (rw (item-count _ rec (start .pre .0)) (start .pre .1))
 
 returns-2 : tie.Need-returns-2
 returns-2 c =

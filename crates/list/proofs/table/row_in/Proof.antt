@@ -17,10 +17,10 @@ abbrev test : List ℕ → ItemKind → Bool
 test rec k = hasType (recordOf k) rec
 
 abbrev Inv-loop : tie.InvT-loop
-Inv-loop rec i₀ i = Decides (test rec) i
+Inv-loop rec flow i₀ i = Decides (test rec) flow i
 
 abbrev μ-loop : tie.MeasureT-loop
-μ-loop rec i₀ i = 10 - i
+μ-loop rec flow i₀ i = 10 - i
 
 loop-holds : tie.Need-loop-holds Inv-loop μ-loop
 loop-holds c = refl
@@ -31,7 +31,7 @@ returns c =
     let rec = at .before .before .args .rec .now in
     let kind = c .before .before .before .kind-at in
     let passes : test rec (kind .result) ≡ true = sym (c .before .has-type .ensures ∙ ap (λ (k : RecordKind). hasType k rec) (c .before .before .record-of .ensures)) ∙ c .if1 .taken in
-    found (test rec) (at .loop .i) (omega arith) (kind .ensures) (at .loop .inv) passes
+    found (test rec) _ (at .loop .i) (omega arith) (kind .ensures) (at .loop .inv) passes
 
 loop-again : tie.Need-loop-again Inv-loop μ-loop
 loop-again c =
@@ -39,10 +39,10 @@ loop-again c =
     let rec = at .before .before .args .rec .now in
     let kind = c .before .before .before .kind-at in
     let fails : test rec (kind .result) ≡ false = sym (c .before .has-type .ensures ∙ ap (λ (k : RecordKind). hasType k rec) (c .before .before .record-of .ensures)) ∙ c .if1 .left in
-    next (test rec) (at .loop .i) (omega arith) (kind .ensures) (at .loop .inv) fails
+    next (test rec) _ (at .loop .i) (omega arith) (kind .ensures) (at .loop .inv) fails
 
 returns-2 : tie.Need-returns-2 Inv-loop μ-loop
-returns-2 c = ended (test (c .before .before .before .args .rec .now)) (c .before .loop .i) (c .loop-test .left) (c .before .loop .inv)
+returns-2 c = ended (test (c .before .before .before .args .rec .now)) _ (c .before .loop .i) (c .loop-test .left) (c .before .loop .inv)
 
 pub row-in-spec : {M : Type 1} → statement M
 row-in-spec =

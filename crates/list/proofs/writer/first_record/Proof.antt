@@ -1,12 +1,11 @@
 -- `list::first_record` meets its contract. Assumes nothing.
 use Prim.Native.Nat.{_+_, _-_, _≤_}
-use mathlib.Core.List.{[]}
 use mathlib.Core.Path.{_≡_, sym, _∙_}
 use native.Mathlib.Omega.{arith}
 use lib.ListN.{length}
 use borrow.Author.Needs.{needs}
 use Rattle.sequences.specs.Part.{part}
-use Rattle.list.specs.Encode.{encodeItem}
+use Rattle.list.specs.Encode.{noHeader, encodeItem}
 use Rattle.list.specs.Items.{item, itemsIn}
 use Rattle.list.specs.Table.{bodyLength}
 use Rattle.list.proofs.Parsing.{next-kind, Next, next-item}
@@ -38,7 +37,7 @@ returns c =
     let list = first .before .before .before .before .args .list .now in
     let kind = first .before .kind-of .result in
     let width : 1 + first .body-length .result - 1 ≡ bodyLength kind = omega (arith, first .body-length .ensures) in
-    c .encode-item .ensures ∙ (λ i. encodeItem (c .before .before .dispositions-with .ensures i) [] (item kind (part 1 (width i) list))) ∙ sym (first-record list kind (next first))
+    c .encode-item .ensures ∙ (λ i. encodeItem (c .before .before .dispositions-with .ensures i) noHeader (item kind (part 1 (width i) list))) ∙ sym (first-record list kind (next first))
 
 pub first-record-spec : {M : Type 1} → statement M
 first-record-spec =

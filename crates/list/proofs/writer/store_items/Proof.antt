@@ -1,6 +1,5 @@
 -- `list::store_items` meets its contract. After each record stored, what is left to store makes the whole of the output. Assumes nothing.
 use Prim.Native.Nat.{ℕ, suc, _+_, _-_, _*_, _≤_}
-use mathlib.Core.Bool.{cond}
 use mathlib.Core.List.{List}
 use mathlib.Core.Path.{_≡_, refl, sym, _∙_, ap, subst}
 use native.Mathlib.Numerals.{add-one}
@@ -9,10 +8,10 @@ use lib.ListN.{length}
 use borrow.Author.Needs.{needs}
 use Rattle.sequences.specs.Part.{put}
 use Rattle.sequences.proofs.Part.{put-length}
-use Rattle.records.specs.Kinds.{heads, opened}
+use Rattle.records.specs.Kinds.{opened}
 use Rattle.records.specs.Limits.{mostRecords}
-use Rattle.list.specs.Encode.{encodeItem, encodeTrailer, trailerFor, encode}
-use Rattle.list.specs.Items.{itemsIn}
+use Rattle.list.specs.Encode.{HeaderMeant, encodeItem, encodeTrailer, bodyMeant, headerAfter, trailerFor, encode}
+use Rattle.list.specs.Items.{item, itemsIn}
 use Rattle.list.specs.Table.{recordOf, bodyLength}
 use Rattle.list.specs.declared.table.ItemKind.{ItemKind}
 use Rattle.list.proofs.OneRecord.{encoded-length}
@@ -23,14 +22,18 @@ use Rattle.list.proofs.writer.store_items.Statement.{statement}
 use Rattle.list.proofs.writer.store_items.Tie as tie
 
 abbrev Inv-loop : tie.InvT-loop
-Inv-loop list out₀ totals header₀ dispositions₀ n₀ at₀ out header dispositions n j =
-    (j ≤ length list) × (suc (length (itemsIn list)) ≤ mostRecords) × (length out ≡ length out₀) × StoringAt list (put 0 (encode (itemsIn list)) out₀) j n dispositions header out
+Inv-loop list out₀ totals meant₀ header₀ dispositions₀ n₀ at₀ out meant header dispositions n j =
+    (j ≤ length list) × (suc (length (itemsIn list)) ≤ mostRecords) × (length out ≡ length out₀) × StoringAt list (put 0 (encode (itemsIn list)) out₀) j n dispositions (record { kind = meant; body = header }) out
 
 abbrev μ-loop : tie.MeasureT-loop
-μ-loop list out₀ totals header₀ dispositions₀ n₀ at₀ out header dispositions n j = length list - j
+μ-loop list out₀ totals meant₀ header₀ dispositions₀ n₀ at₀ out meant header dispositions n j = length list - j
 
 abbrev list-of : tie.At-loop Inv-loop μ-loop → List ℕ
 list-of a = a .before .before .before .before .args .list .now
+
+-- the header meant
+abbrev header-at : tie.At-loop Inv-loop μ-loop → HeaderMeant
+header-at a = record { kind = a .loop .meant; body = a .loop .header .now }
 
 loop-holds : tie.Need-loop-holds Inv-loop μ-loop
 loop-holds c = (omega arith, c .before .before .before .pre .0 .few, refl, storing-begins _ _ (c .before .before .before .pre .0) (c .before .before .before .pre .1 .0))
@@ -83,12 +86,12 @@ add-place c = omega (arith, few-so (c .before .before .before .before .before .b
 
 -- the record that is built is the item's
 abbrev record-of : tie.At-loop Inv-loop μ-loop → ItemKind → List ℕ
-record-of a k = encodeItem (a .loop .dispositions + opened (recordOf k)) (a .loop .header .now) (itemAt (list-of a) (a .loop .at) k)
+record-of a k = encodeItem (a .loop .dispositions + opened (recordOf k)) (header-at a) (itemAt (list-of a) (a .loop .at) k)
 
 built : (c : tie.After-encode-item Inv-loop μ-loop) → c .encode-item .result ≡ record-of (c .before .before .before .before .before .before .before) (c .before .before .before .before .kind-of .result)
 built c =
     let l = c .before .before .before .before .before .before .before in
-    turn-record (turn-so (c .before .before .before)) (l .loop .dispositions) (c .before .dispositions-with .result) (l .loop .header .now) (c .encode-item .result) (c .before .dispositions-with .ensures) (c .encode-item .ensures)
+    turn-record (turn-so (c .before .before .before)) (l .loop .dispositions) (c .before .dispositions-with .result) (header-at l) (c .encode-item .result) (c .before .dispositions-with .ensures) (c .encode-item .ensures)
 
 sized : (c : tie.After-encode-item Inv-loop μ-loop) → length (c .encode-item .result) ≡ 120
 sized c =
@@ -97,7 +100,7 @@ sized c =
     let kind = c .before .before .before .before .kind-of in
     let k = kind .result in
     let proper = next-proper (list-of l) (l .loop .n) (l .loop .at) k (s .left) (next-stored s (c .before .before .before .before .before .before .loop-test .taken) k (kind .ensures)) in
-    ap length (built c) ∙ encoded-length (l .loop .dispositions + opened (recordOf k)) (l .loop .header .now) (itemAt (list-of l) (l .loop .at) k) proper
+    ap length (built c) ∙ encoded-length (l .loop .dispositions + opened (recordOf k)) (header-at l) (itemAt (list-of l) (l .loop .at) k) proper
 
 -- there is room for one more record, and for EF after the last
 room-so : (a : tie.At-loop Inv-loop μ-loop) → 120 * a .loop .n + 120 ≤ length (a .loop .out)
@@ -107,29 +110,30 @@ place-requires : tie.Need-place-requires Inv-loop μ-loop
 place-requires c κs = (omega arith, omega (arith, sized (c .before .before), room-so (c .before .before .before .before .before .before .before .before .before)))
 
 add-n : tie.Need-add-n Inv-loop μ-loop
-add-n c = omega (arith, few-so (c .before .before .before .before .before .before .before .before .before .before .before .before .before) .1)
+add-n c = omega (arith, few-so (c .before .before .before .before .before .before .before .before .before .before .before .before .before .before) .1)
 
 loop-less : tie.Need-loop-less Inv-loop μ-loop
-loop-less c = omega (arith, turn-so (c .before .before .before .before .before .before .before .before .before) .ends, c .before .before .before .before .before .before .before .before .before .before .before .before .loop-test .taken)
+loop-less c = omega (arith, turn-so (c .before .before .before .before .before .before .before .before .before .before) .ends, c .before .before .before .before .before .before .before .before .before .before .before .before .before .loop-test .taken)
 
 loop-again : tie.Need-loop-again Inv-loop μ-loop
 loop-again c =
-    let l = c .before .before .before .before .before .before .before .before .before .before .before .before .before in
+    let l = c .before .before .before .before .before .before .before .before .before .before .before .before .before .before in
     let list = list-of l in
     let i = l .loop .at in
-    let b = c .before .before .before .before .before .before .before .before .before in
+    let b = c .before .before .before .before .before .before .before .before .before .before in
     let t = turn-so b in
     let k = b .before .kind-of .result in
     let end : i + 1 + bodyLength k ≡ i + 1 + b .body-length .result = omega (arith, t .size-so) in
-    let number : l .loop .dispositions + opened (recordOf k) ≡ c .before .before .before .before .before .before .before .dispositions-with .result = sym (c .before .before .before .before .before .before .before .dispositions-with .ensures) in
-    let meant : cond (heads (recordOf k)) (itemAt list i k .body) (l .loop .header .now) ≡ c .header-after .result .now = sym (c .header-after .ensures ∙ ap (λ (body : List ℕ). cond (heads (recordOf k)) body (l .loop .header .now)) (t .body-so)) in
+    let number : l .loop .dispositions + opened (recordOf k) ≡ c .before .before .before .before .before .before .before .before .dispositions-with .result = sym (c .before .before .before .before .before .before .before .before .dispositions-with .ensures) in
+    let body : bodyMeant (l .loop .header .now) (itemAt list i k) ≡ c .body-meant .result .now = sym (c .body-meant .ensures ∙ ap (λ (body : List ℕ). bodyMeant (l .loop .header .now) (item k body)) (t .body-so)) in
+    let meant : headerAfter (header-at l) (itemAt list i k) ≡ record { kind = c .before .kind-meant .result; body = c .body-meant .result .now } = λ j. record { kind = sym (c .before .kind-meant .ensures) j; body = body j } in
     let index : 120 * l .loop .n + 1 - 1 ≡ 120 * l .loop .n = omega arith in
-    let stored : c .before .before .before .place .last .0 ≡ put (120 * l .loop .n) (record-of l k) (l .loop .out) = c .before .before .before .place .ensures ∙ (λ j. put (index j) (built (c .before .before .before .before .before .before) j) (l .loop .out)) in
-    let size : length (record-of l k) ≡ 120 = ap length (sym (built (c .before .before .before .before .before .before))) ∙ sized (c .before .before .before .before .before .before) in (
+    let stored : c .before .before .before .before .place .last .0 ≡ put (120 * l .loop .n) (record-of l k) (l .loop .out) = c .before .before .before .before .place .ensures ∙ (λ j. put (index j) (built (c .before .before .before .before .before .before .before) j) (l .loop .out)) in
+    let size : length (record-of l k) ≡ 120 = ap length (sym (built (c .before .before .before .before .before .before .before))) ∙ sized (c .before .before .before .before .before .before .before) in (
       omega (arith, t .ends),
       l .loop .inv .1,
       ap length stored ∙ put-length (120 * l .loop .n) (record-of l k) (l .loop .out) (omega (arith, room-so l)) ∙ l .loop .inv .2,
-      subst (λ (A : Type 0). A) (λ j. StoringAt list (put 0 (encode (itemsIn list)) (l .before .before .before .before .args .out .now)) (end j) (sym (add-one (l .loop .n)) j) (number j) (meant j) (sym stored j)) (storing-on (l .loop .inv .3) (c .before .before .before .before .before .before .before .before .before .before .before .before .loop-test .taken) k (b .before .kind-of .ensures)),
+      subst (λ (A : Type 0). A) (λ j. StoringAt list (put 0 (encode (itemsIn list)) (l .before .before .before .before .args .out .now)) (end j) (sym (add-one (l .loop .n)) j) (number j) (meant j) (sym stored j)) (storing-on (l .loop .inv .3) (c .before .before .before .before .before .before .before .before .before .before .before .before .before .loop-test .taken) k (b .before .kind-of .ensures)),
     )
 
 mul-place-2 : tie.Need-mul-place-2 Inv-loop μ-loop
@@ -161,7 +165,7 @@ returns c =
     let l = c .before .before .before .before .before .before .before in
     let pre = l .before .before .before .before .pre in
     let ends = storing-ends (l .loop .inv .3) (c .before .before .before .before .before .before .loop-test .left) in
-    let trailer : c .before .before .before .before .before .encode-trailer .result ≡ trailerFor (itemsIn (list-of l)) = c .before .before .before .before .before .encode-trailer .ensures ∙ (λ j. encodeTrailer (ends .1 j) (pre .1 .1 j)) in
+    let trailer : c .before .before .before .before .before .encode-trailer .result ≡ trailerFor (itemsIn (list-of l)) = c .before .before .before .before .before .encode-trailer .ensures ∙ (λ j. encodeTrailer (ends .1 j .body) (pre .1 .1 j)) in
     last-stored (c .before .before) ∙ ap (λ (rec : List ℕ). put (120 * l .loop .n) rec (l .loop .out)) trailer ∙ ends .2
 
 pub store-items-spec : {M : Type 1} → statement M
@@ -189,6 +193,7 @@ store-items-spec =
     add-place
     (search needs)
     place-requires
+    (search needs)
     (search needs)
     add-n
     loop-less

@@ -54,13 +54,14 @@ returns-11 c = c .judge-control .ensures ∙ of-kind _ _ (c .before .enum-told10
 
 returns-12 : tie.Need-returns-12
 unfolding checks
-returns-12 c = c .judge-trailer .ensures ∙ of-kind _ _ (c .before .enum-told11 .given .1) (c .before .before .before .if1 .left)
+returns-12 c = rw (c .before .or-requests .ensures) at (c .judge-trailer .ensures) ∙ of-kind _ _ (c .before .before .enum-told11 .given .1) (c .before .before .before .before .if1 .left)
 
 pub judge-spec : {M : Type 1} → statement M
 judge-spec =
     tie.close
     (tie.spec
     returns
+    (search needs)
     (search needs)
     (search needs)
     (search needs)
