@@ -19,15 +19,6 @@ pub(crate) fn place_number(flow: &mut [u8], r: u64, first: usize, last: usize, v
     records::write_number(&mut flow[at..at + 120], first, last, value);
 }
 
-// The seven digits of a number, as they stand at 4-10 of a record.
-pub(crate) fn seven_digits(value: u64) -> [u8; 7]
-    ensures { λ r. ⌜ r ≡ digits 7 value ⌝ }
-{
-    let mut out = [b'0'; 7];
-    fields::write_digits(&mut out, value);
-    out
-}
-
 // Puts seven digits in the flow, from an index on.
 pub(crate) fn place_seven(flow: &mut [u8], at: usize, shown: &[u8; 7])
     requires { ⌜ at + 7 ≤ length (now flow) ⌝ }

@@ -122,8 +122,8 @@ pub detail-heads : (k : RecordKind) → Detail k → heads k ≡ false
 detail-heads = each-detail (λ (k : RecordKind). heads k ≡ false) (refl, (refl, (refl, (refl, (refl, (refl, (refl, (refl, tt))))))))
 
 -- what a record that is neither a 14 nor header nor trailer has beside its type and its body
-detail-supplied : (q : FlowKind) (k : RecordKind) (n : ℕ) (abi : List ℕ) → Detail k → supplied (role k) q n abi ≡ place 4 (digits 7 n) ∷ []
-detail-supplied q k n abi = each-detail (λ (l : RecordKind). supplied (role l) q n abi ≡ place 4 (digits 7 n) ∷ []) (refl, (refl, (refl, (refl, (refl, (refl, (refl, (refl, tt)))))))) k
+detail-supplied : (q : FlowKind) (k : RecordKind) (n : ℕ) (abi : List ℕ) → Detail k → supplied (role k) q (digits 7 n) abi ≡ place 4 (digits 7 n) ∷ []
+detail-supplied q k n abi = each-detail (λ (l : RecordKind). supplied (role l) q (digits 7 n) abi ≡ place 4 (digits 7 n) ∷ []) (refl, (refl, (refl, (refl, (refl, (refl, (refl, (refl, tt)))))))) k
 
 type-fits : (k : RecordKind) → Fits (place 2 (typeOf k))
 type-fits = each-kind (λ (k : RecordKind). Fits (place 2 (typeOf k))) (omega arith, (omega arith, (omega arith, (omega arith, (omega arith, (omega arith, (omega arith, (omega arith, (omega arith, (omega arith, (omega arith, tt)))))))))))
@@ -140,9 +140,9 @@ number-again k i j qs fits outside =
 -- the record of a D
 encoded-d :
     (header : HeaderMeant) (it : Item) → it .kind ≡ kindFor (header .kind) R14 → (n : ℕ)
-    → encodeItem n header it ≡ fill (place 2 (typeOf R14) ∷ (supplied Opens (header .kind) n (abiIn (header .body)) ++ bodyPlaced (carried (kindFor (header .kind) R14)) (it .body))) blanks
+    → encodeItem n header it ≡ fill (place 2 (typeOf R14) ∷ (supplied Opens (header .kind) (digits 7 n) (abiIn (header .body)) ++ bodyPlaced (carried (kindFor (header .kind) R14)) (it .body))) blanks
 unfolding encodeItem
-encoded-d header it e n = λ i. fill (place 2 (typeOf (recordOf (e i))) ∷ (supplied (role (recordOf (e i))) (header .kind) n (abiIn (header .body)) ++ bodyPlaced (carried (e i)) (it .body))) blanks
+encoded-d header it e n = λ i. fill (place 2 (typeOf (recordOf (e i))) ∷ (supplied (role (recordOf (e i))) (header .kind) (digits 7 n) (abiIn (header .body)) ++ bodyPlaced (carried (e i)) (it .body))) blanks
 
 -- what a 14 has after its number and before its body: the values that are fixed or go by the kind, and the ABI
 abbrev fixed : HeaderMeant → List Placed
@@ -175,7 +175,7 @@ module _ (i j : ℕ) (header : HeaderMeant) (it : Item) (proper : Proper it) whe
   pub opening-renumbered : recordKind it ≡ R14 → renumbered j (encodeItem i header it) ≡ encodeItem j header it
   unfolding encodeItem
   opening-renumbered e =
-      let told : (n : ℕ) → encodeItem n header it ≡ fill (place 2 (typeOf R14) ∷ place 4 (digits 7 n) ∷ (fixed header ++ placed)) blanks = λ n. ap (λ (k : RecordKind). fill (place 2 (typeOf k) ∷ (supplied (role k) (header .kind) n (abiIn (header .body)) ++ placed)) blanks) e in
+      let told : (n : ℕ) → encodeItem n header it ≡ fill (place 2 (typeOf R14) ∷ place 4 (digits 7 n) ∷ (fixed header ++ placed)) blanks = λ n. ap (λ (k : RecordKind). fill (place 2 (typeOf k) ∷ (supplied (role k) (header .kind) (digits 7 n) (abiIn (header .body)) ++ placed)) blanks) e in
       let outside : All (Outside 3 7) (fixed header) = (inl (omega arith), (inl (omega arith), (inl (omega arith), (inl (omega arith), tt)))) in
       ap (renumbered j) (told i)
       ∙ number-again R14 i j (fixed header ++ placed) (all-append Fits (fixed header) placed (fixed-fits header) placed-fits) (all-append (Outside 3 7) (fixed header) placed outside (placed-outside (ap heads e)))
@@ -222,5 +222,5 @@ module _ (n new : ℕ) (header : HeaderMeant) (it : Item) (proper : Proper it) (
       let rest : drop 13 (drop 6 body) ≡ drop 13 (drop 6 (other .body)) = drop-drop 13 6 body ∙ sym (drop-drop 13 6 (other .body) ∙ drop-put 6 (digits 13 new) body within (6 + 13) (omega arith)) in
       ap (put 33 (digits 13 new)) (encoded-d header it e n)
       ∙ fill-again before 34 amount (digits 13 new) after blanks before-fits fits (omega arith) refl (thirteen ∙ sym own) outside
-      ∙ (λ i. fill (place 2 (typeOf R14) ∷ (supplied Opens (header .kind) n (abiIn (header .body)) ++ (place 23 (date i) ∷ place 34 (cents i) ∷ bodyPlaced ((53 to 69) ∷ (92 to 113) ∷ []) (rest i)))) blanks)
+      ∙ (λ i. fill (place 2 (typeOf R14) ∷ (supplied Opens (header .kind) (digits 7 n) (abiIn (header .body)) ++ (place 23 (date i) ∷ place 34 (cents i) ∷ bodyPlaced ((53 to 69) ∷ (92 to 113) ∷ []) (rest i)))) blanks)
       ∙ sym (encoded-d header other e n)

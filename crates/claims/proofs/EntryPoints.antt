@@ -11,6 +11,7 @@ use Rattle.records.proofs.judge.Met.{met as record-judge-met}
 use Rattle.records.proofs.passes_quick_test.Met.{met as passes-quick-test-met}
 use Rattle.records.proofs.bad_byte.Met.{met as bad-byte-met}
 use Rattle.records.proofs.field.Met.{met as field-met}
+use Rattle.records.proofs.seven_digits.Met.{met as seven-digits-met}
 use Rattle.records.proofs.write_number.Met.{met as write-number-met}
 use Rattle.records.proofs.type_of.Met.{met as type-of-met}
 use Rattle.records.proofs.has_type.Met.{met as has-type-met}
@@ -67,6 +68,7 @@ entry-points =
       passes-quick-test = (λ M. passes-quick-test-met, λ κs a g w. refl);
       bad-byte = (λ M. bad-byte-met, λ κs a g w. refl);
       field = (λ M. field-met, λ κs a g w. refl);
+      seven-digits = (λ M. seven-digits-met, λ κs a g w. refl);
       write-number = (λ M. write-number-met, λ κs a g w. refl);
       type-of = (λ M. type-of-met, λ κs a g w. refl);
       has-type = (λ M. has-type-met, λ κs a g w. refl);

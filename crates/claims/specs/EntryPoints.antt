@@ -23,6 +23,8 @@ use Rattle.records.proofs.bad_byte.Reads.{requires as bad-byte-requires}
 use Rattle.records.proofs.bad_byte.Statement.{statement as bad-byte-statement}
 use Rattle.records.proofs.field.Reads.{requires as field-requires}
 use Rattle.records.proofs.field.Statement.{statement as field-statement}
+use Rattle.records.proofs.seven_digits.Reads.{requires as seven-digits-requires}
+use Rattle.records.proofs.seven_digits.Statement.{statement as seven-digits-statement}
 use Rattle.records.proofs.write_number.Reads.{requires as write-number-requires}
 use Rattle.records.proofs.write_number.Statement.{statement as write-number-statement}
 use Rattle.records.proofs.type_of.Reads.{requires as type-of-requires}
@@ -124,6 +126,7 @@ pub record EntryPoints : Type 2 where
   pub passes-quick-test : EntryPoint passes-quick-test-statement passes-quick-test-requires
   pub bad-byte : EntryPoint bad-byte-statement bad-byte-requires
   pub field : EntryPoint field-statement field-requires
+  pub seven-digits : EntryPoint seven-digits-statement seven-digits-requires
   pub write-number : EntryPoint write-number-statement write-number-requires
   pub type-of : EntryPoint type-of-statement type-of-requires
   pub has-type : EntryPoint has-type-statement has-type-requires

@@ -14,6 +14,7 @@ use Rattle.sequences.specs.Sum.{sum}
 use Rattle.sequences.proofs.Below.{allBelow, below}
 use Rattle.sequences.proofs.Part.{part-length, part-getD}
 use Rattle.fields.proofs.Decimal.{written-length}
+use Rattle.fields.specs.Digits.{digits}
 use Rattle.records.specs.Checked.{checked, Alike}
 use Rattle.records.specs.Field.{Span, _to_, width, field}
 use Rattle.records.specs.Kinds.{Role, Heads, Opens, GoesOn, Closes, role, byRole}
@@ -93,7 +94,7 @@ suppliedSpans Opens = (4 to 10) ∷ (29 to 33) ∷ (47 to 47) ∷ (48 to 52) ∷
 suppliedSpans GoesOn = (4 to 10) ∷ []
 suppliedSpans Closes = []
 
-pub supplied-spanned : (q : FlowKind) (n : ℕ) (abi : List ℕ) (r : Role) → (byRole r false true false false ≡ true → length abi ≡ 5) → Spanned (supplied r q n abi) (suppliedSpans r)
+pub supplied-spanned : (q : FlowKind) (n : ℕ) (abi : List ℕ) (r : Role) → (byRole r false true false false ≡ true → length abi ≡ 5) → Spanned (supplied r q (digits 7 n) abi) (suppliedSpans r)
 supplied-spanned q n abi Heads five = ((refl, refl), tt)
 supplied-spanned q n abi Opens five = ((refl, written-length 7 n), ((refl, causale-length q), ((refl, sign-length q), ((refl, five refl), ((refl, refl), tt)))))
 supplied-spanned q n abi GoesOn five = ((refl, written-length 7 n), tt)

@@ -13,6 +13,7 @@ use Rattle.sequences.specs.All.{All}
 use Rattle.sequences.specs.Part.{part, put}
 use Rattle.sequences.proofs.All.{all-append}
 use Rattle.sequences.proofs.Part.{put-append, put-length, part-length}
+use Rattle.fields.specs.Digits.{digits}
 use Rattle.records.specs.Checks.{isPresent}
 use Rattle.records.specs.Context.{Header}
 use Rattle.records.specs.Field.{_to_, field}
@@ -29,7 +30,7 @@ use Rattle.flow.specs.declared.walk.Walk.{Walk}
 use Rattle.flow.proofs.Cut.{Whole, flatten-length}
 use Rattle.flow.proofs.Exact.{right-typed}
 use Rattle.flow.proofs.Reading.{Reading, one-at-most, begin, go-on, refuse, finish}
-use Rattle.list.specs.Encode.{carriedAt, HeaderMeant, noHeader, headerAfter, lastHeader, listTotals, encodeItem, encodeFrom, recordsFor, trailerFor, encode}
+use Rattle.list.specs.Encode.{carriedAt, HeaderMeant, noHeader, headerAfter, lastHeader, listTotals, encodeWith, encodeItem, encodeFrom, recordsFor, trailerFor, encode}
 use Rattle.list.specs.Items.{Item, item, recordKind, isD, Proper, items, itemsFrom, itemsIn, Listed}
 use Rattle.list.specs.Table.{recordOf, carried, bodyLength, rowOf}
 use Rattle.list.specs.Write.{closed, judgeItems}
@@ -71,9 +72,10 @@ turn list n i k is next size sized =
 
 -- so the record that is built is the item's
 pub turn-record :
-    {list : List ℕ} {i : ℕ} {k : ItemKind} {size : ℕ} → Turn list i k size → (dispositions number : ℕ) (header : HeaderMeant) (rec : List ℕ) → number ≡ dispositions + opened (recordOf k)
-    → rec ≡ encodeItem number header (item k (part (i + 1) (i + 1 + size - (i + 1)) list)) → rec ≡ encodeItem (dispositions + opened (recordOf k)) header (itemAt list i k)
-turn-record {k = k} t dispositions number header rec counted built = built ∙ (λ j. encodeItem (counted j) header (item k (t .body-so j)))
+    {list : List ℕ} {i : ℕ} {k : ItemKind} {size : ℕ} → Turn list i k size → (dispositions : ℕ) (number : List ℕ) (header : HeaderMeant) (rec : List ℕ) → number ≡ digits 7 (dispositions + opened (recordOf k))
+    → rec ≡ encodeWith number header (item k (part (i + 1) (i + 1 + size - (i + 1)) list)) → rec ≡ encodeItem (dispositions + opened (recordOf k)) header (itemAt list i k)
+unfolding encodeItem
+turn-record {k = k} t dispositions number header rec shown built = built ∙ (λ j. encodeWith (shown j) header (item k (t .body-so j)))
 
 -- a record that is found right is of the item's kind, and its company code is the body's
 module _ (number : ℕ) (header : HeaderMeant) (it : Item) (proper : Proper it) where

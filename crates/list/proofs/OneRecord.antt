@@ -53,13 +53,13 @@ module _ (q : FlowKind) (n : ℕ) (abi : List ℕ) (short : length abi ≤ 5) wh
   number-fits : 3 + length (digits 7 n) ≤ 120
   number-fits = omega (arith, number-length)
 
-  supplied-fits : (r : Role) → All Fits (supplied r q n abi)
+  supplied-fits : (r : Role) → All Fits (supplied r q (digits 7 n) abi)
   supplied-fits Heads = (omega arith, tt)
   supplied-fits Opens = (number-fits, (omega (arith, causale-length q), (omega (arith, sign-length q), (omega arith, (omega arith, tt)))))
   supplied-fits GoesOn = (number-fits, tt)
   supplied-fits Closes = tt
 
-supplied-outside : (q : FlowKind) (n : ℕ) (abi : List ℕ) (r : Role) → All (Outside 1 2) (supplied r q n abi)
+supplied-outside : (q : FlowKind) (n : ℕ) (abi : List ℕ) (r : Role) → All (Outside 1 2) (supplied r q (digits 7 n) abi)
 supplied-outside q n abi Heads = (inl (omega arith), tt)
 supplied-outside q n abi Opens = (inl (omega arith), (inl (omega arith), (inl (omega arith), (inl (omega arith), (inl (omega arith), tt)))))
 supplied-outside q n abi GoesOn = (inl (omega arith), tt)
@@ -71,10 +71,10 @@ record NumberFirst (n : ℕ) (ps : List Placed) : Type 0 where
   first : ps ≡ place 4 (digits 7 n) ∷ others
   outside : All (Outside 3 7) others
 
-supplied-number : (q : FlowKind) (n : ℕ) (abi : List ℕ) (k : ItemKind) → heads (recordOf k) ≡ false → NumberFirst n (supplied (role (recordOf k)) q n abi)
+supplied-number : (q : FlowKind) (n : ℕ) (abi : List ℕ) (k : ItemKind) → heads (recordOf k) ≡ false → NumberFirst n (supplied (role (recordOf k)) q (digits 7 n) abi)
 supplied-number q n abi k e = by (role (recordOf k)) e (item-open k)
   where
-    by : (r : Role) → byRole r true false false false ≡ false → byRole r false false false true ≡ false → NumberFirst n (supplied r q n abi)
+    by : (r : Role) → byRole r true false false false ≡ false → byRole r false false false true ≡ false → NumberFirst n (supplied r q (digits 7 n) abi)
     by Heads head last = absurd (true≢false head)
     by Opens head last = record { others = _; first = refl; outside = (inl (omega arith), (inl (omega arith), (inl (omega arith), (inl (omega arith), tt)))) }
     by GoesOn head last = record { others = []; first = refl; outside = tt }
@@ -112,7 +112,7 @@ module _ (n : ℕ) (header : HeaderMeant) (it : Item) (proper : Proper it) where
 
   -- what is placed after the type
   abbrev own : List Placed
-  own = supplied (role own-kind) (header .kind) n (abiIn (header .body))
+  own = supplied (role own-kind) (header .kind) (digits 7 n) (abiIn (header .body))
 
   abbrev body : List Placed
   body = bodyPlaced (carried kind) (it .body)

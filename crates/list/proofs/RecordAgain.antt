@@ -61,13 +61,13 @@ module _ (q : FlowKind) (n : ℕ) (bank abi rec : List ℕ) (same : bank ≡ abi
   abi-length : field 48 52 rec ≡ bank → length abi ≡ 5
   abi-length e = ap (λ (l : List ℕ). length l) (sym (e ∙ same)) ∙ part-length 47 5 rec (omega (arith, whole))
 
-  disposition-stands : KindRules q rec → MemberRules R14 bank n rec → All (Matches rec) (supplied Opens q n abi)
+  disposition-stands : KindRules q rec → MemberRules R14 bank n rec → All (Matches rec) (supplied Opens q (digits 7 n) abi)
   disposition-stands rules m =
       let bank-said = m .others .bank .1 in
       let row = kind-rules q rec .0 rules in
       (number-stands (m .number-said), (stands rec 29 5 (causale q) (causale-length q) (row .0), (stands rec 47 1 (sign q) (sign-length q) (row .1), (stands rec 48 5 abi (abi-length bank-said) (bank-said ∙ same), (m .others .currency-code, tt)))))
 
-  member-stands : (k : RecordKind) → (heads k ≡ true → ⊥) → (opens k ≡ true → KindRules q rec) → MemberRules k bank n rec → All (Matches rec) (supplied (role k) q n abi)
+  member-stands : (k : RecordKind) → (heads k ≡ true → ⊥) → (opens k ≡ true → KindRules q rec) → MemberRules k bank n rec → All (Matches rec) (supplied (role k) q (digits 7 n) abi)
   member-stands Im f r m = absurd (f refl)
   member-stands R14 f r m = disposition-stands (r refl) m
   member-stands R16 f r m = (number-stands (m .number-said), tt)
@@ -85,12 +85,12 @@ module _ (q : FlowKind) (n : ℕ) (bank abi rec : List ℕ) (same : bank ≡ abi
 
 -- what is supplied to a record, by the rules that it keeps
 pub record Supplied (k : RecordKind) (q : FlowKind) (n : ℕ) (abi rec : List ℕ) : Type 0 where
-  pub places : All (Matches rec) (supplied (role k) q n abi)
+  pub places : All (Matches rec) (supplied (role k) q (digits 7 n) abi)
   pub bank : opens k ≡ true → length abi ≡ 5
 
 header-supplied : (k : RecordKind) (q : FlowKind) (n : ℕ) (abi rec : List ℕ) → k ≡ Im → field 114 114 rec ≡ currency → Supplied k q n abi rec
 header-supplied k q n abi rec e code =
-    record { places = subst (λ (l : RecordKind). All (Matches rec) (supplied (role l) q n abi)) (sym e) (code, tt); bank = λ o. absurd (true≢false (sym o ∙ ap opens e)) }
+    record { places = subst (λ (l : RecordKind). All (Matches rec) (supplied (role l) q (digits 7 n) abi)) (sym e) (code, tt); bank = λ o. absurd (true≢false (sym o ∙ ap opens e)) }
 
 -- a record that an item of kind k encodes, right at its place; `header` is the header meant, whose ABI is the header's, and whose kind that
 -- of a 14
@@ -138,15 +138,15 @@ module _
             }
 
     abbrev placed : List Placed
-    placed = place 2 (typeOf kind) ∷ (supplied (role kind) flow (dispositionsWith w kind) abi ++ bodyPlaced (carried k) (gather (carried k) rec))
+    placed = place 2 (typeOf kind) ∷ (supplied (role kind) flow (digits 7 (dispositionsWith w kind)) abi ++ bodyPlaced (carried k) (gather (carried k) rec))
 
     all-stand : All (Matches rec) placed
     all-stand =
         let type : part 1 (length (typeOf kind)) rec ≡ typeOf kind = ap (λ (n : ℕ). part 1 n rec) (type-length kind) ∙ right-at .formed .type in
-        (type, all-append (Matches rec) (supplied (role kind) flow (dispositionsWith w kind) abi) (bodyPlaced (carried k) (gather (carried k) rec)) (supplied-so .places) (gather-matches (carried k) rec (carried-within k) whole))
+        (type, all-append (Matches rec) (supplied (role kind) flow (digits 7 (dispositionsWith w kind)) abi) (bodyPlaced (carried k) (gather (carried k) rec)) (supplied-so .places) (gather-matches (carried k) rec (carried-within k) whole))
 
     all-spanned : Spanned placed (writtenSpans k)
-    all-spanned = ((refl, type-length kind), spanned-append (supplied (role kind) flow (dispositionsWith w kind) abi) (bodyPlaced (carried k) (gather (carried k) rec)) _ (carried k) (supplied-spanned flow (dispositionsWith w kind) abi (role kind) (supplied-so .bank)) (body-spanned (carried k) (gather (carried k) rec) (gather-length (carried k) rec (carried-within k) whole)))
+    all-spanned = ((refl, type-length kind), spanned-append (supplied (role kind) flow (digits 7 (dispositionsWith w kind)) abi) (bodyPlaced (carried k) (gather (carried k) rec)) _ (carried k) (supplied-spanned flow (dispositionsWith w kind) abi (role kind) (supplied-so .bank)) (body-spanned (carried k) (gather (carried k) rec) (gather-length (carried k) rec (carried-within k) whole)))
 
     all-agree : (j : ℕ) (ps : List Placed) → All (Matches rec) ps → All (Agrees j rec) ps
     all-agree j [] location = tt

@@ -49,13 +49,13 @@ abiIn header = carriedAt (H Requests) (9 to 13) header
 abbrev pub copiedIn : List ℕ → List ℕ
 copiedIn header = carriedAt (H Requests) (4 to 45) header
 
--- what a record has beside its type and the carried bytes, by what it does in a flow of the kind: "its number", which IM has not, "the fixed
--- 07000, -, E", or a recall's 07100 and +, and "the ABI copied from H to 14 at 48-52"; EF is no item's
-abbrev pub supplied : Role → FlowKind → ℕ → List ℕ → List Placed
-supplied Heads q n abi = place 114 currency ∷ []
-supplied Opens q n abi = place 4 (digits 7 n) ∷ place 29 (causale q) ∷ place 47 (sign q) ∷ place 48 abi ∷ place 120 currency ∷ []
-supplied GoesOn q n abi = place 4 (digits 7 n) ∷ []
-supplied Closes q n abi = []
+-- what a record has beside its type and the carried bytes, by what it does in a flow of the kind: "its number", which IM has not, by its seven
+-- digits, "the fixed 07000, -, E", or a recall's 07100 and +, and "the ABI copied from H to 14 at 48-52"; EF is no item's
+abbrev pub supplied : Role → FlowKind → List ℕ → List ℕ → List Placed
+supplied Heads q number abi = place 114 currency ∷ []
+supplied Opens q number abi = place 4 number ∷ place 29 (causale q) ∷ place 47 (sign q) ∷ place 48 abi ∷ place 120 currency ∷ []
+supplied GoesOn q number abi = place 4 number ∷ []
+supplied Closes q number abi = []
 
 -- "the carried bytes": the body over the spans, in order
 unfoldable pub bodyPlaced : List Span → List ℕ → List Placed
@@ -70,11 +70,14 @@ pub record HeaderMeant : Type 0 where
 abbrev pub noHeader : HeaderMeant
 noHeader = record { kind = Requests; body = [] }
 
--- the record of an item, with its number and the header meant
-unfoldable pub encodeItem : ℕ → HeaderMeant → Item → List ℕ
-encodeItem n header it =
+-- the record of an item, with the seven digits of its number and the header meant
+abbrev pub encodeWith : List ℕ → HeaderMeant → Item → List ℕ
+encodeWith number header it =
     let k = recordKind it in
-    fill (place 2 (typeOf k) ∷ (supplied (role k) (header .kind) n (abiIn (header .body)) ++ bodyPlaced (carried (it .kind)) (it .body))) blanks
+    fill (place 2 (typeOf k) ∷ (supplied (role k) (header .kind) number (abiIn (header .body)) ++ bodyPlaced (carried (it .kind)) (it .body))) blanks
+
+unfoldable pub encodeItem : ℕ → HeaderMeant → Item → List ℕ
+encodeItem n header it = encodeWith (digits 7 n) header it
 
 -- EF: 4-45 of the header, the counts, the sum at the place of the kind and zeros at the other, "E"
 abbrev pub totalsPlaced : Totals → List Placed

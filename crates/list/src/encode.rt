@@ -5,7 +5,7 @@ ghost use mathlib.Core.Path.{_≡_};
 ghost use lib.ListN.{length};
 ghost use Rattle.sequences.specs.Part.{put};
 ghost use Rattle.records.specs.Kinds.{typeOf, role};
-ghost use Rattle.list.specs.Encode.{fill, supplied, bodyPlaced, encodeItem, encodeTrailer, totalsPlaced, trailerPlaced};
+ghost use Rattle.list.specs.Encode.{fill, supplied, bodyPlaced, encodeWith, encodeTrailer, totalsPlaced, trailerPlaced};
 ghost use Rattle.list.specs.Encode.{place as Encode·place};
 ghost use Rattle.list.specs.Items.{item};
 ghost use Rattle.list.specs.Table.{recordOf, bodyLength};
@@ -22,17 +22,17 @@ use records::field;
 use records::total_at;
 use records::write_number;
 
-// The record of an item with the number; `flow` and `header` are the kind and the body of the latest H
-// or Q before it, or requests and empty.
+// The record of an item with the seven digits of its number; `flow` and `header` are the kind and the
+// body of the latest H or Q before it, or requests and empty.
 pub(crate) fn encode_item(
     kind: ItemKind,
-    number: u64,
+    number: &[u8; 7],
     flow: FlowKind,
     header: &[u8],
     body: &[u8],
 ) -> [u8; 120]
     requires { ⌜ length (now body) ≡ bodyLength kind ⌝ }
-    ensures { λ r. ⌜ r ≡ encodeItem number
+    ensures { λ r. ⌜ r ≡ encodeWith (now (number .entry))
         (record { kind = flow; body = now (header .entry) })
         (item kind (now (body .entry))) ⌝ }
 {
@@ -43,12 +43,19 @@ pub(crate) fn encode_item(
 }
 
 // Its type, what is supplied, and the carried bytes.
-fn fill_item(rec: &mut [u8], kind: ItemKind, number: u64, flow: FlowKind, abi: &[u8], body: &[u8])
+fn fill_item(
+    rec: &mut [u8],
+    kind: ItemKind,
+    number: &[u8; 7],
+    flow: FlowKind,
+    abi: &[u8],
+    body: &[u8],
+)
     requires { ⌜ length (now rec) ≡ 120 ⌝ }
     requires { ⌜ length (now abi) ≤ 5 ⌝ }
     requires { ⌜ length (now body) ≡ bodyLength kind ⌝ }
     ensures { λ _. ⌜ now (rec .exit) ≡ fill
-        (Encode·place 2 (typeOf (recordOf kind)) ∷ (supplied (role (recordOf kind)) flow number (now (abi .entry)) ++ bodyPlaced (Table·carried kind) (now (body .entry))))
+        (Encode·place 2 (typeOf (recordOf kind)) ∷ (supplied (role (recordOf kind)) flow (now (number .entry)) (now (abi .entry)) ++ bodyPlaced (Table·carried kind) (now (body .entry))))
         (now (rec .entry)) ⌝ }
 {
     let own = record_of(kind);
@@ -59,15 +66,15 @@ fn fill_item(rec: &mut [u8], kind: ItemKind, number: u64, flow: FlowKind, abi: &
 }
 
 // The number, the fixed values, those of the kind of flow and the ABI, to a record of the kind.
-fn supply(rec: &mut [u8], kind: RecordKind, number: u64, flow: FlowKind, abi: &[u8])
+fn supply(rec: &mut [u8], kind: RecordKind, number: &[u8; 7], flow: FlowKind, abi: &[u8])
     requires { ⌜ length (now rec) ≡ 120 ⌝ }
     requires { ⌜ length (now abi) ≤ 5 ⌝ }
-    ensures { λ _. ⌜ now (rec .exit) ≡ fill (supplied (role kind) flow number (now (abi .entry))) (now (rec .entry)) ⌝ }
+    ensures { λ _. ⌜ now (rec .exit) ≡ fill (supplied (role kind) flow (now (number .entry)) (now (abi .entry))) (now (rec .entry)) ⌝ }
 {
     match kind {
         RecordKind::Im => place(rec, 114, &CURRENCY),
         RecordKind::R14 => {
-            write_number(rec, 4, 10, number);
+            place(rec, 4, number);
             let causale = records::causale_of(flow);
             place(rec, 29, &causale);
             let sign = records::sign_of(flow);
@@ -83,7 +90,7 @@ fn supply(rec: &mut [u8], kind: RecordKind, number: u64, flow: FlowKind, abi: &[
         | RecordKind::R50
         | RecordKind::R59
         | RecordKind::R51
-        | RecordKind::R70 => write_number(rec, 4, 10, number),
+        | RecordKind::R70 => place(rec, 4, number),
     }
 }
 

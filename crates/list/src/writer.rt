@@ -1,12 +1,13 @@
 // Writing a list out as a flow.
 ghost use Prim.Native.Nat.{suc, _+_, _*_, _≤_, _<_};
-ghost use mathlib.Core.Bool.{cond};
+ghost use mathlib.Core.Bool.{false, cond};
 ghost use mathlib.Core.List.{[], flatten};
 ghost use mathlib.Core.Path.{_≡_};
 ghost use lib.ListN.{length, take};
 ghost use Rattle.sequences.specs.Part.{put};
+ghost use Rattle.fields.specs.Digits.{digits};
 ghost use Rattle.records.specs.Context.{headerOf};
-ghost use Rattle.records.specs.Kinds.{heads, opened};
+ghost use Rattle.records.specs.Kinds.{heads, opens, opened};
 ghost use Rattle.records.specs.Limits.{countLimit, mostRecords};
 ghost use Rattle.flow.specs.Judge.{walkFrom};
 ghost use Rattle.flow.specs.Walking.{start};
@@ -93,13 +94,8 @@ fn first_record(list: &[u8]) -> [u8; 120]
 {
     let kind = kind_of(list[0]);
     let body = &list[1..1 + body_length(kind)];
-    encode_item(
-        kind,
-        dispositions_with(0, kind),
-        FlowKind::Requests,
-        &list[0..0],
-        body,
-    )
+    let number = records::seven_digits(dispositions_with(0, kind));
+    encode_item(kind, &number, FlowKind::Requests, &list[0..0], body)
 }
 
 // Each record in turn, built and judged, with the flow's header.
@@ -114,6 +110,7 @@ fn judge_records(list: &[u8], im: &[u8]) -> Answer
     let mut meant = FlowKind::Requests;
     let mut header = &list[0..0];
     let mut dispositions: u64 = 0;
+    let mut shown = records::seven_digits(0);
     let mut n: u64 = 0;
     let mut at = 0;
     while at < list.len() {
@@ -121,7 +118,8 @@ fn judge_records(list: &[u8], im: &[u8]) -> Answer
         let end = at + 1 + body_length(kind);
         let body = &list[at + 1..end];
         dispositions = dispositions_with(dispositions, kind);
-        let rec = encode_item(kind, dispositions, meant, header, body);
+        shown = shown_with(shown, dispositions, kind);
+        let rec = encode_item(kind, &shown, meant, header, body);
         n += 1;
         match walk.judge(&rec, n, im, company) {
             Judged::Refused(number, position) => {
@@ -155,6 +153,17 @@ fn dispositions_with(dispositions: u64, kind: ItemKind) -> u64
         return dispositions + 1;
     }
     dispositions
+}
+
+// The seven digits of that number, made anew only where a disposition opens.
+fn shown_with(shown: [u8; 7], dispositions: u64, kind: ItemKind) -> [u8; 7]
+    requires { ⌜ (opens (recordOf kind) ≡ false → shown ≡ digits 7 dispositions) ⌝ }
+    ensures { λ r. ⌜ r ≡ digits 7 dispositions ⌝ }
+{
+    if records::opens(record_of(kind)) {
+        return records::seven_digits(dispositions);
+    }
+    shown
 }
 
 // The kind of flow meant by what comes after an item: its own where it is an H or a Q.
@@ -213,6 +222,7 @@ fn store_items(list: &[u8], out: &mut [u8], totals: Totals)
     let mut meant = FlowKind::Requests;
     let mut header = &list[0..0];
     let mut dispositions: u64 = 0;
+    let mut shown = records::seven_digits(0);
     let mut n = 0;
     let mut at = 0;
     while at < list.len() {
@@ -220,7 +230,8 @@ fn store_items(list: &[u8], out: &mut [u8], totals: Totals)
         let end = at + 1 + body_length(kind);
         let body = &list[at + 1..end];
         dispositions = dispositions_with(dispositions, kind);
-        let rec = encode_item(kind, dispositions, meant, header, body);
+        shown = shown_with(shown, dispositions, kind);
+        let rec = encode_item(kind, &shown, meant, header, body);
         place(out, 120 * n + 1, &rec);
         meant = kind_meant(meant, kind);
         let latest_header = body_meant(header, body, kind);

@@ -47,6 +47,7 @@ pub use kind::type_of;
 pub use limits::MOST_CENTS;
 pub use limits::MOST_RECORDS;
 pub use position::field;
+pub use position::seven_digits;
 pub use position::write_number;
 pub use quick_test::passes_quick_test;
 pub use record::judge;

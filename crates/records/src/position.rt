@@ -3,6 +3,7 @@
 ghost use Prim.Native.Nat.{_-_, min};
 ghost use mathlib.Core.Path.{_≡_};
 ghost use Rattle.sequences.specs.Slice.{StartsAt};
+ghost use Rattle.fields.specs.Digits.{digits};
 ghost use Rattle.records.specs.Field.{_to_, fieldStart, numberWritten};
 ghost use Rattle.records.specs.Field.{field as Field·field};
 
@@ -22,6 +23,15 @@ pub fn field(rec: &[u8], first: usize, last: usize) -> &[u8]
         return &rec[from..];
     }
     &rec[from..last]
+}
+
+// The seven digits of a number, as they stand at 4-10 of a record.
+pub fn seven_digits(value: u64) -> [u8; 7]
+    ensures { λ r. ⌜ r ≡ digits 7 value ⌝ }
+{
+    let mut out = [b'0'; 7];
+    fields::write_digits(&mut out, value);
+    out
 }
 
 // Writes the digits of a number over positions first to last of the record, zeros in front; where it is

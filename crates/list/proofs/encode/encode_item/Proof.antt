@@ -4,7 +4,7 @@ use mathlib.Core.Path.{_≡_, refl}
 use native.Mathlib.Omega.{arith}
 use lib.ListN.{length, length-take}
 use borrow.Author.Needs.{needs}
-use Rattle.list.specs.Encode.{abiIn, encodeItem}
+use Rattle.list.specs.Encode.{abiIn}
 use Rattle.list.proofs.encode.encode_item.Statement.{statement}
 use Rattle.list.proofs.encode.encode_item.Tie as tie
 
@@ -15,7 +15,6 @@ fill-item-requires c κs =
     (refl, (short, at .pre))
 
 returns : tie.Need-returns
-unfolding encodeItem
 returns c =
     let abi : c .before .before .field .result .now ≡ abiIn (c .before .before .before .before .before .before .args .header .now) = c .before .before .field .ensures .0 in
     rw abi at (c .before .fill-item .ensures)

@@ -17,7 +17,7 @@ returns c =
     let own = typed .before .record-of in
     let args = typed .before .before .before .before .before .args in
     let kind = args .kind in
-    let all : Fills (place 2 (typeOf (own .result)) ∷ (supplied (role (own .result)) (args .flow) (args .number) (args .abi .now) ++ bodyPlaced (carried kind) (args .body .now))) (args .rec .now) (carrying .place-body .last .0) =
+    let all : Fills (place 2 (typeOf (own .result)) ∷ (supplied (role (own .result)) (args .flow) (args .number .now) (args .abi .now) ++ bodyPlaced (carried kind) (args .body .now))) (args .rec .now) (carrying .place-body .last .0) =
     fills-place (first .place .ensures) (typed .type-of .ensures) (fills-both (record { done = supplying .supply .ensures }) (record { done = carrying .place-body .ensures })) in
     rw (own .ensures) at (all .done)
 

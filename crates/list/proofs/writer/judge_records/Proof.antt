@@ -1,11 +1,13 @@
 -- `list::judge_records` meets its contract. After each right record, what is left decides as the whole does. Assumes nothing.
 use Prim.Native.Nat.{ℕ, suc, _+_, _-_, _≤_}
+use mathlib.Core.Bool.{Bool, cond}
 use mathlib.Core.List.{List}
 use mathlib.Core.Path.{_≡_, sym, _∙_, ap, ap₂, subst}
 use native.Mathlib.Numerals.{add-one}
 use native.Mathlib.Omega.{arith}
 use lib.ListN.{length}
 use borrow.Author.Needs.{needs}
+use Rattle.fields.specs.Digits.{digits}
 use Rattle.records.specs.Context.{Header, headerOf}
 use Rattle.records.specs.Field.{_to_, field}
 use Rattle.records.specs.Kinds.{opened}
@@ -23,25 +25,25 @@ use Rattle.list.proofs.writer.judge_records.Statement.{statement}
 use Rattle.list.proofs.writer.judge_records.Tie as tie
 
 abbrev Inv-loop : tie.InvT-loop
-Inv-loop list im walk₀ company₀ meant₀ header₀ dispositions₀ n₀ at₀ walk company meant header dispositions n i =
-    (i ≤ length list) × (suc (length (itemsIn list)) ≤ mostRecords) × JudgingAt (headerOf im) list i n dispositions (record { kind = meant; body = header }) walk company
+Inv-loop list im walk₀ company₀ meant₀ header₀ dispositions₀ shown₀ n₀ at₀ walk company meant header dispositions shown n i =
+    (i ≤ length list) × (suc (length (itemsIn list)) ≤ mostRecords) × JudgingAt (headerOf im) list i n dispositions (record { kind = meant; body = header }) walk company × (shown ≡ digits 7 dispositions)
 
 abbrev μ-loop : tie.MeasureT-loop
-μ-loop list im walk₀ company₀ meant₀ header₀ dispositions₀ n₀ at₀ walk company meant header dispositions n i = length list - i
+μ-loop list im walk₀ company₀ meant₀ header₀ dispositions₀ shown₀ n₀ at₀ walk company meant header dispositions shown n i = length list - i
 
 abbrev list-of : tie.At-loop Inv-loop μ-loop → List ℕ
-list-of a = a .before .before .before .before .before .before .args .list .now
+list-of a = a .before .before .before .before .before .before .before .args .list .now
 
 abbrev header-of : tie.At-loop Inv-loop μ-loop → Header
 header-of a =
-    headerOf (a .before .before .before .before .before .before .args .im .now)
+    headerOf (a .before .before .before .before .before .before .before .args .im .now)
 
 -- the header meant
 abbrev header-at : tie.At-loop Inv-loop μ-loop → HeaderMeant
 header-at a = record { kind = a .loop .meant; body = a .loop .header .now }
 
 loop-holds : tie.Need-loop-holds Inv-loop μ-loop
-loop-holds c = (omega arith, c .before .before .before .before .before .pre .few, rw (c .before .before .start .ensures) (judging-begins _ _ (c .before .before .before .before .before .pre)))
+loop-holds c = (omega arith, c .before .before .before .before .before .before .pre .few, rw (c .before .before .before .start .ensures) (judging-begins _ _ (c .before .before .before .before .before .before .pre)), c .seven-digits .ensures)
 
 kind-of-requires : tie.Need-kind-of-requires Inv-loop μ-loop
 kind-of-requires c κs =
@@ -80,48 +82,56 @@ few-so a =
 dispositions-with-requires : tie.Need-dispositions-with-requires Inv-loop μ-loop
 dispositions-with-requires c κs = omega (arith, few-so (c .before .before .before .before .before) .0, few-so (c .before .before .before .before .before) .1)
 
+-- the digits stay where no disposition opens
+shown-with-requires : tie.Need-shown-with-requires Inv-loop μ-loop
+shown-with-requires c κs e =
+    let l = c .before .before .before .before .before .before in
+    let none : opened (recordOf (c .before .before .before .kind-of .result)) ≡ 0 = ap (λ (b : Bool). cond b 1 0) e in
+    let same : l .loop .dispositions ≡ c .dispositions-with .result = omega (arith, none, c .dispositions-with .ensures) in
+    l .loop .inv .3 ∙ ap (digits 7) same
+
 encode-item-requires : tie.Need-encode-item-requires Inv-loop μ-loop
-encode-item-requires c κs = turn-so (c .before .before) .body-sized
+encode-item-requires c κs = turn-so (c .before .before .before .before) .body-sized
 
 add-n : tie.Need-add-n Inv-loop μ-loop
-add-n c = omega (arith, few-so (c .before .before .before .before .before .before .before) .1)
+add-n c = omega (arith, few-so (c .before .before .before .before .before .before .before .before .before) .1)
 
 -- the record that is built is the item's
-built : (c : tie.After-encode-item Inv-loop μ-loop) → let l = c .before .before .before .before .before .before .before in let k = c .before .before .before .before .kind-of .result in c .encode-item .result ≡ encodeItem (l .loop .dispositions + opened (recordOf k)) (header-at l) (itemAt (list-of l) (l .loop .at) k)
+built : (c : tie.After-encode-item Inv-loop μ-loop) → let l = c .before .before .before .before .before .before .before .before .before in let k = c .before .before .before .before .before .before .kind-of .result in c .encode-item .result ≡ encodeItem (l .loop .dispositions + opened (recordOf k)) (header-at l) (itemAt (list-of l) (l .loop .at) k)
 built c =
-    let l = c .before .before .before .before .before .before .before in
-    turn-record (turn-so (c .before .before .before)) (l .loop .dispositions) (c .before .dispositions-with .result) (header-at l) (c .encode-item .result) (c .before .dispositions-with .ensures) (c .encode-item .ensures)
+    let l = c .before .before .before .before .before .before .before .before .before in
+    turn-record (turn-so (c .before .before .before .before .before)) (l .loop .dispositions) (c .before .before .shown-with .result) (header-at l) (c .encode-item .result) (c .before .before .shown-with .ensures ∙ ap (digits 7) (c .before .before .before .dispositions-with .ensures)) (c .encode-item .ensures)
 
 found :
-    (c : tie.After-judge Inv-loop μ-loop) → let l = c .before .before .before .before .before .before .before .before .before in let k = c .before .before .before .before .before .before .kind-of .result in
+    (c : tie.After-judge Inv-loop μ-loop) → let l = c .before .before .before .before .before .before .before .before .before .before .before in let k = c .before .before .before .before .before .before .before .before .kind-of .result in
     judgeRecord (header-of l) (l .loop .walk) (l .loop .company .now) (suc (l .loop .n))
     (encodeItem (l .loop .dispositions + opened (recordOf k)) (header-at l) (itemAt (list-of l) (l .loop .at) k))
     ≡ judgedVerdict (c .judge .result)
 found c =
-    let l = c .before .before .before .before .before .before .before .before .before in
+    let l = c .before .before .before .before .before .before .before .before .before .before .before in
     sym (c .judge .ensures ∙ ap₂ (judgeRecord _ _ _) (add-one (l .loop .n)) (built (c .before .before)))
 
 returns : tie.Need-returns Inv-loop μ-loop
 returns c =
-    let l = c .before .before .before .before .before .before .before .before .before .before .before .before in
+    let l = c .before .before .before .before .before .before .before .before .before .before .before .before .before .before in
     let told = found (c .before .before .before) ∙ ap judgedVerdict (c .before .number .given .1) in
-    rw add-one (judging-refused (l .loop .inv .2) (c .before .before .before .before .before .before .before .before .before .before .before .loop-test .taken) _ (c .before .before .before .before .before .before .before .before .before .kind-of .ensures) _ _ told)
+    rw add-one (judging-refused (l .loop .inv .2) (c .before .before .before .before .before .before .before .before .before .before .before .before .before .loop-test .taken) _ (c .before .before .before .before .before .before .before .before .before .before .before .kind-of .ensures) _ _ told)
 
 loop-less : tie.Need-loop-less Inv-loop μ-loop
-loop-less c = omega (arith, turn-so (c .before .before .before .before .before .before .before .before .before .before .before .before .before .before .before) .ends, c .before .before .before .before .before .before .before .before .before .before .before .before .before .before .before .before .before .before .loop-test .taken)
+loop-less c = omega (arith, turn-so (c .before .before .before .before .before .before .before .before .before .before .before .before .before .before .before .before .before) .ends, c .before .before .before .before .before .before .before .before .before .before .before .before .before .before .before .before .before .before .before .before .loop-test .taken)
 
 loop-again : tie.Need-loop-again Inv-loop μ-loop
 loop-again c =
-    let l = c .before .before .before .before .before .before .before .before .before .before .before .before .before .before .before .before .before .before .before in
+    let l = c .before .before .before .before .before .before .before .before .before .before .before .before .before .before .before .before .before .before .before .before .before in
     let list = list-of l in
     let i = l .loop .at in
-    let b = c .before .before .before .before .before .before .before .before .before .before .before .before .before .before .before in
+    let b = c .before .before .before .before .before .before .before .before .before .before .before .before .before .before .before .before .before in
     let k = b .before .kind-of .result in
     let t = turn-so b in
     let told = found (c .before .before .before .before .before .before .before .before .before .before) ∙ ap judgedVerdict (c .before .before .before .before .before .before .before .before .right .given .1) in
-    let on = judging-on (l .loop .inv .2) (c .before .before .before .before .before .before .before .before .before .before .before .before .before .before .before .before .before .before .loop-test .taken) k (b .before .kind-of .ensures) _ _ told in
+    let on = judging-on (l .loop .inv .2) (c .before .before .before .before .before .before .before .before .before .before .before .before .before .before .before .before .before .before .before .before .loop-test .taken) k (b .before .kind-of .ensures) _ _ told in
     let end : i + 1 + bodyLength k ≡ i + 1 + b .body-length .result = omega (arith, t .size-so) in
-    let number : l .loop .dispositions + opened (recordOf k) ≡ c .before .before .before .before .before .before .before .before .before .before .before .before .before .dispositions-with .result = sym (c .before .before .before .before .before .before .before .before .before .before .before .before .before .dispositions-with .ensures) in
+    let number : l .loop .dispositions + opened (recordOf k) ≡ c .before .before .before .before .before .before .before .before .before .before .before .before .before .before .before .dispositions-with .result = sym (c .before .before .before .before .before .before .before .before .before .before .before .before .before .before .before .dispositions-with .ensures) in
     let body : bodyMeant (l .loop .header .now) (itemAt list i k) ≡ c .body-meant .result .now = sym (c .body-meant .ensures ∙ ap (λ (body : List ℕ). bodyMeant (l .loop .header .now) (item k body)) (t .body-so)) in
     let meant : headerAfter (header-at l) (itemAt list i k) ≡ record { kind = c .before .kind-meant .result; body = c .body-meant .result .now } = λ j. record { kind = sym (c .before .kind-meant .ensures) j; body = body j } in
     let right = c .before .before .before .before .before .before .before .before .right .given .0 .0 in
@@ -129,7 +139,7 @@ loop-again c =
     c .before .before .next .ensures ∙ ap (λ (rec : List ℕ). saturated (step (l .loop .walk) (right .kind) (right .cents) rec)) (built (c .before .before .before .before .before .before .before .before .before .before .before .before)) in
     let company : latestOf (recordOf k) (l .loop .company .now) (carriedAt D (92 to 96) (itemAt list i k .body)) ≡ c .before .before .before .before .latest-company .result .now =
     sym (c .before .before .before .before .latest-company .ensures .0 ∙ ap₂ (λ (m : RecordKind) (code : List ℕ). latestOf m (l .loop .company .now) code) (c .before .before .before .before .before .record-of .ensures) (c .before .before .before .before .before .before .field .ensures .0 ∙ ap (field 37 41) (t .body-so))) in
-    (omega (arith, t .ends), l .loop .inv .1, subst (λ (A : Type 0). A) (λ j. JudgingAt (header-of l) list (end j) (sym (add-one (l .loop .n)) j) (number j) (meant j) (sym walk-so j) (company j)) on)
+    (omega (arith, t .ends), l .loop .inv .1, subst (λ (A : Type 0). A) (λ j. JudgingAt (header-of l) list (end j) (sym (add-one (l .loop .n)) j) (number j) (meant j) (sym walk-so j) (company j)) on, c .before .before .before .before .before .before .before .before .before .before .before .before .before .before .shown-with .ensures)
 
 close-requires : tie.Need-close-requires Inv-loop μ-loop
 close-requires c κs = few-so (c .before) .1
@@ -150,6 +160,7 @@ judge-records-spec =
     (search needs)
     (search needs)
     (search needs)
+    (search needs)
     loop-holds
     (search needs)
     kind-of-requires
@@ -161,6 +172,7 @@ judge-records-spec =
     part-body-start
     part-body-end
     dispositions-with-requires
+    shown-with-requires
     encode-item-requires
     add-n
     (search needs)

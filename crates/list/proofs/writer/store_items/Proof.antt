@@ -1,5 +1,6 @@
 -- `list::store_items` meets its contract. After each record stored, what is left to store makes the whole of the output. Assumes nothing.
 use Prim.Native.Nat.{ℕ, suc, _+_, _-_, _*_, _≤_}
+use mathlib.Core.Bool.{Bool, cond}
 use mathlib.Core.List.{List}
 use mathlib.Core.Path.{_≡_, refl, sym, _∙_, ap, subst}
 use native.Mathlib.Numerals.{add-one}
@@ -8,6 +9,7 @@ use lib.ListN.{length}
 use borrow.Author.Needs.{needs}
 use Rattle.sequences.specs.Part.{put}
 use Rattle.sequences.proofs.Part.{put-length}
+use Rattle.fields.specs.Digits.{digits}
 use Rattle.records.specs.Kinds.{opened}
 use Rattle.records.specs.Limits.{mostRecords}
 use Rattle.list.specs.Encode.{HeaderMeant, encodeItem, encodeTrailer, bodyMeant, headerAfter, trailerFor, encode}
@@ -22,21 +24,21 @@ use Rattle.list.proofs.writer.store_items.Statement.{statement}
 use Rattle.list.proofs.writer.store_items.Tie as tie
 
 abbrev Inv-loop : tie.InvT-loop
-Inv-loop list out₀ totals meant₀ header₀ dispositions₀ n₀ at₀ out meant header dispositions n j =
-    (j ≤ length list) × (suc (length (itemsIn list)) ≤ mostRecords) × (length out ≡ length out₀) × StoringAt list (put 0 (encode (itemsIn list)) out₀) j n dispositions (record { kind = meant; body = header }) out
+Inv-loop list out₀ totals meant₀ header₀ dispositions₀ shown₀ n₀ at₀ out meant header dispositions shown n j =
+    (j ≤ length list) × (suc (length (itemsIn list)) ≤ mostRecords) × (length out ≡ length out₀) × StoringAt list (put 0 (encode (itemsIn list)) out₀) j n dispositions (record { kind = meant; body = header }) out × (shown ≡ digits 7 dispositions)
 
 abbrev μ-loop : tie.MeasureT-loop
-μ-loop list out₀ totals meant₀ header₀ dispositions₀ n₀ at₀ out meant header dispositions n j = length list - j
+μ-loop list out₀ totals meant₀ header₀ dispositions₀ shown₀ n₀ at₀ out meant header dispositions shown n j = length list - j
 
 abbrev list-of : tie.At-loop Inv-loop μ-loop → List ℕ
-list-of a = a .before .before .before .before .args .list .now
+list-of a = a .before .before .before .before .before .args .list .now
 
 -- the header meant
 abbrev header-at : tie.At-loop Inv-loop μ-loop → HeaderMeant
 header-at a = record { kind = a .loop .meant; body = a .loop .header .now }
 
 loop-holds : tie.Need-loop-holds Inv-loop μ-loop
-loop-holds c = (omega arith, c .before .before .before .pre .0 .few, refl, storing-begins _ _ (c .before .before .before .pre .0) (c .before .before .before .pre .1 .0))
+loop-holds c = (omega arith, c .before .before .before .before .pre .0 .few, refl, storing-begins _ _ (c .before .before .before .before .pre .0) (c .before .before .before .before .pre .1 .0), c .seven-digits .ensures)
 
 kind-of-requires : tie.Need-kind-of-requires Inv-loop μ-loop
 kind-of-requires c κs =
@@ -75,31 +77,39 @@ few-so a =
 dispositions-with-requires : tie.Need-dispositions-with-requires Inv-loop μ-loop
 dispositions-with-requires c κs = omega (arith, few-so (c .before .before .before .before .before) .0, few-so (c .before .before .before .before .before) .1)
 
+-- the digits stay where no disposition opens
+shown-with-requires : tie.Need-shown-with-requires Inv-loop μ-loop
+shown-with-requires c κs e =
+    let l = c .before .before .before .before .before .before in
+    let none : opened (recordOf (c .before .before .before .kind-of .result)) ≡ 0 = ap (λ (b : Bool). cond b 1 0) e in
+    let same : l .loop .dispositions ≡ c .dispositions-with .result = omega (arith, none, c .dispositions-with .ensures) in
+    l .loop .inv .4 ∙ ap (digits 7) same
+
 encode-item-requires : tie.Need-encode-item-requires Inv-loop μ-loop
-encode-item-requires c κs = turn-so (c .before .before) .body-sized
+encode-item-requires c κs = turn-so (c .before .before .before .before) .body-sized
 
 mul-place : tie.Need-mul-place Inv-loop μ-loop
-mul-place c = omega (arith, few-so (c .before .before .before .before .before .before .before .before) .1)
+mul-place c = omega (arith, few-so (c .before .before .before .before .before .before .before .before .before .before) .1)
 
 add-place : tie.Need-add-place Inv-loop μ-loop
-add-place c = omega (arith, few-so (c .before .before .before .before .before .before .before .before) .1)
+add-place c = omega (arith, few-so (c .before .before .before .before .before .before .before .before .before .before) .1)
 
 -- the record that is built is the item's
 abbrev record-of : tie.At-loop Inv-loop μ-loop → ItemKind → List ℕ
 record-of a k = encodeItem (a .loop .dispositions + opened (recordOf k)) (header-at a) (itemAt (list-of a) (a .loop .at) k)
 
-built : (c : tie.After-encode-item Inv-loop μ-loop) → c .encode-item .result ≡ record-of (c .before .before .before .before .before .before .before) (c .before .before .before .before .kind-of .result)
+built : (c : tie.After-encode-item Inv-loop μ-loop) → c .encode-item .result ≡ record-of (c .before .before .before .before .before .before .before .before .before) (c .before .before .before .before .before .before .kind-of .result)
 built c =
-    let l = c .before .before .before .before .before .before .before in
-    turn-record (turn-so (c .before .before .before)) (l .loop .dispositions) (c .before .dispositions-with .result) (header-at l) (c .encode-item .result) (c .before .dispositions-with .ensures) (c .encode-item .ensures)
+    let l = c .before .before .before .before .before .before .before .before .before in
+    turn-record (turn-so (c .before .before .before .before .before)) (l .loop .dispositions) (c .before .before .shown-with .result) (header-at l) (c .encode-item .result) (c .before .before .shown-with .ensures ∙ ap (digits 7) (c .before .before .before .dispositions-with .ensures)) (c .encode-item .ensures)
 
 sized : (c : tie.After-encode-item Inv-loop μ-loop) → length (c .encode-item .result) ≡ 120
 sized c =
-    let l = c .before .before .before .before .before .before .before in
+    let l = c .before .before .before .before .before .before .before .before .before in
     let s = l .loop .inv .3 in
-    let kind = c .before .before .before .before .kind-of in
+    let kind = c .before .before .before .before .before .before .kind-of in
     let k = kind .result in
-    let proper = next-proper (list-of l) (l .loop .n) (l .loop .at) k (s .left) (next-stored s (c .before .before .before .before .before .before .loop-test .taken) k (kind .ensures)) in
+    let proper = next-proper (list-of l) (l .loop .n) (l .loop .at) k (s .left) (next-stored s (c .before .before .before .before .before .before .before .before .loop-test .taken) k (kind .ensures)) in
     ap length (built c) ∙ encoded-length (l .loop .dispositions + opened (recordOf k)) (header-at l) (itemAt (list-of l) (l .loop .at) k) proper
 
 -- there is room for one more record, and for EF after the last
@@ -107,24 +117,24 @@ room-so : (a : tie.At-loop Inv-loop μ-loop) → 120 * a .loop .n + 120 ≤ leng
 room-so a = let s = a .loop .inv .3 in omega (arith, s .count, s .room)
 
 place-requires : tie.Need-place-requires Inv-loop μ-loop
-place-requires c κs = (omega arith, omega (arith, sized (c .before .before), room-so (c .before .before .before .before .before .before .before .before .before)))
+place-requires c κs = (omega arith, omega (arith, sized (c .before .before), room-so (c .before .before .before .before .before .before .before .before .before .before .before)))
 
 add-n : tie.Need-add-n Inv-loop μ-loop
-add-n c = omega (arith, few-so (c .before .before .before .before .before .before .before .before .before .before .before .before .before .before) .1)
+add-n c = omega (arith, few-so (c .before .before .before .before .before .before .before .before .before .before .before .before .before .before .before .before) .1)
 
 loop-less : tie.Need-loop-less Inv-loop μ-loop
-loop-less c = omega (arith, turn-so (c .before .before .before .before .before .before .before .before .before .before) .ends, c .before .before .before .before .before .before .before .before .before .before .before .before .before .loop-test .taken)
+loop-less c = omega (arith, turn-so (c .before .before .before .before .before .before .before .before .before .before .before .before) .ends, c .before .before .before .before .before .before .before .before .before .before .before .before .before .before .before .loop-test .taken)
 
 loop-again : tie.Need-loop-again Inv-loop μ-loop
 loop-again c =
-    let l = c .before .before .before .before .before .before .before .before .before .before .before .before .before .before in
+    let l = c .before .before .before .before .before .before .before .before .before .before .before .before .before .before .before .before in
     let list = list-of l in
     let i = l .loop .at in
-    let b = c .before .before .before .before .before .before .before .before .before .before in
+    let b = c .before .before .before .before .before .before .before .before .before .before .before .before in
     let t = turn-so b in
     let k = b .before .kind-of .result in
     let end : i + 1 + bodyLength k ≡ i + 1 + b .body-length .result = omega (arith, t .size-so) in
-    let number : l .loop .dispositions + opened (recordOf k) ≡ c .before .before .before .before .before .before .before .before .dispositions-with .result = sym (c .before .before .before .before .before .before .before .before .dispositions-with .ensures) in
+    let number : l .loop .dispositions + opened (recordOf k) ≡ c .before .before .before .before .before .before .before .before .before .before .dispositions-with .result = sym (c .before .before .before .before .before .before .before .before .before .before .dispositions-with .ensures) in
     let body : bodyMeant (l .loop .header .now) (itemAt list i k) ≡ c .body-meant .result .now = sym (c .body-meant .ensures ∙ ap (λ (body : List ℕ). bodyMeant (l .loop .header .now) (item k body)) (t .body-so)) in
     let meant : headerAfter (header-at l) (itemAt list i k) ≡ record { kind = c .before .kind-meant .result; body = c .body-meant .result .now } = λ j. record { kind = sym (c .before .kind-meant .ensures) j; body = body j } in
     let index : 120 * l .loop .n + 1 - 1 ≡ 120 * l .loop .n = omega arith in
@@ -133,7 +143,8 @@ loop-again c =
       omega (arith, t .ends),
       l .loop .inv .1,
       ap length stored ∙ put-length (120 * l .loop .n) (record-of l k) (l .loop .out) (omega (arith, room-so l)) ∙ l .loop .inv .2,
-      subst (λ (A : Type 0). A) (λ j. StoringAt list (put 0 (encode (itemsIn list)) (l .before .before .before .before .args .out .now)) (end j) (sym (add-one (l .loop .n)) j) (number j) (meant j) (sym stored j)) (storing-on (l .loop .inv .3) (c .before .before .before .before .before .before .before .before .before .before .before .before .before .loop-test .taken) k (b .before .kind-of .ensures)),
+      subst (λ (A : Type 0). A) (λ j. StoringAt list (put 0 (encode (itemsIn list)) (l .before .before .before .before .before .args .out .now)) (end j) (sym (add-one (l .loop .n)) j) (number j) (meant j) (sym stored j)) (storing-on (l .loop .inv .3) (c .before .before .before .before .before .before .before .before .before .before .before .before .before .before .before .loop-test .taken) k (b .before .kind-of .ensures)),
+      c .before .before .before .before .before .before .before .before .before .shown-with .ensures,
     )
 
 mul-place-2 : tie.Need-mul-place-2 Inv-loop μ-loop
@@ -163,7 +174,7 @@ same-length c =
 returns : tie.Need-returns Inv-loop μ-loop
 returns c =
     let l = c .before .before .before .before .before .before .before in
-    let pre = l .before .before .before .before .pre in
+    let pre = l .before .before .before .before .before .pre in
     let ends = storing-ends (l .loop .inv .3) (c .before .before .before .before .before .before .loop-test .left) in
     let trailer : c .before .before .before .before .before .encode-trailer .result ≡ trailerFor (itemsIn (list-of l)) = c .before .before .before .before .before .encode-trailer .ensures ∙ (λ j. encodeTrailer (ends .1 j .body) (pre .1 .1 j)) in
     last-stored (c .before .before) ∙ ap (λ (rec : List ℕ). put (120 * l .loop .n) rec (l .loop .out)) trailer ∙ ends .2
@@ -174,6 +185,7 @@ store-items-spec =
     (tie.spec
     Inv-loop
     μ-loop
+    (search needs)
     (search needs)
     (search needs)
     (search needs)
@@ -188,6 +200,7 @@ store-items-spec =
     part-body-start
     part-body-end
     dispositions-with-requires
+    shown-with-requires
     encode-item-requires
     mul-place
     add-place
