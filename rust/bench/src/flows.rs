@@ -2,7 +2,8 @@
 //! a disposition, so that every run measures the same bytes.
 
 use oracle::fields::write_digits;
-use oracle::record::{field_mut, put, record_type, Record, BLANK_RECORD, RECORD_LEN};
+use oracle::reader_cases::recall;
+use oracle::record::{field_mut, put, Record, BLANK_RECORD, RECORD_LEN};
 
 /// The dispositions of the large flow.
 pub const LARGE: u64 = 100_000;
@@ -63,21 +64,9 @@ pub fn slow(dispositions: u64, indent: Indent) -> Vec<u8> {
     })
 }
 
-/// A flow of requests as one of recalls (document 02, E1): the causale and the
-/// sign of every record 14, and the total in the other field of the trailer.
+/// A flow of requests as one of recalls (document 02, E1).
 pub fn recalled(mut flow: Vec<u8>) -> Vec<u8> {
-    let (records, _) = flow.as_chunks_mut::<RECORD_LEN>();
-    for record in records {
-        match &record_type(record) {
-            b"14" => {
-                put(record, 29, b"07100");
-                put(record, 47, b"+");
-            }
-            // The two fields have 15 bytes each.
-            b"EF" => field_mut(record, 53, 82).rotate_left(15),
-            _ => {}
-        }
-    }
+    recall(flow.as_chunks_mut().0);
     flow
 }
 

@@ -61,6 +61,23 @@ const AND_XX: &str = "IM 14 20 30 40 50 51 70 EF XX";
 /// The records of a flow, to be changed by record and position from 1.
 pub(crate) struct Flow(pub(crate) Vec<Record>);
 
+/// Makes the records of a flow of requests those of recalls (document 003,
+/// section 3): causale and sign of the records 14, and EF's sum at 68-82 with
+/// zeros at 53-67.
+pub fn recall(records: &mut [Record]) {
+    for record in records {
+        match &record_type(record) {
+            b"14" => {
+                put(record, 29, b"07100");
+                put(record, 47, b"+");
+            }
+            // The two fields, of 15 bytes each, change places.
+            b"EF" => field_mut(record, 53, 82).rotate_left(15),
+            _ => {}
+        }
+    }
+}
+
 impl Flow {
     /// Records of these types. Each has the number due after the 14s so far,
     /// and EF agrees with the records before it.
@@ -94,20 +111,9 @@ impl Flow {
         record
     }
 
-    /// The flow as one of recalls (document 003, section 3): causale and sign
-    /// of its records 14, and EF's sum at 68-82 with zeros at 53-67.
+    /// The flow as one of recalls.
     pub(crate) fn recalled(mut self) -> Flow {
-        for record in &mut self.0 {
-            match &record_type(record) {
-                b"14" => {
-                    put(record, 29, b"07100");
-                    put(record, 47, b"+");
-                }
-                // The two fields, of 15 bytes each, change places.
-                b"EF" => field_mut(record, 53, 82).rotate_left(15),
-                _ => {}
-            }
-        }
+        recall(&mut self.0);
         self
     }
 
