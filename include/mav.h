@@ -10,13 +10,14 @@
  *
  * What the caller owes:
  *  - Each pointer and the length behind it are those of one piece of the caller's memory, and the
- *    length is below 2^63. Where the pointer is not const the memory may be written.
+ *    length in bytes is below 2^63. Where the pointer is not const the memory may be written.
  *  - With a length of 0 the pointer is neither read nor written through, and may be null or dangling.
- *  - `answer` points to eight uint64_t, is aligned as such, and is never null.
- *  - All of that memory has been given a value before the call, `out` and `answer` too. Which value
- *    does not matter.
- *  - What a call writes, that is `answer`, `out`, and a flow that is changed, overlaps with no other
- *    argument of the same call.
+ *  - `answer` points to eight uint64_t, is aligned as such, and is never null. `work` is aligned as
+ *    uint16_t, and the length behind it counts numbers and not bytes.
+ *  - All of that memory has been given a value before the call, `out`, `work`, `account` and `answer`
+ *    too. Which value does not matter.
+ *  - What a call writes, that is `answer`, `out`, `work`, `account`, and a flow that is changed,
+ *    overlaps with no other argument of the same call.
  *  - Until the call returns, nobody else writes to any of that memory, and nobody reads what the call
  *    writes: no other thread, no signal handler, and no writer of a file that is mapped there.
  */
@@ -52,8 +53,19 @@ enum {
     /* Accepted by mav_digits or mav_amount. */
     MAV_VALUE = 0,
 
-    /* mav_write and mav_list: the bytes written, 0 where refused. mav_withdraw: the length of the flow
-     * left, the length given where refused. */
+    /* Accepted by mav_compare: how many lines of the account are K, D and A. */
+    MAV_KEPT = 0,
+    MAV_DROPPED = 1,
+    MAV_ADDED = 2,
+
+    /* Accepted by mav_compare_line: the line's letter, 'K', 'D' or 'A', and its record 14, counted from 1
+     * in its own flow, the old one for D and the new one for K and A. That record is the 120 bytes from
+     * 120 * (record - 1) on. */
+    MAV_LINE_LETTER = 0,
+    MAV_LINE_RECORD = 1,
+
+    /* mav_write, mav_list and mav_compare: the bytes written, 0 where refused. mav_withdraw: the length of
+     * the flow left, the length given where refused. */
     MAV_LENGTH = 3,
 
     /* Accepted, of a flow that is read, written, listed or amended: its kind, one of those below. */
@@ -86,19 +98,25 @@ enum {
     MAV_REFUSED_DISPOSITION_COUNT = 12,     /* a wrong count of dispositions in the trailer */
     MAV_REFUSED_TOTAL = 13,                 /* a wrong total in the trailer */
     MAV_REFUSED_RECORD_COUNT = 14,          /* a wrong count of records in the trailer */
-    MAV_REFUSED_NO_SUCH_DISPOSITION = 15,   /* k is 0 or above the count */
+    MAV_REFUSED_NO_SUCH_DISPOSITION = 15,   /* k is 0 or above the count; n, of the lines of an account */
     MAV_REFUSED_AMOUNT_TOO_LARGE = 16,      /* a new amount above MAV_MAX_AMOUNT */
     MAV_REFUSED_TOTAL_TOO_LARGE = 17,       /* the total would be above MAV_MAX_TOTAL */
     MAV_REFUSED_ONLY_DISPOSITION = 18,      /* the only disposition cannot be withdrawn */
     MAV_REFUSED_ITEM = 20,                  /* an item of a list of unknown kind, or cut short */
     MAV_REFUSED_ROOM = 21,                  /* the output is shorter than needed */
-    MAV_REFUSED_OTHER_KIND = 22             /* a record 14 of another kind than the first one */
+    MAV_REFUSED_OTHER_KIND = 22,            /* a record 14 of another kind than the first one */
+    MAV_REFUSED_TOO_MANY_REQUESTS = 27,     /* more than MAV_MAX_COMPARED dispositions on a side */
+    MAV_REFUSED_KINDS_DIFFER = 28,          /* the two flows are of different kinds */
+    MAV_REFUSED_WORKING_MEMORY = 34         /* fewer than MAV_MIN_WORK numbers of working memory */
 };
 
 #define MAV_RECORD_LENGTH 120
 #define MAV_MAX_FLOW_LENGTH 1199999880
 #define MAV_MAX_AMOUNT UINT64_C(9999999999999)
 #define MAV_MAX_TOTAL UINT64_C(999999999999999)
+#define MAV_MAX_COMPARED 256
+#define MAV_MIN_WORK 66049
+#define MAV_MAX_ACCOUNT_LENGTH 512
 
 /* The number of a field of 1 to 15 digits. Refused: 5. */
 uint8_t mav_digits(const uint8_t *field, size_t length, uint64_t answer[MAV_ENTRIES]);
@@ -137,6 +155,23 @@ uint8_t mav_change(uint8_t *flow, size_t length, uint64_t k, uint64_t cents,
 /* Takes disposition k out. Later ones move up and are numbered anew, and the freed bytes at the end
  * become blanks: the next call is given answer[MAV_LENGTH] bytes. Refused: as mav_read, then 15, 18. */
 uint8_t mav_withdraw(uint8_t *flow, size_t length, uint64_t k, uint64_t answer[MAV_ENTRIES]);
+
+/* Writes at the front of account the shortest account of what differs between two flows, one byte a line,
+ * and leaves the rest of account as it was: K for a disposition that is in both, D for one of the old flow
+ * that is dropped, A for one of the new flow that is added. Two are the same where their items in the
+ * flows' lists are; their numbers and the headers do not count. A room of MAV_MAX_ACCOUNT_LENGTH is always
+ * enough. work is memory to work in, MAV_MIN_WORK numbers or more: whatever it held, all of it is zero
+ * after an accepted call. The two flows may be the same memory. Refused: as mav_read the old flow, then the
+ * new one, then 27, 28, 34, 21. */
+uint8_t mav_compare(const uint8_t *old_flow, size_t old_length, const uint8_t *new_flow,
+                    size_t new_length, uint16_t *work, size_t work_length, uint8_t *account,
+                    size_t room, uint64_t answer[MAV_ENTRIES]);
+
+/* What line n of that account is, counted from 1, and where its record 14 stands. work is as for
+ * mav_compare. Refused: as mav_compare by 34 at the latest, then 15. */
+uint8_t mav_compare_line(const uint8_t *old_flow, size_t old_length, const uint8_t *new_flow,
+                         size_t new_length, uint16_t *work, size_t work_length, uint64_t n,
+                         uint64_t answer[MAV_ENTRIES]);
 
 #ifdef __cplusplus
 }

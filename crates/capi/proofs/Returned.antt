@@ -21,8 +21,12 @@ use Rattle.amend.specs.Amended.{Amended}
 use Rattle.amend.specs.Change.{change}
 use Rattle.amend.specs.Withdraw.{withdraw}
 use Rattle.amend.proofs.Answered.{refused-untouched}
+use Rattle.evenings.specs.Account.{letters}
+use Rattle.evenings.specs.Compare.{accountBetween, compare, judgeComparison, workAfter, findLine}
+use Rattle.evenings.specs.declared.account_line.AccountLine.{AccountLine}
+use Rattle.evenings.specs.declared.comparison.Lines.{Lines}
 use Rattle.capi.specs.Laws.{RefusedLeaves, ReturnedTells}
-use Rattle.capi.specs.Returned.{Returned, returnedFive, kindEntry, ofNumber, ofRefusal, ofVerdict, ofFound, ofOutput}
+use Rattle.capi.specs.Returned.{Returned, returnedFive, kindEntry, ofNumber, ofRefusal, ofVerdict, ofFound, ofOutput, ofLines, ofCompared, ofLine}
 
 -- an output is written where the call is accepted
 output-alone : (v : Verdict Totals) (bytes out : List ℕ) → ofOutput (output v bytes out) .status ≡ 0 → output v bytes out .bytes ≡ out
@@ -45,12 +49,31 @@ amended-alone f a l alone = by (a .answer) refl
     by (accepted t) e h = absurd (omega arith)
     by (refused x) told h = alone x told
 
+-- so is what a comparison returns, and a line
+compared-alone :
+    (old new work out : List ℕ) → ofCompared (compare old new (length work) out) .status ≡ 0
+    → (compare old new (length work) out .bytes ≡ out) × (workAfter (judgeComparison old new (length work) (length out)) work ≡ work)
+unfolding compare
+compared-alone old new work out = by (judgeComparison old new (length work) (length out))
+  where
+    by :
+        (v : Verdict Lines) → ofCompared (output v (letters (accountBetween old new)) out) .status ≡ 0
+        → (output v (letters (accountBetween old new)) out .bytes ≡ out) × (workAfter v work ≡ work)
+    by (accepted s) h = absurd (omega arith)
+    by (refused x) h = (refl, refl)
+
+line-alone : (v : Verdict AccountLine) (work : List ℕ) → ofLine v .status ≡ 0 → workAfter v work ≡ work
+line-alone (accepted s) work h = absurd (omega arith)
+line-alone (refused x) work h = refl
+
 pub refused-leaves : RefusedLeaves
 refused-leaves = (
   written-alone,
   read-back-alone,
   λ f k new. amended-alone f (change f k new) 0 (λ x told. refused-untouched f k x .0 new told .0),
   λ f k. amended-alone f (withdraw f k) (withdraw f k .size) (λ x told. refused-untouched f k x .1 told .0),
+  compared-alone,
+  λ old new work n. line-alone (findLine old new (length work) n) work,
 )
 
 -- the i-th entry
@@ -105,5 +128,17 @@ numbers (FieldVerdict·accepted v) (FieldVerdict·refused f) e = absurd (omega (
 numbers (FieldVerdict·refused f) (FieldVerdict·accepted v) e = absurd (omega (arith, status e))
 numbers (FieldVerdict·refused f) (FieldVerdict·refused g) e = ap FieldVerdict·refused (first e)
 
+lines-told : (v u : Verdict Lines) (l m : ℕ) → ofLines v l ≡ ofLines u m → (v ≡ u) × (l ≡ m)
+lines-told (accepted s) (accepted r) l m e = (λ i. accepted (record { kept = first e i; dropped = second e i; added = third e i }), fourth e)
+lines-told (accepted s) (refused y) l m e = absurd (omega (arith, status e))
+lines-told (refused x) (accepted r) l m e = absurd (omega (arith, status e))
+lines-told (refused x) (refused y) l m e = (ap refused (refusals x y l m e), fourth e)
+
+line-told : (v u : Verdict AccountLine) → ofLine v ≡ ofLine u → v ≡ u
+line-told (accepted s) (accepted r) e = λ i. accepted (record { letter = first e i; «record» = second e i })
+line-told (accepted s) (refused y) e = absurd (omega (arith, status e))
+line-told (refused x) (accepted r) e = absurd (omega (arith, status e))
+line-told (refused x) (refused y) e = ap refused (refusals x y 0 0 e)
+
 pub returned-tells : ReturnedTells
-returned-tells = (verdicts, places, numbers)
+returned-tells = (verdicts, places, numbers, lines-told, line-told)

@@ -12,6 +12,8 @@ use Rattle.flow.specs.declared.answer.Refusal.{Refusal}
 use Rattle.flow.specs.declared.answer.Totals.{Totals}
 use Rattle.flow.specs.declared.location.Location.{Location}
 use Rattle.amend.specs.Amended.{Amended}
+use Rattle.evenings.specs.declared.account_line.AccountLine.{AccountLine}
+use Rattle.evenings.specs.declared.comparison.Lines.{Lines}
 
 -- what is returned, and the eight entries afterwards
 pub record Returned : Type 0 where
@@ -68,3 +70,16 @@ ofChange a = ofVerdict (a .answer) 0
 -- a withdrawal tells the length of the flow left; refused, the length lent
 abbrev pub ofWithdrawal : Amended → Returned
 ofWithdrawal a = ofVerdict (a .answer) (a .size)
+
+-- a comparison tells the lines kept, dropped and added, and the length written
+abbrev pub ofLines : Verdict Lines → ℕ → Returned
+ofLines (Verdict·accepted s) l = returnedThree 1 (s .kept) (s .dropped) (s .added) l
+ofLines (Verdict·refused x) l = ofRefusal x l
+
+abbrev pub ofCompared : Output Lines → Returned
+ofCompared o = ofLines (o .answer) (o .written)
+
+-- a line tells its letter and the number of its record 14
+abbrev pub ofLine : Verdict AccountLine → Returned
+ofLine (Verdict·accepted s) = returnedThree 1 (s .letter) (s .«record») 0 0
+ofLine (Verdict·refused x) = ofRefusal x 0

@@ -7,6 +7,7 @@
 // accepted call tells it, else 0; then three zeros. No function has a `requires`, and a refused
 // call writes nothing but `answer`.
 ghost use mathlib.Core.Path.{_≡_};
+ghost use lib.ListN.{length};
 ghost use Rattle.fields.specs.Amount.{amountField};
 ghost use Rattle.fields.specs.FieldVerdict.{numberVerdict};
 ghost use Rattle.fields.specs.Date.{dateField};
@@ -17,13 +18,16 @@ ghost use Rattle.list.specs.ReadBack.{readBack};
 ghost use Rattle.list.specs.Write.{write};
 ghost use Rattle.amend.specs.Change.{change};
 ghost use Rattle.amend.specs.Withdraw.{withdraw};
-ghost use Rattle.capi.specs.Returned.{returned, ofNumber, ofDay, ofVerdict, ofFound, ofOutput, ofChange, ofWithdrawal};
+ghost use Rattle.evenings.specs.Compare.{compare, judgeComparison, workAfter, findLine, comparisonVerdict, lineVerdict};
+ghost use Rattle.capi.specs.Returned.{returned, ofNumber, ofDay, ofVerdict, ofFound, ofOutput, ofChange, ofWithdrawal, ofLines, ofCompared, ofLine};
 
 mod answer;
 
 use answer::accept;
 use answer::refuse;
 use answer::tell;
+use evenings::Comparison;
+use evenings::LineFound;
 use fields::Date;
 use fields::Number;
 use flow::Found;
@@ -120,6 +124,40 @@ pub extern "C" fn mav_withdraw(flow: &mut [u8], k: u64, answer: &mut [u64; 8]) -
     tell(answer, told, withdrawn.length)
 }
 
+// Compares two flows: how many requests are kept, dropped and added, and the length of the account that is
+// written at the front of account; 0 where it is refused.
+#[no_mangle]
+pub extern "C" fn mav_compare(
+    old: &[u8],
+    new: &[u8],
+    work: &mut [u16],
+    account: &mut [u8],
+    answer: &mut [u64; 8],
+) -> u8
+    ensures { λ r. ⌜ returned r (now (answer .exit)) ≡ ofCompared (compare (now (old .entry)) (now (new .entry)) (length (now (work .entry))) (now (account .entry))) ⌝ }
+    ensures { λ _. ⌜ now (account .exit) ≡ compare (now (old .entry)) (now (new .entry)) (length (now (work .entry))) (now (account .entry)) .bytes ⌝ }
+    ensures { λ _. ⌜ now (work .exit) ≡ workAfter (judgeComparison (now (old .entry)) (now (new .entry)) (length (now (work .entry))) (length (now (account .entry)))) (now (work .entry)) ⌝ }
+{
+    let compared = evenings::compare(old, new, work, account);
+    let told = compared.answer;
+    tell_comparison(answer, told, compared.length)
+}
+
+// What line n of that account tells: its letter, and the number of its record 14 in its flow.
+#[no_mangle]
+pub extern "C" fn mav_compare_line(
+    old: &[u8],
+    new: &[u8],
+    work: &mut [u16],
+    n: u64,
+    answer: &mut [u64; 8],
+) -> u8
+    ensures { λ r. ⌜ returned r (now (answer .exit)) ≡ ofLine (findLine (now (old .entry)) (now (new .entry)) (length (now (work .entry))) n) ⌝ }
+    ensures { λ _. ⌜ now (work .exit) ≡ workAfter (findLine (now (old .entry)) (now (new .entry)) (length (now (work .entry))) n) (now (work .entry)) ⌝ }
+{
+    tell_line(answer, evenings::find_line(old, new, work, n))
+}
+
 // Writes what a digit field or an amount answers.
 fn tell_number(answer: &mut [u64; 8], told: Number) -> u8
     ensures { λ r. ⌜ returned r (now (answer .exit)) ≡ ofNumber (numberVerdict told) ⌝ }
@@ -127,5 +165,25 @@ fn tell_number(answer: &mut [u64; 8], told: Number) -> u8
     match told {
         Number::Value(value) => accept(answer, value, 0, 0, 0),
         Number::Refused(number) => refuse(answer, flow::refusal_of_call(number), 0),
+    }
+}
+
+fn tell_comparison(answer: &mut [u64; 8], told: Comparison, length: u64) -> u8
+    ensures { λ r. ⌜ returned r (now (answer .exit)) ≡ ofLines (comparisonVerdict told) length ⌝ }
+{
+    match told {
+        Comparison::Accepted(lines) => {
+            accept(answer, lines.kept, lines.dropped, lines.added, length)
+        }
+        Comparison::Refused(refusal) => refuse(answer, refusal, length),
+    }
+}
+
+fn tell_line(answer: &mut [u64; 8], told: LineFound) -> u8
+    ensures { λ r. ⌜ returned r (now (answer .exit)) ≡ ofLine (lineVerdict told) ⌝ }
+{
+    match told {
+        LineFound::At(line) => accept(answer, line.letter as u64, line.record, 0, 0),
+        LineFound::Refused(refusal) => refuse(answer, refusal, 0),
     }
 }

@@ -27,6 +27,7 @@ use Rattle.list.specs.Table.{recordOf}
 use Rattle.list.proofs.AllRecords.{encoded-count, encode-records}
 use Rattle.list.proofs.Gathering.{body-gathered}
 use Rattle.list.proofs.Judging.{header-stays-one}
+use Rattle.list.proofs.OwnDispositions.{itemsBy, itemOfHeader, detail-record, listed-so}
 use Rattle.list.proofs.RecordsAgain.{kindFor, ownItem}
 use Rattle.list.proofs.Rewritten.{own-list-items, own-proper-all, trailer-so}
 use Rattle.flow.specs.declared.answer.Totals.{Totals}
@@ -39,7 +40,7 @@ use Rattle.amend.proofs.RulesKept.{repricedRecord}
 use Rattle.amend.proofs.PartsLeft.{totalsWith, left-bytes, retyped, typedFrom, retold, here, after}
 use Rattle.claims.specs.Ledger.{firstRepriced}
 use Rattle.claims.proofs.Encoded.{detail-heads, trailer-recounted, detail-renumbered, opening-renumbered, opening-repriced}
-use Rattle.claims.proofs.Listed.{itemsBy, itemOfHeader, detail-record, listed-so, items-retyped, items-retold}
+use Rattle.claims.proofs.Listed.{items-retyped, items-retold}
 
 -- a disposition after i others, each record of which is what its item encodes; and dispositions
 abbrev pub AsItems : HeaderMeant → ℕ → List Typed → Type 0

@@ -15,6 +15,7 @@ use Rattle.list.proofs.Answered.{write-answers, write-leaves, read-back-refused
 use Rattle.list.proofs.ListItems.{faulty-exact}
 use Rattle.list.proofs.WriteRefused.{write-refused}
 use Rattle.amend.proofs.Answered.{change-refused, withdraw-refused, refused-untouched}
+use Rattle.evenings.proofs.Refused.{compare-refused, compare-accepted, compare-leaves, line-refused, line-placed}
 use Rattle.capi.proofs.Returned.{refused-leaves, returned-tells}
 use Rattle.claims.specs.Demand1.{Demand1}
 use Rattle.claims.proofs.EntryPoints.{entry-points}
@@ -47,9 +48,14 @@ demand1 =
       read-back-answers = read-back-answers;
       change-refused = change-refused;
       withdraw-refused = withdraw-refused;
+      compare-refused = compare-refused;
+      compare-accepted = compare-accepted;
+      line-refused = line-refused;
+      line-placed = line-placed;
       written-none = write-leaves;
       read-back-none = read-back-leaves;
       amended-none = refused-untouched;
+      compared-none = compare-leaves;
       returned-none = refused-leaves;
       returned-tells = returned-tells;
     }

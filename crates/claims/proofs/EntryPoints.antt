@@ -37,13 +37,18 @@ use Rattle.flow.proofs.walk.Walk.totals.Met.{met as walk-totals-met}
 use Rattle.flow.proofs.find.Met.{met as find-met}
 use Rattle.flow.proofs.disposition.Met.{met as disposition-met}
 use Rattle.flow.proofs.find_with_totals.Met.{met as find-with-totals-met}
+use Rattle.flow.proofs.next_opening.Met.{met as next-opening-met}
 use Rattle.flow.proofs.as_count.Met.{met as as-count-met}
 use Rattle.flow.proofs.as_index.Met.{met as as-index-met}
 use Rattle.flow.proofs.refusal_of_call.Met.{met as refusal-of-call-met}
 use Rattle.list.proofs.write.Met.{met as write-met}
 use Rattle.list.proofs.read_back.Met.{met as read-back-met}
+use Rattle.list.proofs.carries_same.Met.{met as carries-same-met}
 use Rattle.amend.proofs.change.Met.{met as change-met}
 use Rattle.amend.proofs.withdraw.Met.{met as withdraw-met}
+use Rattle.evenings.proofs.compare.Met.{met as compare-met}
+use Rattle.evenings.proofs.find_line.Met.{met as find-line-met}
+use Rattle.evenings.proofs.line.Met.{met as line-met}
 use Rattle.capi.proofs.mav_digits.Met.{met as mav-digits-met}
 use Rattle.capi.proofs.mav_amount.Met.{met as mav-amount-met}
 use Rattle.capi.proofs.mav_date.Met.{met as mav-date-met}
@@ -53,6 +58,8 @@ use Rattle.capi.proofs.mav_write.Met.{met as mav-write-met}
 use Rattle.capi.proofs.mav_list.Met.{met as mav-list-met}
 use Rattle.capi.proofs.mav_change.Met.{met as mav-change-met}
 use Rattle.capi.proofs.mav_withdraw.Met.{met as mav-withdraw-met}
+use Rattle.capi.proofs.mav_compare.Met.{met as mav-compare-met}
+use Rattle.capi.proofs.mav_compare_line.Met.{met as mav-compare-line-met}
 use Rattle.claims.specs.EntryPoints.{EntryPoints}
 
 pub entry-points : EntryPoints
@@ -94,13 +101,18 @@ entry-points =
       find = (λ M. find-met, λ κs a g w. refl);
       disposition = (λ M. disposition-met, λ κs a g w. refl);
       find-with-totals = (λ M. find-with-totals-met, λ κs a g w. refl);
+      next-opening = (λ M. next-opening-met, λ κs a g w. refl);
       refusal-of-call = (λ M. refusal-of-call-met, λ κs a g w. refl);
       as-count = (λ M. as-count-met, λ κs a g w. refl);
       as-index = (λ M. as-index-met, λ κs a g w. refl);
       write = (λ M. write-met, λ κs a g w. refl);
       read-back = (λ M. read-back-met, λ κs a g w. refl);
+      carries-same = (λ M. carries-same-met, λ κs a g w. refl);
       change = (λ M. change-met, λ κs a g w. refl);
       withdraw = (λ M. withdraw-met, λ κs a g w. refl);
+      compare = (λ M. compare-met, λ κs a g w. refl);
+      find-line = (λ M. find-line-met, λ κs a g w. refl);
+      line = (λ M. line-met, λ κs a g w. refl);
       mav-digits = (λ M. mav-digits-met, λ κs a g w. refl);
       mav-amount = (λ M. mav-amount-met, λ κs a g w. refl);
       mav-date = (λ M. mav-date-met, λ κs a g w. refl);
@@ -110,4 +122,6 @@ entry-points =
       mav-list = (λ M. mav-list-met, λ κs a g w. refl);
       mav-change = (λ M. mav-change-met, λ κs a g w. refl);
       mav-withdraw = (λ M. mav-withdraw-met, λ κs a g w. refl);
+      mav-compare = (λ M. mav-compare-met, λ κs a g w. refl);
+      mav-compare-line = (λ M. mav-compare-line-met, λ κs a g w. refl);
     }

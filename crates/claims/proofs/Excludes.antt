@@ -41,16 +41,24 @@ use Rattle.grammar.proofs.KindsOfFlow.{kind-rules}
 use Rattle.grammar.proofs.Parts.{one-kind}
 use Rattle.list.specs.Encode.{fill, bodyPlaced, encodeItem, encodeFrom, encodeTrailer, lastHeader, listDispositions, listCents, encode}
 use Rattle.list.specs.Examples.{headerItem, secondItems}
-use Rattle.list.specs.Items.{items, itemsFrom, parse, itemsIn}
+use Rattle.list.specs.Items.{Item, items, itemsFrom, parse, itemsIn}
 use Rattle.list.specs.ReadBack.{itemsOf}
+use Rattle.list.specs.Same.{areSame}
 use Rattle.list.specs.Table.{firstRow}
 use Rattle.list.specs.Write.{judgeItems, judgeList}
 use Rattle.list.proofs.Answered.{write-leaves}
 use Rattle.list.proofs.Examples.{examples as list}
 use Rattle.amend.specs.Amended.{Amended}
 use Rattle.amend.proofs.Answered.{change-refused, withdraw-refused}
+use Rattle.evenings.specs.Account.{Line, Keep, Drop, Add, countLines, keptLines}
+use Rattle.evenings.specs.Compare.{accountBetween}
+use Rattle.evenings.specs.Computed.{keptWith, mostKept, linesWith, accountOf}
+use Rattle.evenings.specs.Examples.{swappedRents}
+use Rattle.evenings.specs.Requests.{requestsOf}
+use Rattle.evenings.proofs.Exact.{account-exact}
+use Rattle.evenings.proofs.Refused.{areSame-decides}
 use Rattle.claims.specs.Demand3.{KeepsLedger}
-use Rattle.claims.specs.Excludes.{Reader, AcceptsExactly, RefusesFirst, Refuses, LowestNumber, Mixed, lastWrong, ChangesFaithfully, WithdrawsFaithfully, Service, Serves, LibraryMeets, Excludes}
+use Rattle.claims.specs.Excludes.{Reader, AcceptsExactly, RefusesFirst, Refuses, LowestNumber, Mixed, lastWrong, ChangesFaithfully, WithdrawsFaithfully, Service, Serves, Comparer, ComparesRight, dropsAll, oneFurther, otherFurther, LibraryMeets, Excludes}
 use Rattle.claims.specs.Ledger.{Call, change-of, withdrawal-of, withAmount, withoutDisposition, changeOn, withdrawOn, listAfter}
 use Rattle.claims.specs.Run.{Memory, holding, flowIn}
 use Rattle.claims.proofs.Demand3.{demand3}
@@ -206,6 +214,26 @@ recall-total serve serves =
     let left = serves twoRecalls twoRecallTotals (flow .two-recalls) (change-of 2 40000 ∷ []) .canonical (list .recalls-canonical) in
     (ap (λ (f : List ℕ). field 53 67 (recordAt 15 f)) left, ap (λ (f : List ℕ). field 68 82 (recordAt 15 f)) left)
 
+-- two comparisons that are right give one account
+one-account :
+    (compare : Comparer) → ComparesRight compare → (old new : List ℕ) (t u : Totals) → judge old ≡ accepted t → judge new ≡ accepted u → accountBetween old new ≡ compare old new
+one-account compare right old new t u read read′ = right old new t u read read′ .only (accountBetween old new) (account-exact (List Item) areSame areSame-decides (requestsOf old) (requestsOf new) .preferred)
+
+-- the flows are accepted, and what is computed for them
+abbrev EveningFacts : Type 0
+EveningFacts =
+    (judge swappedRents ≡ accepted twoRentTotals)
+    × (judge (oneFurther further59) ≡ accepted (record { kind = Requests; dispositions = 1; cents = 45000; records = 9 }))
+    × (judge (oneFurther otherFurther) ≡ accepted (record { kind = Requests; dispositions = 1; cents = 45000; records = 9 }))
+    × (accountBetween (oneFurther further59) (oneFurther otherFurther) ≡ Drop ∷ Add ∷ [])
+    × (accountBetween twoRents swappedRents ≡ Drop ∷ Keep ∷ Add ∷ [])
+    × (keptLines (accountBetween twoRents twoRents) ≡ 2)
+    × (keptLines (dropsAll twoRents twoRents) ≡ 0)
+
+evening-facts : EveningFacts
+unfolding kindAmong kindFrom judge walkFrom cut judgeRecord judgeTyped among judgeAs firstFault checks isListed badFrom isEqual numberFrom digits every isDay daysIn isLeap flatten fill bodyPlaced encodeItem encodeTrailer encodeFrom lastHeader listDispositions listCents itemsFrom firstRow lead groups areSame countLines keptWith mostKept linesWith accountOf
+evening-facts = (refl, refl, refl, refl, refl, refl, refl)
+
 pub excludes : Excludes
 excludes =
     record {
@@ -224,6 +252,9 @@ excludes =
       made-up-kind = λ read exact f t e. accepted-exact f t (read-so read exact f t e) .3;
       always-requests = λ read exact all. recalls-differ (sym (all twoRecalls twoRecallTotals (reads-so read exact twoRecalls twoRecallTotals (flow .two-recalls))));
       recall-total-elsewhere = recall-total;
+      drops-all = λ compare right all. omega (arith, ap keptLines (one-account compare right twoRents twoRents twoRentTotals twoRentTotals (flow .two-rents) (flow .two-rents) ∙ all twoRents twoRents), evening-facts .5, evening-facts .6);
+      keeps-other = λ compare right. sym (one-account compare right (oneFurther further59) (oneFurther otherFurther) _ _ (evening-facts .1) (evening-facts .2)) ∙ evening-facts .3;
+      other-tie = λ compare right. sym (one-account compare right twoRents swappedRents twoRentTotals twoRentTotals (flow .two-rents) (evening-facts .0)) ∙ evening-facts .4;
       lowest-number = not-lowest;
     }
 
@@ -236,4 +267,5 @@ library-meets =
       changes-faithfully = λ f k new x same. change-refused f k new x .0 same;
       withdraws-faithfully = λ f k x same. withdraw-refused f k x .0 same;
       serves = λ f t read calls. demand3 f t read calls .0;
+      compares-right = λ old new t u read read′. account-exact (List Item) areSame areSame-decides (requestsOf old) (requestsOf new);
     }

@@ -9,3 +9,4 @@ pub mod Excludes
 pub mod Listed
 pub mod Numbers
 pub mod OneCall
+pub mod TwoEvenings

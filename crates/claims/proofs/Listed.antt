@@ -31,8 +31,8 @@ use Rattle.list.specs.Items.{Item, item, recordKind, isD}
 use Rattle.list.specs.ReadBack.{gather, itemsOf}
 use Rattle.list.specs.Table.{recordOf, carried}
 use Rattle.list.proofs.Carried.{gather-at}
+use Rattle.list.proofs.OwnDispositions.{itemsBy, itemOfHeader, detail-record, detail-shut, listed-so, head-so, dispositions-so}
 use Rattle.list.proofs.RecordsAgain.{kindFor, ownItem}
-use Rattle.list.proofs.Rewritten.{own-list-items}
 use Rattle.list.proofs.TableSpans.{carried-within, carried-after-number}
 use Rattle.amend.specs.Withdraw.{renumbered}
 use Rattle.amend.proofs.Neighbours.{Neighbours}
@@ -41,55 +41,6 @@ use Rattle.amend.proofs.RulesKept.{repricedRecord}
 use Rattle.amend.proofs.PartsLeft.{amounts, retyped, typedFrom, retold}
 use Rattle.claims.specs.Ledger.{leading, dispositions, repriced, firstRepriced, withAmount, withoutDisposition}
 use Rattle.claims.proofs.Encoded.{detail-heads}
-
--- the items of dispositions
-abbrev pub itemsBy : FlowKind → List (List Typed) → List (List Item)
-itemsBy q ds = map (map (ownItem q)) ds
-
--- the item of a header
-abbrev pub itemOfHeader : FlowKind → List ℕ → Item
-itemOfHeader q header = ownItem q (record { kind = Im; bytes = header })
-
--- a record of a disposition but the first is that of its own item
-pub detail-record : (q : FlowKind) (k : RecordKind) → Detail k → recordOf (kindFor q k) ≡ k
-detail-record q = each-detail (λ (k : RecordKind). recordOf (kindFor q k) ≡ k) (refl, (refl, (refl, (refl, (refl, (refl, (refl, (refl, tt))))))))
-
-detail-shut : (q : FlowKind) (k : RecordKind) → Detail k → opens (recordOf (kindFor q k)) ≡ false
-detail-shut q k detail = ap opens (detail-record q k detail) ∙ detail-opens k detail
-
--- a disposition's items: a D, and others that are none
-details-shut : (q : FlowKind) (rs : List Typed) → All Detail (kindsOf rs) → All (λ (it : Item). isD it ≡ false) (map (ownItem q) rs)
-details-shut q [] details = tt
-details-shut q (r ∷ rs) details = (detail-shut q (r .kind) (details .0), details-shut q rs (details .1))
-
-items-open : (q : FlowKind) (ds : List (List Typed)) → InShape ds → All (Opens isD) (itemsBy q ds)
-items-open q [] shape = tt
-items-open q (d ∷ ds) shape = (go d (opened-so d (shape .0)), items-open q ds (shape .1))
-  where
-    go : (d : List Typed) → Opened d → Opens isD (map (ownItem q) d)
-    go d (opened-by r rs e details) = record { first = ownItem q r; others = map (ownItem q) rs; whole = refl; passes = ap (λ (k : RecordKind). opens (recordOf (kindFor q k))) e; none = details-shut q rs details }
-
--- so the list of a flow is its header's item and its dispositions', and the ledger finds them there
-module _ (f : List ℕ) (t : Totals) (g : Grammar f t) where
-  abbrev q : FlowKind
-  q = t .kind
-
-  abbrev head : Item
-  head = itemOfHeader q (g .parts .header)
-
-  abbrev ds : List (List Typed)
-  ds = g .parts .dispositions
-
-  pub listed-so : itemsOf f ≡ head ∷ flatten (itemsBy q ds)
-  listed-so = own-list-items f t g ∙ ap (λ (l : List Item). head ∷ l) (map-flatten (ownItem q) ds)
-
-  head-so : leading (itemsOf f) ≡ head ∷ []
-  unfolding lead
-  head-so = ap leading listed-so ∙ ap (λ (l : List Item). head ∷ l) (lead-joined isD (itemsBy q ds) (items-open q ds (grammar-shape f t g)))
-
-  dispositions-so : dispositions (itemsOf f) ≡ itemsBy q ds
-  unfolding groups
-  dispositions-so = ap dispositions listed-so ∙ groups-joined isD (itemsBy q ds) (items-open q ds (grammar-shape f t g))
 
 -- disposition k among them
 module _ (f : List ℕ) (k : ℕ) (v : WithTotals) (w : Neighbours f k v) where

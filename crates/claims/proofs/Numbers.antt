@@ -1,5 +1,5 @@
 -- Each call is refused by one of the numbers that document 01 gives it. Assumes nothing.
-use Prim.Native.Nat.{ℕ, _<_}
+use Prim.Native.Nat.{ℕ, _≤_, _<_}
 use mathlib.Core.Bool.{Bool, true, false, cond, _&&_, _||_, or-true, true≢false}
 use mathlib.Core.List.{List, [], _∷_, _++_}
 use mathlib.Core.Logic.{_↔_, _⊎_, inl, inr}
@@ -43,7 +43,10 @@ use Rattle.list.proofs.WriteNumbers.{numbers-supplied, kinds-supplied, write-re
 use Rattle.list.proofs.WriteRefused.{write-refused}
 use Rattle.amend.specs.Laws.{ChangeFault, not-read, no-disposition, amount-too-large, total-too-large, WithdrawFault, only-one}
 use Rattle.amend.proofs.Answered.{change-refused, withdraw-refused}
-use Rattle.claims.specs.Demand1.{OneOf, recordNumbers, placeNumbers, readingNumbers, findingNumbers, writingNumbers, readingBackNumbers, changeNumbers, withdrawalNumbers, NumbersGiven}
+use Rattle.evenings.specs.Compare.{accountBetween}
+use Rattle.evenings.specs.Laws.{PairFault, old-not-read, new-not-read, too-many, kinds-differ, little-memory, CanCompare}
+use Rattle.evenings.proofs.Refused.{compare-refused, line-refused}
+use Rattle.claims.specs.Demand1.{OneOf, recordNumbers, placeNumbers, readingNumbers, findingNumbers, writingNumbers, readingBackNumbers, changeNumbers, withdrawalNumbers, comparingNumbers, lineNumbers, NumbersGiven}
 
 -- numbers that are all among others, as a test that computes; and one of the first is one of the others
 abbrev areAmong : List ℕ → List ℕ → Bool
@@ -168,6 +171,17 @@ withdraw-number {f} (not-read x wrong) = among withdrawalNumbers readingNumbers 
 withdraw-number (no-disposition t read none) = refl
 withdraw-number (only-one t read count one) = refl
 
+abbrev pairNumbers : List ℕ
+pairNumbers = readingNumbers ++ (27 ∷ 28 ∷ 34 ∷ [])
+
+pair-number : {old new : List ℕ} {lent : ℕ} {x : Refusal} → PairFault old new lent x → OneOf pairNumbers (x .number)
+unfolding every isListed
+pair-number {old} (old-not-read x wrong) = among pairNumbers readingNumbers (x .number) refl (reading old x wrong)
+pair-number {old} {new} (new-not-read t x read wrong) = among pairNumbers readingNumbers (x .number) refl (reading new x wrong)
+pair-number (too-many t u read read′ many) = refl
+pair-number (kinds-differ t u read read′ few few′ other) = refl
+pair-number (little-memory t u read read′ few few′ same short) = refl
+
 pub numbers-given : NumbersGiven
 unfolding every isListed
 numbers-given =
@@ -184,6 +198,8 @@ numbers-given =
       reading-back = λ f room x e. by-room f room x (read-back-refused f room x .0 e);
       changing = λ f k new x e. change-number (change-refused f k new x .0 e);
       withdrawing = λ f k x e. withdraw-number (withdraw-refused f k x .0 e);
+      comparing = λ old new lent room x e. by-pair old new lent room x (compare-refused old new lent room x .0 e);
+      asking-a-line = λ old new lent n x e. by-line old new lent n x (line-refused old new lent n x .0 e);
     }
   where
     by-date : (bs : List ℕ) (n : ℕ) → ((n ≡ 5) × ¬ SixDigits bs) ⊎ ((n ≡ 8) × SixDigits bs × ¬ Gregorian (dayOf bs)) → OneOf (5 ∷ 8 ∷ []) n
@@ -195,3 +211,15 @@ numbers-given =
         → OneOf readingBackNumbers (x .number)
     by-room f room x (inl e) = among readingBackNumbers readingNumbers (x .number) refl (reading f x e)
     by-room f room x (inr (t, e, short, same)) = rw same
+
+    by-pair :
+        (old new : List ℕ) (lent room : ℕ) (x : Refusal) → PairFault old new lent x ⊎ (CanCompare old new lent × (room < length (accountBetween old new)) × (x ≡ ofCall 21))
+        → OneOf comparingNumbers (x .number)
+    by-pair old new lent room x (inl f) = among comparingNumbers pairNumbers (x .number) refl (pair-number f)
+    by-pair old new lent room x (inr h) = rw (h .2)
+
+    by-line :
+        (old new : List ℕ) (lent n : ℕ) (x : Refusal) → PairFault old new lent x ⊎ (CanCompare old new lent × ¬ ((1 ≤ n) × (n ≤ length (accountBetween old new))) × (x ≡ ofCall 15))
+        → OneOf lineNumbers (x .number)
+    by-line old new lent n x (inl f) = among lineNumbers pairNumbers (x .number) refl (pair-number f)
+    by-line old new lent n x (inr h) = rw (h .2)

@@ -24,6 +24,7 @@ use Rattle.grammar.proofs.Grammar.{grammar-exact}
 use Rattle.list.specs.Encode.{listDispositions, listCents, listTotals}
 use Rattle.list.specs.Items.{Item}
 use Rattle.list.specs.ReadBack.{itemsOf, Canonical}
+use Rattle.list.proofs.OwnDispositions.{itemsBy, itemOfHeader, listed-so}
 use Rattle.list.proofs.RecordsAgain.{ownItem}
 use Rattle.list.proofs.Rewritten.{own-list-items, own-sums}
 use Rattle.amend.specs.Amended.{Amended, unchanged}
@@ -38,7 +39,7 @@ use Rattle.claims.specs.Demand3.{TouchesOnly, numberOf, Amends, Touched}
 use Rattle.claims.specs.Ledger.{Call, change-of, withdrawal-of, change-accepted, withdrawal-accepted, call-refused, Entry, refusedEntry, has, withAmount, withoutDisposition, changeOn, withdrawLeaving, withdrawOn, entry, firstRepriced}
 use Rattle.claims.specs.Run.{Memory, flowIn, amend, replyOf}
 use Rattle.claims.proofs.Canonical.{changed-canonical, withdrawn-canonical}
-use Rattle.claims.proofs.Listed.{itemsBy, itemOfHeader, listed-so, without-listed, amount-listed, typed-items, items-retold, items-cents}
+use Rattle.claims.proofs.Listed.{without-listed, amount-listed, typed-items, items-retold, items-cents}
 
 -- memory that was made of the flow g, as long as `all`, beside a list: it holds a flow whose list this is, and blanks after it
 pub record Held (g : List ℕ) (all : ℕ) (m : Memory) (list : List Item) : Type 0 where

@@ -28,6 +28,8 @@ use Rattle.list.specs.Write.{judgeList}
 use Rattle.amend.specs.Change.{change}
 use Rattle.amend.specs.Laws.{ChangeRefused, WithdrawRefused, RefusedUntouched}
 use Rattle.amend.specs.Withdraw.{withdraw}
+use Rattle.evenings.specs.Compare.{judgeComparison, findLine}
+use Rattle.evenings.specs.Laws.{CompareRefused, CompareAccepted, CompareLeaves, LineRefused, LinePlaced}
 use Rattle.capi.specs.Laws.{RefusedLeaves, ReturnedTells}
 use Rattle.claims.specs.EntryPoints.{EntryPoints}
 
@@ -59,6 +61,13 @@ changeNumbers = readingNumbers ++ (15 ∷ 16 ∷ 17 ∷ [])
 abbrev pub withdrawalNumbers : List ℕ
 withdrawalNumbers = readingNumbers ++ (15 ∷ 18 ∷ [])
 
+-- comparing two flows, and a line of their account
+abbrev pub comparingNumbers : List ℕ
+comparingNumbers = readingNumbers ++ (27 ∷ 28 ∷ 34 ∷ 21 ∷ [])
+
+abbrev pub lineNumbers : List ℕ
+lineNumbers = readingNumbers ++ (27 ∷ 28 ∷ 34 ∷ 15 ∷ [])
+
 -- a refusal's number is one of these
 abbrev pub OneOf : List ℕ → ℕ → Type 0
 OneOf ns n = isListed n ns ≡ true
@@ -76,6 +85,8 @@ pub record NumbersGiven : Type 0 where
   pub reading-back : (f : List ℕ) (room : ℕ) (x : Refusal) → judgeRoom f room ≡ refused x → OneOf readingBackNumbers (x .number)
   pub changing : (f : List ℕ) (k new : ℕ) (x : Refusal) → change f k new .answer ≡ refused x → OneOf changeNumbers (x .number)
   pub withdrawing : (f : List ℕ) (k : ℕ) (x : Refusal) → withdraw f k .answer ≡ refused x → OneOf withdrawalNumbers (x .number)
+  pub comparing : (old new : List ℕ) (lent room : ℕ) (x : Refusal) → judgeComparison old new lent room ≡ refused x → OneOf comparingNumbers (x .number)
+  pub asking-a-line : (old new : List ℕ) (lent n : ℕ) (x : Refusal) → findLine old new lent n ≡ refused x → OneOf lineNumbers (x .number)
 
 pub record Demand1 : Type 2 where
   -- "whatever bytes we lend, every entry point ends with an answer and asks nothing of us first"
@@ -114,10 +125,17 @@ pub record Demand1 : Type 2 where
   -- the amendments: the reader's refusals, then each of their own where those before it do not apply
   pub change-refused : ChangeRefused
   pub withdraw-refused : WithdrawRefused
+  -- two flows compared, and a line of their account: the old flow's refusals, the new flow's, then each of their own where those before it do
+  -- not apply; a refused line's part is empty, at the start of the old flow
+  pub compare-refused : CompareRefused
+  pub compare-accepted : CompareAccepted
+  pub line-refused : LineRefused
+  pub line-placed : LinePlaced
   -- and every buffer is as before
   pub written-none : WriteLeaves
   pub read-back-none : ReadBackLeaves
   pub amended-none : RefusedUntouched
+  pub compared-none : CompareLeaves
   -- so it is through the C interface, whose entries tell the whole answer (of an accepted date no day)
   pub returned-none : RefusedLeaves
   pub returned-tells : ReturnedTells

@@ -75,6 +75,8 @@ use Rattle.flow.proofs.disposition.Reads.{requires as disposition-requires}
 use Rattle.flow.proofs.disposition.Statement.{statement as disposition-statement}
 use Rattle.flow.proofs.find_with_totals.Reads.{requires as find-with-totals-requires}
 use Rattle.flow.proofs.find_with_totals.Statement.{statement as find-with-totals-statement}
+use Rattle.flow.proofs.next_opening.Reads.{requires as next-opening-requires}
+use Rattle.flow.proofs.next_opening.Statement.{statement as next-opening-statement}
 use Rattle.flow.proofs.as_count.Reads.{requires as as-count-requires}
 use Rattle.flow.proofs.as_count.Statement.{statement as as-count-statement}
 use Rattle.flow.proofs.as_index.Reads.{requires as as-index-requires}
@@ -85,10 +87,18 @@ use Rattle.list.proofs.write.Reads.{requires as write-requires}
 use Rattle.list.proofs.write.Statement.{statement as write-statement}
 use Rattle.list.proofs.read_back.Reads.{requires as read-back-requires}
 use Rattle.list.proofs.read_back.Statement.{statement as read-back-statement}
+use Rattle.list.proofs.carries_same.Reads.{requires as carries-same-requires}
+use Rattle.list.proofs.carries_same.Statement.{statement as carries-same-statement}
 use Rattle.amend.proofs.change.Reads.{requires as change-requires}
 use Rattle.amend.proofs.change.Statement.{statement as change-statement}
 use Rattle.amend.proofs.withdraw.Reads.{requires as withdraw-requires}
 use Rattle.amend.proofs.withdraw.Statement.{statement as withdraw-statement}
+use Rattle.evenings.proofs.compare.Reads.{requires as compare-requires}
+use Rattle.evenings.proofs.compare.Statement.{statement as compare-statement}
+use Rattle.evenings.proofs.find_line.Reads.{requires as find-line-requires}
+use Rattle.evenings.proofs.find_line.Statement.{statement as find-line-statement}
+use Rattle.evenings.proofs.line.Reads.{requires as line-requires}
+use Rattle.evenings.proofs.line.Statement.{statement as line-statement}
 use Rattle.capi.proofs.mav_digits.Reads.{requires as mav-digits-requires}
 use Rattle.capi.proofs.mav_digits.Statement.{statement as mav-digits-statement}
 use Rattle.capi.proofs.mav_amount.Reads.{requires as mav-amount-requires}
@@ -107,6 +117,10 @@ use Rattle.capi.proofs.mav_change.Reads.{requires as mav-change-requires}
 use Rattle.capi.proofs.mav_change.Statement.{statement as mav-change-statement}
 use Rattle.capi.proofs.mav_withdraw.Reads.{requires as mav-withdraw-requires}
 use Rattle.capi.proofs.mav_withdraw.Statement.{statement as mav-withdraw-statement}
+use Rattle.capi.proofs.mav_compare.Reads.{requires as mav-compare-requires}
+use Rattle.capi.proofs.mav_compare.Statement.{statement as mav-compare-statement}
+use Rattle.capi.proofs.mav_compare_line.Reads.{requires as mav-compare-line-requires}
+use Rattle.capi.proofs.mav_compare_line.Statement.{statement as mav-compare-line-statement}
 
 -- an entry point: the function meets its contract in every model of the logic, and the contract's `requires`, whatever the caller lends, is
 -- the empty assertion
@@ -153,15 +167,21 @@ pub record EntryPoints : Type 2 where
   pub find : EntryPoint find-statement find-requires
   pub disposition : EntryPoint disposition-statement disposition-requires
   pub find-with-totals : EntryPoint find-with-totals-statement find-with-totals-requires
+  pub next-opening : EntryPoint next-opening-statement next-opening-requires
   pub refusal-of-call : EntryPoint refusal-of-call-statement refusal-of-call-requires
   pub as-count : EntryPoint as-count-statement as-count-requires
   pub as-index : EntryPoint as-index-statement as-index-requires
-  -- list: a list: writing it, and reading a flow back
+  -- list: a list: writing it, reading a flow back, and whether two records have the same item
   pub write : EntryPoint write-statement write-requires
   pub read-back : EntryPoint read-back-statement read-back-requires
+  pub carries-same : EntryPoint carries-same-statement carries-same-requires
   -- amend: the amendments
   pub change : EntryPoint change-statement change-requires
   pub withdraw : EntryPoint withdraw-statement withdraw-requires
+  -- evenings: two flows compared
+  pub compare : EntryPoint compare-statement compare-requires
+  pub find-line : EntryPoint find-line-statement find-line-requires
+  pub line : EntryPoint line-statement line-requires
   -- capi: the C interface
   pub mav-digits : EntryPoint mav-digits-statement mav-digits-requires
   pub mav-amount : EntryPoint mav-amount-statement mav-amount-requires
@@ -172,3 +192,5 @@ pub record EntryPoints : Type 2 where
   pub mav-list : EntryPoint mav-list-statement mav-list-requires
   pub mav-change : EntryPoint mav-change-statement mav-change-requires
   pub mav-withdraw : EntryPoint mav-withdraw-statement mav-withdraw-requires
+  pub mav-compare : EntryPoint mav-compare-statement mav-compare-requires
+  pub mav-compare-line : EntryPoint mav-compare-line-statement mav-compare-line-requires

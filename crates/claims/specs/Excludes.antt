@@ -2,17 +2,18 @@
 -- requests, the demand that it breaks, as a statement about any program that meets the demand. A program is here what it answers and leaves,
 -- as a function of what it is given. Assumes nothing.
 use Prim.Native.Nat.{ℕ, _*_, _≤_, _<_}
+use Prim.Native.String.{String}
 use mathlib.Core.Bool.{true}
-use mathlib.Core.List.{List, [], _∷_, _++_}
+use mathlib.Core.List.{List, [], _∷_, _++_, map}
 use mathlib.Core.Logic.{_↔_}
 use mathlib.Core.Path.{_≡_}
-use lib.ListN.{length, take, getD}
+use lib.ListN.{length, take, drop, getD}
 use Rattle.sequences.specs.Part.{put}
 use Rattle.sequences.specs.Text.{text}
 use Rattle.records.specs.Field.{field}
 use Rattle.records.specs.Kinds.{isOpening}
 use Rattle.records.specs.declared.flow_kind.FlowKind.the-variants.{Requests}
-use Rattle.flow.specs.Examples.{flowOf, further59, firstClosed, withFurther, twoRents, twoRecalls}
+use Rattle.flow.specs.Examples.{flowOf, headerIm, firstOpened, further59, firstClosed, withFurther, twoRents, twoRecalls}
 use Rattle.flow.specs.Judge.{judge}
 use Rattle.flow.specs.Output.{Output, LeftAlone}
 use Rattle.flow.specs.Records.{recordAt, recordsOf}
@@ -24,12 +25,17 @@ use Rattle.grammar.specs.Fault.{FaultAfter, FirstFault}
 use Rattle.grammar.specs.Grammar.{Grammar}
 use Rattle.list.specs.Encode.{encode}
 use Rattle.list.specs.Examples.{headerItem, secondItems, twoRentList}
-use Rattle.list.specs.Items.{itemsIn}
+use Rattle.list.specs.Items.{Item, itemsIn}
 use Rattle.list.specs.Write.{judgeItems, judgeList, write}
 use Rattle.amend.specs.Amended.{Amended}
 use Rattle.amend.specs.Change.{change}
 use Rattle.amend.specs.Laws.{ChangeFault, WithdrawFault}
 use Rattle.amend.specs.Withdraw.{withdraw}
+use Rattle.evenings.specs.Account.{Line, Keep, Drop, Add}
+use Rattle.evenings.specs.Compare.{accountBetween}
+use Rattle.evenings.specs.Examples.{swappedRents}
+use Rattle.evenings.specs.Laws.{Meant}
+use Rattle.evenings.specs.Requests.{requestsOf}
 use Rattle.claims.specs.Demand3.{KeepsLedger}
 use Rattle.claims.specs.Ledger.{Call, Reply, change-of, withdrawal-of}
 use Rattle.claims.specs.Run.{Memory, holding, flowIn, run, replies}
@@ -91,6 +97,27 @@ abbrev pub Serves : Service → Type 0
 Serves serve =
     (f : List ℕ) (t : Totals) → judge f ≡ accepted t → (calls : List Call) → KeepsLedger f calls (serve calls f .after) (serve calls f .answers)
 
+-- a comparison of two flows as an account, and one that gives the account that is meant
+abbrev pub Comparer : Type 0
+Comparer = List ℕ → List ℕ → List Line
+
+abbrev pub ComparesRight : Comparer → Type 0
+ComparesRight compare = (old new : List ℕ) (t u : Totals) → judge old ≡ accepted t → judge new ≡ accepted u → Meant (requestsOf old) (requestsOf new) (compare old new)
+
+-- an account that drops every request and adds every other
+abbrev pub dropsAll : Comparer
+dropsAll old new = map (λ (r : List Item). Drop) (requestsOf old) ++ map (λ (r : List Item). Add) (requestsOf new)
+
+abbrev pub oneTrailer : String
+oneTrailer = " EFAB12301234150326RENT-MARCH                00000010000000000450000000000000000000000009                        E      "
+
+-- two flows of one request, with a 59 whose one byte differs
+abbrev pub oneFurther : String → List ℕ
+oneFurther further = flowOf ((headerIm ∷ firstOpened) ++ (further ∷ (drop 1 firstClosed ++ (oneTrailer ∷ []))))
+
+abbrev pub otherFurther : String
+otherFurther = " 590000001RETTA MARZO 2027                                                                                              "
+
 -- the library meets each of these
 abbrev pub library : Service
 library calls f = record { after = run calls (holding f); answers = replies calls (holding f) }
@@ -102,6 +129,7 @@ pub record LibraryMeets : Type 0 where
   pub changes-faithfully : ChangesFaithfully change
   pub withdraws-faithfully : WithdrawsFaithfully withdraw
   pub serves : Serves library
+  pub compares-right : ComparesRight accountBetween
 
 -- and whatever meets them is none of the wrong programs
 pub record Excludes : Type 0 where
@@ -143,5 +171,11 @@ pub record Excludes : Type 0 where
   pub recall-total-elsewhere :
       (serve : Service) → Serves serve → let trailer = recordAt 15 (flowIn (serve (change-of 2 40000 ∷ []) twoRecalls .after)) in
       (field 53 67 trailer ≡ text "000000000000000") × (field 68 82 trailer ≡ text "000000000085000")
+  -- Document 02, E7. A comparison whose account drops all and adds all
+  pub drops-all : (compare : Comparer) → ComparesRight compare → ¬ ((old new : List ℕ) → compare old new ≡ dropsAll old new)
+  -- one that keeps requests that differ in one byte of a 59
+  pub keeps-other : (compare : Comparer) → ComparesRight compare → compare (oneFurther further59) (oneFurther otherFurther) ≡ Drop ∷ Add ∷ []
+  -- one that is shortest and breaks the tie the other way: add, keep, drop is no longer than drop, keep, add
+  pub other-tie : (compare : Comparer) → ComparesRight compare → compare twoRents swappedRents ≡ Drop ∷ Keep ∷ Add ∷ []
   -- "reporting the lowest refusal number, where the lowest record is wanted"
   pub lowest-number : (read : Reader) → RefusesFirst read → ¬ LowestNumber read

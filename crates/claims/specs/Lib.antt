@@ -6,3 +6,4 @@ pub mod Examples
 pub mod Excludes
 pub mod Ledger
 pub mod Run
+pub mod TwoEvenings

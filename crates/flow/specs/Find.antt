@@ -87,7 +87,7 @@ pub record HasDisposition (f : List ℕ) (k : ℕ) : Type 0 where
   pub some : 1 ≤ k
   pub within : k ≤ totals .dispositions
 
--- and the index of the first record that opens a disposition, at index i of f's records or after it, or of the trailer where there is
--- none; and i itself where it is after the trailer
+-- the index of the first record that opens a disposition, at index i of f's records or after it, or of the trailer, the last record, where
+-- there is none; and i itself where it is after the trailer
 abbrev pub openingFrom : List ℕ → ℕ → ℕ
 openingFrom f i = i + length (lead isOpening (drop i (dropLast (recordsOf f))))

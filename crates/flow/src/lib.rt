@@ -1,7 +1,7 @@
 // Reading a flow of M.Av. payment requests: the order of its records, the walk over them, and `read`,
 // which accepts a flow exactly where document 01 does and else gives its first fault; `find` and
-// `disposition`, which say where disposition k stands in an accepted flow; and `find_with_totals`, which
-// reads and finds at once.
+// `disposition`, which say where disposition k stands in an accepted flow; `find_with_totals`, which reads
+// and finds at once; and `next_opening`, which goes from one disposition to the next.
 //
 // The flow is read in place: each record is handed to the record rules as the part of 120 bytes that
 // it is, and nothing of it is copied. No public function has a `requires`, and none changes a byte.
@@ -28,10 +28,12 @@ pub use location::WithTotals;
 pub use location::disposition;
 pub use location::find;
 pub use location::find_with_totals;
+pub use location::next_opening;
 pub use order::Due;
 pub use order::Place;
 pub use reader::latest_company;
 pub use reader::read;
+pub use refusals::NO_DISPOSITION;
 pub use refusals::NO_ROOM;
 pub use refusals::TOTAL_TOO_LARGE;
 pub use refusals::WRONG_TYPE;

@@ -1,9 +1,8 @@
 // Where a disposition stands in a flow.
-ghost use Prim.Native.Nat.{_≤_};
+ghost use Prim.Native.Nat.{_-_};
 ghost use mathlib.Core.Bool.{_&&_};
 ghost use mathlib.Core.Path.{_≡_};
 ghost use lib.Dec.{leb};
-ghost use lib.ListN.{length};
 ghost use Rattle.sequences.specs.Slice.{StartsAt};
 ghost use Rattle.fields.specs.Digits.{number as Digits·number};
 ghost use Rattle.records.specs.Amount.{amountIn, HasAmount};
@@ -131,13 +130,12 @@ fn start_of(flow: &[u8], k: u64) -> usize
     at
 }
 
-// The index of the first record at an index or after it that opens a disposition, or that of the trailer
-// where there is none. An index after the trailer comes back as it is.
-fn next_opening(flow: &[u8], from: usize) -> usize
-    requires { ⌜ 120 ≤ length (now flow) ⌝ }
+// The index of the first record at an index or after it that opens a disposition, or that of the trailer,
+// the last record, where there is none. An index after the trailer comes back as it is.
+pub fn next_opening(flow: &[u8], from: usize) -> usize
     ensures { λ r. ⌜ r ≡ openingFrom (now (flow .entry)) from ⌝ }
 {
-    let trailer = flow.len() / 120 - 1;
+    let trailer = last_index(flow.len() / 120);
     let mut i = from;
     while i < trailer {
         let rec = &flow[120 * i..120 * i + 120];
@@ -147,6 +145,16 @@ fn next_opening(flow: &[u8], from: usize) -> usize
         i += 1;
     }
     i
+}
+
+// The index of the last of n, or 0 of none.
+fn last_index(n: usize) -> usize
+    ensures { λ r. ⌜ r ≡ n - 1 ⌝ }
+{
+    if n == 0 {
+        return 0;
+    }
+    n - 1
 }
 
 // The amount of a record that opens a disposition of an accepted flow: it is never refused.

@@ -7,7 +7,7 @@ pub const WRONG_TYPE: u64 = 3;
 
 pub(crate) const ENDED: u64 = 4;
 
-pub(crate) const NO_DISPOSITION: u64 = 15;
+pub const NO_DISPOSITION: u64 = 15;
 
 pub const TOTAL_TOO_LARGE: u64 = 17;
 

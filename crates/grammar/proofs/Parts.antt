@@ -41,7 +41,7 @@ use Rattle.grammar.proofs.Dispositions.{Detail, detail-opens, Opened, o
 use Rattle.grammar.proofs.Grammar.{grammar-records, grammar-whole, grammar-bytes, grammar-exact}
 
 -- a record opens a disposition by its type where it does by its kind
-opening-so : (k : RecordKind) (rec : List ℕ) → Formed k rec → isOpening rec ≡ opens k
+pub opening-so : (k : RecordKind) (rec : List ℕ) → Formed k rec → isOpening rec ≡ opens k
 opening-so k rec formed = sym (opens-type k rec (type-tested k rec (formed .type)))
 
 module _ (abi : List ℕ) where

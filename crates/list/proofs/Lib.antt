@@ -1,3 +1,4 @@
+pub mod Alike
 pub mod AllRecords
 pub mod Answered
 pub mod Carried
@@ -11,6 +12,7 @@ pub mod Judging
 pub mod ListItems
 pub mod Loops
 pub mod OneRecord
+pub mod OwnDispositions
 pub mod OwnList
 pub mod Parsing
 pub mod Placing

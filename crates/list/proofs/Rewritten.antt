@@ -116,7 +116,7 @@ trailers-alike h t rec other f g a b =
     )
 
 -- the row of a record of a known kind
-own-row : (q : FlowKind) (r : Typed) → Formed (r .kind) (r .bytes) → closes (r .kind) ≡ false → rowIn q (r .bytes) ≡ Of (kindFor q (r .kind))
+pub own-row : (q : FlowKind) (r : Typed) → Formed (r .kind) (r .bytes) → closes (r .kind) ≡ false → rowIn q (r .bytes) ≡ Of (kindFor q (r .kind))
 own-row q r formed not-last = row-in q (kindFor q (r .kind)) (r .bytes) (suits-for q (r .kind)) (formed .type ∙ ap typeOf (sym (record-for q (r .kind) not-last)))
 
 -- the items of records

@@ -5,5 +5,6 @@ pub mod Items
 pub mod Laws
 pub mod Output
 pub mod ReadBack
+pub mod Same
 pub mod Table
 pub mod Write

@@ -17,7 +17,7 @@ pub unknown-not-of : {q : FlowKind} → Unknown ≡ Of q → ⊥
 unknown-not-of e = let z : _≡_ {A = ℕ} 0 1 = cc in omega arith
 
 -- the causale of a kind tells it
-own-causale : (q : FlowKind) → kindAmong flowKinds (causale q) ≡ Of q
+pub own-causale : (q : FlowKind) → kindAmong flowKinds (causale q) ≡ Of q
 unfolding kindAmong isEqual
 own-causale Requests = refl
 own-causale Recalls = refl

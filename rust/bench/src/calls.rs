@@ -2,9 +2,11 @@
 
 use std::hint::black_box;
 
-use mav::{Accepted, Refusal, Written};
+use mav::{Accepted, Compared, Refusal, Written, MAX_ACCOUNT_LENGTH, MIN_WORK};
 use oracle::{amend, list, reader, Answer, FlowKind};
 
+use crate::evenings::{self, Numbering};
+use crate::flows::Evenings;
 use crate::time::{side_by_side, Memory, Times};
 
 /// The place of our times among those of both sides.
@@ -122,10 +124,54 @@ pub fn compared(call: Call, input: &[u8], rounds: usize) -> Times<2> {
     side_by_side(rounds, &mut call.memory(input), [&ours, &plain])
 }
 
+/// A comparison of two evenings: of two flows, in a working memory, with room
+/// for the account.
+pub type Comparer = fn(&[u8], &[u8], &mut [u16], &mut [u8]) -> Result<Compared, oracle::Refusal>;
+
+/// Ours, the plain code that compares requests, and that which hashes them.
+pub const COMPARERS: [Comparer; 3] = [
+    |old, new, work, account| mav::compare(old, new, work, account).map_err(refused),
+    |old, new, work, account| evenings::compare(Numbering::Compared, old, new, work, account),
+    |old, new, work, account| evenings::compare(Numbering::Hashed, old, new, work, account),
+];
+
+/// A refusal of the proved library in the form of the second program.
+fn refused(refusal: Refusal) -> oracle::Refusal {
+    oracle::Refusal {
+        number: refusal.reason.number() as u8,
+        record: refusal.record,
+        position: refusal.position as u8,
+    }
+}
+
+/// Compares two evenings on every side. The account, its counts and the memory
+/// afterwards must be the same, and as many kept as are meant to be.
+pub fn account_agreed(
+    Evenings {
+        name,
+        old,
+        new,
+        kept,
+    }: &Evenings,
+) {
+    let [ours, plain, hashed] = COMPARERS.map(|compare| {
+        let (mut work, mut account) = (vec![1; MIN_WORK], vec![b'#'; MAX_ACCOUNT_LENGTH]);
+        let compared = compare(old, new, &mut work, &mut account);
+        (compared, work, account)
+    });
+    assert!(
+        ours.0.is_ok_and(|compared| compared.kept == *kept),
+        "{name}: {:?}",
+        ours.0
+    );
+    assert!(ours == plain, "{name}: {:?}, {:?}", ours.0, plain.0);
+    assert!(ours == hashed, "{name}: {:?}, {:?}", ours.0, hashed.0);
+}
+
 #[cfg(test)]
 mod tests {
     use super::*;
-    use crate::flows::{recalled, usual};
+    use crate::flows::{evenings, recalled, usual};
 
     #[test]
     fn both_sides_agree_on_every_call() {
@@ -145,6 +191,42 @@ mod tests {
         let (records, list) = agreed(Call::ReadBack, flow);
         assert_eq!((records, list.len(), list[0]), (23, 1_829, letter));
         assert_eq!(agreed(Call::Write, &list), (23, flow.to_vec()));
+    }
+
+    #[test]
+    fn all_sides_agree_on_every_evening() {
+        for pair in evenings() {
+            account_agreed(&pair);
+        }
+    }
+
+    /// Refusals too: each call is refused as on the other sides.
+    #[test]
+    fn all_sides_refuse_alike() {
+        let [.., next] = evenings();
+        let (old, new) = (&next.old[..], &next.new[..]);
+        let (many, recalls) = (&usual(257)[..], &recalled(usual(3))[..]);
+        for (old, new, work, room, number) in [
+            (&old[1..], new, 0, 0, 1),
+            (old, &new[..960], 0, 0, 4),
+            (many, recalls, 0, 0, 27),
+            (old, recalls, 0, 0, 28),
+            (old, new, MIN_WORK - 1, 0, 34),
+            (old, new, MIN_WORK, 261, 21),
+        ] {
+            for compare in COMPARERS {
+                let refusal = compare(old, new, &mut vec![1; work], &mut vec![b'#'; room]);
+                assert_eq!(refusal.unwrap_err().number, number);
+            }
+        }
+    }
+
+    #[test]
+    #[should_panic(expected = "3 dropped, 3 added, 3 amounts")]
+    fn another_number_of_kept_is_not_measured() {
+        let [.., mut next] = evenings();
+        next.kept += 1;
+        account_agreed(&next);
     }
 
     #[test]

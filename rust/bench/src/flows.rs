@@ -1,9 +1,9 @@
 //! The flows that are measured. Everything in them follows from the number of
 //! a disposition, so that every run measures the same bytes.
 
-use oracle::fields::write_digits;
+use oracle::fields::{amount, write_digits};
 use oracle::reader_cases::recall;
-use oracle::record::{field_mut, put, Record, BLANK_RECORD, RECORD_LEN};
+use oracle::record::{field, field_mut, put, record_type, Record, BLANK_RECORD, RECORD_LEN};
 
 /// The dispositions of the large flow.
 pub const LARGE: u64 = 100_000;
@@ -32,6 +32,9 @@ const TOWNS: [&[u8]; 5] = [
     b"10121TORINO TO",
 ];
 
+/// The most dispositions of a flow that is compared with another.
+const COMPARED: u64 = mav::MAX_COMPARED;
+
 /// Where the text of the records 20, 30 and 59 of a slow flow begins.
 #[derive(Clone, Copy, Debug, Eq, PartialEq)]
 pub enum Indent {
@@ -44,10 +47,104 @@ pub enum Indent {
 /// A flow of so many dispositions without record 16, with one 50 each.
 pub fn usual(dispositions: u64) -> Vec<u8> {
     flow(dispositions, USUAL_RECORDS, |k| {
-        [opening(k), creditor(), debtor(k), address(k), detail(k)]
-            .into_iter()
-            .chain([reference(k), closing(k)])
+        usual_records(k).into_iter()
     })
+}
+
+/// The records of a usual disposition.
+fn usual_records(k: u64) -> [Record; 7] {
+    let [a, b, c, d] = [opening(k), creditor(), debtor(k), address(k)];
+    [a, b, c, d, detail(k), reference(k), closing(k)]
+}
+
+/// Two flows of 256 dispositions each (document 02, E7).
+pub struct Evenings {
+    pub name: &'static str,
+    pub old: Vec<u8>,
+    pub new: Vec<u8>,
+    /// How many dispositions are kept.
+    pub kept: u64,
+}
+
+/// The evenings that are measured.
+pub fn evenings() -> [Evenings; 4] {
+    [
+        unlike_at_once(),
+        unlike_at_the_end(),
+        all_alike(),
+        next_evening(),
+    ]
+}
+
+/// All but the last disposition have another letter in their record 14.
+fn unlike_at_once() -> Evenings {
+    let relettered = |k| match k {
+        COMPARED => usual_records(k),
+        _ => {
+            let mut records = usual_records(k);
+            put(&mut records[0], 98, b"T");
+            records
+        }
+    };
+    Evenings {
+        name: "255 differ in their 14",
+        old: usual(COMPARED),
+        new: flow(COMPARED, USUAL_RECORDS, |k| relettered(k).into_iter()),
+        kept: 1,
+    }
+}
+
+/// Every disposition has the same bytes up to the last two of its 70, which no
+/// other has in either flow: the last one alone has too few values for that.
+fn unlike_at_the_end() -> Evenings {
+    let ending = |before: u64| {
+        flow(COMPARED, USUAL_RECORDS, move |k| {
+            let mut records = usual_records(1);
+            let two = [(before + k) / 90, (before + k) % 90].map(|value| b'!' + value as u8);
+            put(&mut records[6], 119, &two);
+            records.into_iter()
+        })
+    };
+    Evenings {
+        name: "all differ in their last 2 bytes",
+        old: ending(0),
+        new: ending(COMPARED),
+        kept: 0,
+    }
+}
+
+/// All dispositions of both flows are the same.
+fn all_alike() -> Evenings {
+    let same = || flow(COMPARED, USUAL_RECORDS, |_| usual_records(1).into_iter());
+    Evenings {
+        name: "all the same",
+        old: same(),
+        new: same(),
+        kept: COMPARED,
+    }
+}
+
+/// Three dispositions have left, three are new, and three have another amount.
+fn next_evening() -> Evenings {
+    let mut left: Vec<u64> = (1..=COMPARED).collect();
+    left.retain(|k| ![40, 130, 220].contains(k));
+    for (at, k) in [(60, 1_001), (61, 1_002), (253, 1_003)] {
+        left.insert(at, k);
+    }
+    let tonight = |n: u64| {
+        let k = left[n as usize - 1];
+        let mut records = usual_records(k);
+        if [20, 100, 200].contains(&k) {
+            write_digits(field_mut(&mut records[0], 34, 46), cents(k) + 2_500);
+        }
+        records.into_iter()
+    };
+    Evenings {
+        name: "3 dropped, 3 added, 3 amounts",
+        old: usual(COMPARED),
+        new: flow(COMPARED, USUAL_RECORDS, tonight),
+        kept: 250,
+    }
 }
 
 /// A flow in which few records can be seen to be right by one byte: with
@@ -84,18 +181,19 @@ fn flow<R: Iterator<Item = Record>>(
     let records = 2 + each * dispositions;
     let mut flow = Vec::with_capacity(records as usize * RECORD_LEN);
     flow.extend_from_slice(&header(b"IM"));
+    let mut total = 0;
     for k in 1..=dispositions {
         for mut record in records_of(k) {
             write_digits(field_mut(&mut record, 4, 10), k);
+            if record_type(&record) == *b"14" {
+                total += amount(field(&record, 34, 46)).expect("an amount was written");
+            }
             flow.extend_from_slice(&record);
         }
     }
     let mut trailer = header(b"EF");
     write_digits(field_mut(&mut trailer, 46, 52), dispositions);
-    write_digits(
-        field_mut(&mut trailer, 53, 67),
-        (1..=dispositions).map(cents).sum(),
-    );
+    write_digits(field_mut(&mut trailer, 53, 67), total);
     write_digits(field_mut(&mut trailer, 68, 82), 0);
     write_digits(field_mut(&mut trailer, 83, 89), records);
     flow.extend_from_slice(&trailer);
@@ -315,6 +413,59 @@ mod tests {
         assert!((200..300).contains(&count(b"70", 93, b'B')));
         assert!((200..300).contains(&count(b"14", 52, b' ')));
         assert_eq!(count(b"14", 91, b'A'), 1_000);
+    }
+
+    /// Each side of every pair is right, and their accounts are those meant.
+    #[test]
+    fn the_evenings_differ_as_they_are_to() {
+        let accounts = evenings().map(|evenings| {
+            for flow in [&evenings.old, &evenings.new] {
+                assert_eq!(flow.len(), (2 + 7 * 256) * RECORD_LEN);
+                assert_eq!(mav::read(flow).unwrap().dispositions, 256);
+                assert!(is_canonical(flow));
+            }
+            let account = oracle::evenings::account(&evenings.old, &evenings.new).unwrap();
+            let count = |letter| account.iter().filter(|&&line| line == letter).count();
+            assert_eq!(count(b'K') as u64, evenings.kept);
+            assert_eq!(
+                (count(b'D'), count(b'A')),
+                (256 - count(b'K'), 256 - count(b'K'))
+            );
+            String::from_utf8(account).unwrap()
+        });
+        let [at_once, at_the_end, alike, next] = accounts;
+        assert_eq!(at_once, "D".repeat(255) + &"A".repeat(255) + "K");
+        assert_eq!(at_the_end, "D".repeat(256) + &"A".repeat(256));
+        assert_eq!(alike, "K".repeat(256));
+        // The first that has another amount, and the first that has left.
+        let start = format!(
+            "{}DA{}D{}AAK",
+            "K".repeat(19),
+            "K".repeat(19),
+            "K".repeat(21)
+        );
+        assert!(next.starts_with(&start), "{next}");
+    }
+
+    /// No two of the 512 dispositions of the second pair are the same, and all
+    /// are the same but for the last two bytes.
+    #[test]
+    fn only_the_last_two_bytes_differ() {
+        let [_, pair, ..] = evenings();
+        let [old, new] = [&pair.old, &pair.new].map(|flow| flow.as_chunks::<RECORD_LEN>().0);
+        let inner = [&old[1..], &new[1..]].map(|records| &records[..7 * 256]);
+        let dispositions = inner.iter().flat_map(|records| records.chunks(7));
+        let mut endings: Vec<[u8; 2]> = Vec::new();
+        for disposition in dispositions {
+            for (one, other) in disposition.iter().zip(&old[1..8]) {
+                assert_eq!(one[10..118], other[10..118]);
+            }
+            let closing = &disposition[6];
+            endings.push([closing[118], closing[119]]);
+        }
+        endings.sort();
+        endings.dedup();
+        assert_eq!(endings.len(), 512);
     }
 
     /// 1,000 times 10,000, and 137 times the sum of 1 to 996, then 0, 1, 2

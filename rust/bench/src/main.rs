@@ -1,10 +1,11 @@
-//! The command `bench`: times of the proved library and of the plain Rust of
-//! the second program, measured side by side in one run.
+//! The command `bench`: times of the proved library and of plain Rust, mostly
+//! that of the second program, measured side by side in one run.
 
 #![forbid(unsafe_code)]
 
 mod calls;
 mod desk;
+mod evenings;
 mod flows;
 mod machine;
 mod sections;
@@ -24,8 +25,9 @@ side on flows made in memory: reading, of requests and of recalls, amount
 change, withdrawal, reading back to a list and writing a list. Before a call is
 measured, both have to answer it alike and to leave the same bytes. Then the
 command mavdesk, if it is built beside this program, and the plain reader check
-forty flows as files. ROUNDS is how often each is measured, 21 if not given;
-the best of them is printed.
+forty flows as files. Last, two evenings are compared by the proved library and
+by plain Rust of this program's own. ROUNDS is how often each is measured, 21 if
+not given; the best of them is printed.
 Run it as
     cargo build --release --offline -p desk -p bench && target/release/bench
 With plain it judges the flows of a folder with the plain reader.";
@@ -77,5 +79,6 @@ fn run(rounds: usize) {
     sections::slow_flows(rounds);
     drop(large);
     desk::checking(rounds);
+    sections::evenings(rounds);
     say(&machine::line());
 }

@@ -1,15 +1,20 @@
 //! The tables of a run, each measured and then printed.
 
+use std::cell::RefCell;
 use std::hint::black_box;
 
+use mav::{MAX_ACCOUNT_LENGTH, MIN_WORK};
 use oracle::reader;
 use oracle::record::RECORD_LEN;
 
-use crate::calls::{agreed, compared, Call, OURS, PLAIN};
-use crate::flows::{self, Indent, LARGE, LARGE_BYTES};
+use crate::calls::{account_agreed, agreed, compared, Call, Comparer, COMPARERS, OURS, PLAIN};
+use crate::flows::{self, Evenings, Indent, LARGE, LARGE_BYTES};
 use crate::sum::sum;
 use crate::table::{grouped, micros, nanos_each, ratio, say, Table};
 use crate::time::{self, side_by_side, Memory, Times};
+
+/// The place of the times of the plain code that hashes.
+const HASHED: usize = 2;
 
 /// The titles of the times of both sides.
 const BOTH: [&str; 6] = [
@@ -160,6 +165,60 @@ pub fn slow_flows(rounds: usize) {
     say(&format!(
         "4. Reading flows with 16, five 59 and P or B in each disposition\n\n{table}"
     ));
+}
+
+/// What differs between two evenings: ours beside plain code that compares
+/// requests in place, as ours does, and beside plain code that hashes them.
+pub fn evenings(rounds: usize) {
+    let mut table = Table::new(&[
+        "two evenings",
+        "kept",
+        "ours us",
+        "plain us",
+        "ours/plain",
+        "median",
+        "hashed us",
+        "ours/hashed",
+        "median",
+    ]);
+    for evenings in flows::evenings() {
+        account_agreed(&evenings);
+        let work = RefCell::new(vec![0; MIN_WORK]);
+        let [ours, plain, hashed] = COMPARERS.map(|comparer| comparing(comparer, &evenings, &work));
+        let times = side_by_side(
+            rounds,
+            &mut Memory::room(MAX_ACCOUNT_LENGTH),
+            [&ours, &plain, &hashed],
+        );
+        let [by_plain, by_hashed] = [PLAIN, HASHED].map(|side| {
+            [
+                micros(times.best(side)),
+                ratio(times.ratio(OURS, side)),
+                ratio(times.median_ratio(OURS, side)),
+            ]
+        });
+        let [a, b, c] = by_plain;
+        let [d, e, f] = by_hashed;
+        let (name, kept) = (evenings.name.to_string(), grouped(evenings.kept));
+        table.row([name, kept, micros(times.best(OURS)), a, b, c, d, e, f]);
+    }
+    say(&format!(
+        "6. What differs between two evenings of {} dispositions each\n\n{table}",
+        mav::MAX_COMPARED
+    ));
+}
+
+/// A comparison of two evenings, as a call to be measured.
+fn comparing<'a>(
+    comparer: Comparer,
+    Evenings { old, new, .. }: &'a Evenings,
+    work: &'a RefCell<Vec<u16>>,
+) -> impl Fn(&mut [u8]) + 'a {
+    move |account| {
+        let mut work = work.borrow_mut();
+        let (old, new) = (black_box(&old[..]), black_box(&new[..]));
+        black_box(comparer(old, new, black_box(&mut work), black_box(account))).ok();
+    }
 }
 
 fn call_row(name: &str, dispositions: u64, times: &Times<2>, records: u64) -> [String; 8] {

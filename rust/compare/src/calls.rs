@@ -3,7 +3,7 @@
 use std::hint::black_box;
 
 use crate::entry::Entry;
-use crate::lent::Lent;
+use crate::lent::{Lent, Tonight};
 use crate::sides::{reply, Side, Sides, Told};
 use crate::tally::Tally;
 
@@ -85,12 +85,7 @@ pub fn same(
 /// Runs a call on one side.
 fn outcome(side: Side, entry: Entry, lent: &Lent) -> Outcome {
     let mut after = lent.clone();
-    let Lent {
-        input,
-        output,
-        entries,
-    } = &mut after;
-    let status = side(entry, input.lent_mut(), output.lent_mut(), entries);
+    let status = side(entry, &mut after.memory());
     // The compiler may not take a buffer lent to be read for unchanged: that
     // is to be seen.
     Outcome {
@@ -99,9 +94,10 @@ fn outcome(side: Side, entry: Entry, lent: &Lent) -> Outcome {
     }
 }
 
-/// The outcome with all that the call may not write as it was lent: the bytes
+/// The outcome with all that the call may not write as it was lent: what is
 /// around the buffers, an input lent to be read only, the output beyond the
-/// length told, and every buffer where the call is refused.
+/// length told, and every buffer where the call is refused. The working memory
+/// of an accepted call is zero.
 fn kept(entry: Entry, lent: &Lent, outcome: &Outcome) -> Outcome {
     let after = &outcome.after;
     let length = usize::try_from(after.entries[3]).unwrap_or(usize::MAX);
@@ -110,10 +106,18 @@ fn kept(entry: Entry, lent: &Lent, outcome: &Outcome) -> Outcome {
         _ if entry.amends() => (usize::MAX, 0),
         _ => (0, length),
     };
+    let tonight = lent.tonight.as_ref().map(|tonight| Tonight {
+        flow: tonight.flow.clone(),
+        work: match outcome.status {
+            0 => tonight.work.clone(),
+            _ => tonight.work.zeroed(),
+        },
+    });
     Outcome {
         status: outcome.status,
         after: Lent {
             input: lent.input.with_front(&after.input, input),
+            tonight,
             output: lent.output.with_front(&after.output, output),
             entries: after.entries,
         },

@@ -1,5 +1,7 @@
-//! What can be compared: one call, or a list of calls on one flow.
+//! What can be compared: one call, a list of calls on one flow, or calls on
+//! two flows.
 
+use oracle::evenings::account;
 use oracle::ledger::Call;
 use oracle::list::{items, layout_of_record};
 use oracle::record::{record_type, RECORD_LEN};
@@ -8,7 +10,7 @@ use oracle::rng::Rng;
 use crate::calls::{agree, Agreed};
 use crate::entry::{Entry, Form};
 use crate::ledger;
-use crate::lent::{Buffer, Lent};
+use crate::lent::{Buffer, Lent, Tonight};
 use crate::sides::Sides;
 use crate::tally::Tally;
 
@@ -28,6 +30,17 @@ pub enum Case {
     Calls {
         flow: Vec<u8>,
         calls: Vec<Call>,
+        marks: u64,
+    },
+    /// Calls on last night's and tonight's flow, each lent the same memory.
+    Evenings {
+        old: Vec<u8>,
+        new: Vec<u8>,
+        entries: Vec<Entry>,
+        /// The length of the working memory.
+        work: usize,
+        /// The room of the account beyond what is needed.
+        slack: isize,
         marks: u64,
     },
 }
@@ -51,14 +64,33 @@ impl Case {
             Case::Calls { flow, calls, marks } => {
                 ledger::check(sides, tally, flow, calls, Rng::new(*marks))
             }
+            Case::Evenings {
+                old,
+                new,
+                entries,
+                work,
+                slack,
+                marks,
+            } => {
+                let mut rng = Rng::new(*marks);
+                let room = lines(old, new).saturating_add_signed(*slack);
+                let input = Buffer::new(old, &mut rng);
+                let tonight = Tonight::new(new, *work, &mut rng);
+                let mut lent = Lent::new(input, room, &mut rng);
+                lent.tonight = Some(tonight);
+                let mut calls = entries.iter();
+                calls.try_for_each(|&entry| agree(sides, tally, entry, &lent).map(drop))
+            }
         }
     }
 
-    /// The bytes that the case starts with.
-    pub fn input(&self) -> &[u8] {
+    /// The bytes that the case starts with: one field, list or flow, or two
+    /// flows.
+    pub fn inputs(&self) -> Vec<&[u8]> {
         match self {
-            Case::One { input, .. } => input,
-            Case::Calls { flow, .. } => flow,
+            Case::One { input, .. } => vec![input],
+            Case::Calls { flow, .. } => vec![flow],
+            Case::Evenings { old, new, .. } => vec![old, new],
         }
     }
 
@@ -66,17 +98,20 @@ impl Case {
     pub fn form(&self) -> Form {
         match self {
             Case::One { entry, .. } => entry.input(),
-            Case::Calls { .. } => Form::Flow,
+            Case::Calls { .. } | Case::Evenings { .. } => Form::Flow,
         }
     }
 
-    /// The same case with other bytes to start with.
-    pub fn on(&self, bytes: &[u8]) -> Case {
+    /// The same case with other bytes in a place of its inputs.
+    pub fn with(&self, place: usize, bytes: &[u8]) -> Case {
         let mut case = self.clone();
-        match &mut case {
-            Case::One { input, .. } => *input = bytes.to_vec(),
-            Case::Calls { flow, .. } => *flow = bytes.to_vec(),
-        }
+        let input = match &mut case {
+            Case::One { input, .. } => input,
+            Case::Calls { flow, .. } => flow,
+            Case::Evenings { old, .. } if place == 0 => old,
+            Case::Evenings { new, .. } => new,
+        };
+        *input = bytes.to_vec();
         case
     }
 }
@@ -92,6 +127,15 @@ fn needed(entry: Entry, input: &[u8]) -> usize {
             layouts.map(|layout| 1 + layout.body_len()).sum()
         }
         _ => 0,
+    }
+}
+
+/// The lines of an account: of two flows that cannot be compared, as many as
+/// they have dispositions.
+fn lines(old: &[u8], new: &[u8]) -> usize {
+    match account(old, new) {
+        Ok(account) => account.len(),
+        Err(_) => (openings(old) + openings(new)) as usize,
     }
 }
 

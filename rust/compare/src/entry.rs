@@ -17,6 +17,8 @@ pub enum Entry {
     List,
     Change { k: u64, cents: u64 },
     Withdraw { k: u64 },
+    Compare,
+    Line { n: u64 },
 }
 
 /// What the bytes of a buffer are to be.
@@ -25,11 +27,12 @@ pub enum Form {
     Field,
     Flow,
     List,
+    Account,
 }
 
 impl Entry {
     /// Every entry point once.
-    pub const ALL: [Entry; 9] = [
+    pub const ALL: [Entry; 11] = [
         Entry::Digits,
         Entry::Amount,
         Entry::Date,
@@ -39,6 +42,8 @@ impl Entry {
         Entry::List,
         Entry::Change { k: 0, cents: 0 },
         Entry::Withdraw { k: 0 },
+        Entry::Compare,
+        Entry::Line { n: 0 },
     ];
 
     /// Its place among all.
@@ -53,12 +58,14 @@ impl Entry {
             Entry::List => 6,
             Entry::Change { .. } => 7,
             Entry::Withdraw { .. } => 8,
+            Entry::Compare => 9,
+            Entry::Line { .. } => 10,
         }
     }
 
     /// Its name in C.
     pub fn name(self) -> &'static str {
-        const NAMES: [&str; 9] = [
+        const NAMES: [&str; 11] = [
             "mav_digits",
             "mav_amount",
             "mav_date",
@@ -68,6 +75,8 @@ impl Entry {
             "mav_list",
             "mav_change",
             "mav_withdraw",
+            "mav_compare",
+            "mav_compare_line",
         ];
         NAMES[self.index()]
     }
@@ -86,6 +95,7 @@ impl Entry {
         match self {
             Entry::Write => Some(Form::Flow),
             Entry::List => Some(Form::List),
+            Entry::Compare => Some(Form::Account),
             _ => None,
         }
     }
@@ -95,12 +105,18 @@ impl Entry {
         matches!(self, Entry::Change { .. } | Entry::Withdraw { .. })
     }
 
+    /// Whether it is asked of two flows.
+    pub fn of_two_flows(self) -> bool {
+        matches!(self, Entry::Compare | Entry::Line { .. })
+    }
+
     /// Whether it tells the kind of flow where it is accepted.
     pub fn tells_kind(self) -> bool {
         match self {
             Entry::Digits | Entry::Amount | Entry::Date | Entry::Find { .. } => false,
             Entry::Read | Entry::Write | Entry::List => true,
             Entry::Change { .. } | Entry::Withdraw { .. } => true,
+            Entry::Compare | Entry::Line { .. } => false,
         }
     }
 
@@ -110,6 +126,8 @@ impl Entry {
             Entry::Digits | Entry::Amount => &["value"],
             Entry::Date => &[],
             Entry::Find { .. } => &["first record", "records", "cents"],
+            Entry::Compare => &["kept", "dropped", "added", "length"],
+            Entry::Line { .. } => &["letter", "record"],
             _ => &["dispositions", "cents", "records"],
         }
     }
@@ -117,8 +135,9 @@ impl Entry {
     /// Whether it can be answered so in the memory lent here.
     pub fn gives(self, answered: Answered) -> bool {
         match answered {
-            Answered::Accepted(_) => self.tells_kind(),
+            Answered::Accepted(_) => self.tells_kind() || self.of_two_flows(),
             Answered::Refused(number) => self.refuses_by(number),
+            Answered::RefusedNew(number) => self.of_two_flows() && of_reading(number),
         }
     }
 
@@ -129,14 +148,21 @@ impl Entry {
         match self {
             Entry::Digits | Entry::Amount => number == 5,
             Entry::Date => matches!(number, 5 | 8),
-            Entry::Read => matches!(number, 1..=14 | 22),
-            Entry::Find { .. } => matches!(number, 1..=15 | 22),
+            Entry::Read => of_reading(number),
+            Entry::Find { .. } => of_reading(number) || number == 15,
             Entry::Write => matches!(number, 2 | 3 | 5..=8 | 10 | 11 | 17 | 20 | 21),
-            Entry::List => matches!(number, 1..=14 | 21 | 22),
-            Entry::Change { .. } => matches!(number, 1..=17 | 22),
-            Entry::Withdraw { .. } => matches!(number, 1..=15 | 18 | 22),
+            Entry::List => of_reading(number) || number == 21,
+            Entry::Change { .. } => of_reading(number) || matches!(number, 15..=17),
+            Entry::Withdraw { .. } => of_reading(number) || matches!(number, 15 | 18),
+            Entry::Compare => of_reading(number) || matches!(number, 21 | 27 | 28 | 34),
+            Entry::Line { .. } => of_reading(number) || matches!(number, 15 | 27 | 28 | 34),
         }
     }
+}
+
+/// Whether reading a flow can refuse it by this number.
+pub fn of_reading(number: u8) -> bool {
+    matches!(number, 1..=14 | 22)
 }
 
 /// How a call is answered, as far as calls are counted by it.
@@ -146,6 +172,9 @@ pub enum Answered {
     Accepted(FlowKind),
     /// Refused by this number.
     Refused(u8),
+    /// Refused by this number for tonight's flow, after last night's was
+    /// found right.
+    RefusedNew(u8),
 }
 
 /// The title of its row in the table.
@@ -154,6 +183,7 @@ impl fmt::Display for Answered {
         match self {
             Answered::Accepted(kind) => write!(f, "{kind}"),
             Answered::Refused(number) => write!(f, "refused {number}"),
+            Answered::RefusedNew(number) => write!(f, "new flow {number}"),
         }
     }
 }

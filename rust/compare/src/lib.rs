@@ -11,6 +11,7 @@
 pub mod calls;
 pub mod cases;
 pub mod entry;
+pub mod evenings;
 pub mod ledger;
 pub mod lent;
 pub mod minimal;
@@ -21,5 +22,5 @@ pub mod sides;
 pub mod tally;
 
 pub use entry::Entry;
-pub use run::run;
+pub use run::{run, run_evenings};
 pub use sides::Sides;

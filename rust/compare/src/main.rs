@@ -2,29 +2,43 @@
 
 #![forbid(unsafe_code)]
 
+use std::ffi::OsString;
 use std::io::{self, Write};
 use std::process::ExitCode;
 
 use compare::tally::Tally;
-use compare::{run, Sides};
+use compare::{run, run_evenings, Sides};
 
-const USAGE: &str = "usage: compare, or compare SEED COUNT.";
+const USAGE: &str = "usage: compare, compare SEED COUNT, or compare evenings SEED PAIRS MOST.";
 
 /// The run without arguments: about a minute.
 const SEED: u64 = 1;
 const COUNT: u64 = 3_000_000;
+/// The most requests a side of a pair, with which a total still has 15 digits.
+const MOST: u64 = 1_000;
 
 fn main() -> ExitCode {
-    let args = std::env::args_os().skip(1);
-    let numbers: Vec<Option<u64>> = args.map(|arg| arg.to_str()?.parse().ok()).collect();
-    let (seed, count) = match numbers[..] {
-        [] => (SEED, COUNT),
-        [Some(seed), Some(count)] => (seed, count),
+    let args: Vec<String> = match std::env::args_os()
+        .skip(1)
+        .map(OsString::into_string)
+        .collect()
+    {
+        Ok(args) => args,
+        Err(_) => return say(USAGE, 2),
+    };
+    let numbers: Vec<Option<u64>> = args.iter().map(|arg| arg.parse().ok()).collect();
+    let compared = match numbers[..] {
+        [] => run(&Sides::REAL, SEED, COUNT),
+        [Some(seed), Some(count)] => run(&Sides::REAL, seed, count),
+        // Only the calls on two flows.
+        [None, Some(seed), Some(pairs), Some(most @ 1..=MOST)] if args[0] == "evenings" => {
+            run_evenings(&Sides::REAL, seed, pairs, most as usize)
+        }
         _ => return say(USAGE, 2),
     };
-    match run(&Sides::REAL, seed, count) {
+    match compared {
         Err(text) => say(&format!("The two sides differ.\n{}", text.trim_end()), 1),
-        Ok(tally) => agreed(&tally, numbers.is_empty()),
+        Ok(tally) => agreed(&tally, args.is_empty()),
     }
 }
 

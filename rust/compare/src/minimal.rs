@@ -14,61 +14,102 @@ pub fn smallest(sides: &Sides, case: &Case) -> Case {
     let differs = |case: &Case| case.check(sides, &mut Tally::default()).is_err();
     let case = fewer_calls(case, differs);
     match case.form() {
-        Form::Field => case,
-        Form::Flow => fewer_calls(&smaller_flow(&case, differs), differs),
+        Form::Flow => fewer_calls(&smaller_flows(&case, differs), differs),
         Form::List => smaller_list(&case, differs),
+        Form::Field | Form::Account => case,
     }
 }
 
-/// Drops calls of a list of calls.
+/// Drops calls of a list of calls, or on two flows.
 fn fewer_calls(case: &Case, differs: impl Fn(&Case) -> bool) -> Case {
-    let Case::Calls { flow, calls, marks } = case else {
-        return case.clone();
-    };
-    let with = |calls: &[Call]| Case::Calls {
-        flow: flow.clone(),
-        calls: calls.to_vec(),
-        marks: *marks,
-    };
-    with(&dropped(calls, |calls| differs(&with(calls))))
+    match case {
+        Case::One { .. } => case.clone(),
+        Case::Calls { flow, calls, marks } => {
+            let with = |calls: &[Call]| Case::Calls {
+                flow: flow.clone(),
+                calls: calls.to_vec(),
+                marks: *marks,
+            };
+            with(&dropped(calls, |calls| differs(&with(calls))))
+        }
+        Case::Evenings { entries, .. } => {
+            let with = |left: &[Entry]| {
+                let mut case = case.clone();
+                if let Case::Evenings { entries, .. } = &mut case {
+                    *entries = left.to_vec();
+                }
+                case
+            };
+            with(&dropped(entries, |left| differs(&with(left))))
+        }
+    }
 }
 
-/// Drops dispositions of the flow.
-fn smaller_flow(case: &Case, differs: impl Fn(&Case) -> bool) -> Case {
-    let count = openings(case.input());
+/// Drops dispositions of every flow of the case. Of two flows one can often
+/// lose more once the other has lost some.
+fn smaller_flows(case: &Case, differs: impl Fn(&Case) -> bool) -> Case {
+    let mut smaller = case.clone();
+    let places = match case {
+        Case::Evenings { .. } => &[0, 1, 0, 1][..],
+        _ => &[0],
+    };
+    for &place in places {
+        smaller = smaller_flow(&smaller, place, &differs);
+    }
+    smaller
+}
+
+/// Drops dispositions of the flow at this place of the inputs.
+fn smaller_flow(case: &Case, place: usize, differs: impl Fn(&Case) -> bool) -> Case {
+    let input = case.inputs()[place];
+    let count = match named(&mut case.clone()).is_empty() {
+        true => 0,
+        false => openings(input),
+    };
     let fit = |flow: &[u8]| {
         // Of the dispositions gone any number may have stood before the one
-        // that a call names.
+        // that a call names. Not all of very many are tried.
         let gone = count.saturating_sub(openings(flow));
-        let mut lowered = (0..=gone).map(|by| lower(case.on(flow), by));
+        let lowered = (0..=gone).step_by(1 + gone as usize / 32);
+        let mut lowered = lowered.map(|by| lower(case.with(place, flow), by));
         lowered.find(|case| differs(case))
     };
-    let flow = shrink(case.input(), |flow| fit(flow).is_some());
+    let flow = shrink(input, |flow| fit(flow).is_some());
     fit(&flow).unwrap_or_else(|| case.clone())
 }
 
-/// Lowers every number k that the case names.
+/// Lowers every number of a disposition or a line that the case names.
 fn lower(mut case: Case, by: u64) -> Case {
-    let named = match &mut case {
-        Case::One { entry, .. } => match entry {
-            Entry::Find { k } | Entry::Change { k, .. } | Entry::Withdraw { k } => vec![k],
-            _ => Vec::new(),
-        },
-        Case::Calls { calls, .. } => calls
-            .iter_mut()
-            .map(|(Call::Change { k, .. } | Call::Withdraw { k })| k)
-            .collect(),
-    };
-    for k in named {
-        *k = k.saturating_sub(by);
+    for number in named(&mut case) {
+        *number = number.saturating_sub(by);
     }
     case
 }
 
+/// The numbers of dispositions and lines that the case names.
+fn named(case: &mut Case) -> Vec<&mut u64> {
+    match case {
+        Case::One { entry, .. } => number_in(entry).into_iter().collect(),
+        Case::Evenings { entries, .. } => entries.iter_mut().filter_map(number_in).collect(),
+        Case::Calls { calls, .. } => calls
+            .iter_mut()
+            .map(|(Call::Change { k, .. } | Call::Withdraw { k })| k)
+            .collect(),
+    }
+}
+
+fn number_in(entry: &mut Entry) -> Option<&mut u64> {
+    match entry {
+        Entry::Find { k } | Entry::Change { k, .. } | Entry::Withdraw { k } => Some(k),
+        Entry::Line { n } => Some(n),
+        _ => None,
+    }
+}
+
 /// Drops the items of whole dispositions, then single items.
 fn smaller_list(case: &Case, differs: impl Fn(&Case) -> bool) -> Case {
-    let holds = |parts: &[Vec<u8>]| differs(&case.on(&parts.concat()));
-    let items = rows(Form::List, case.input());
+    let holds = |parts: &[Vec<u8>]| differs(&case.with(0, &parts.concat()));
+    let items = rows(Form::List, case.inputs()[0]);
     let blocks: Vec<Vec<u8>> = items
         .chunk_by(|_, next| !next.starts_with(b"D"))
         .map(<[&[u8]]>::concat)
@@ -78,7 +119,7 @@ fn smaller_list(case: &Case, differs: impl Fn(&Case) -> bool) -> Case {
         .into_iter()
         .map(<[u8]>::to_vec)
         .collect();
-    case.on(&dropped(&items, holds).concat())
+    case.with(0, &dropped(&items, holds).concat())
 }
 
 /// Drops parts, all at once and then fewer at a time, while the predicate

@@ -21,7 +21,10 @@ pub fn report(case: &Case, difference: &Difference) -> String {
             let _ = writeln!(text, "call {} on it: {}", index + 1, spoken(call.into()));
         }
     }
-    if !matches!(case, Case::Calls { flow, .. } if flow == input) {
+    if let Some(tonight) = &difference.lent.tonight {
+        text += &contents("last night's flow", Form::Flow, input);
+        text += &contents("tonight's flow", Form::Flow, tonight.flow.lent());
+    } else if !matches!(case, Case::Calls { flow, .. } if flow == input) {
         let form = difference.entry.input();
         text += &contents(name(form), form, input);
     }
@@ -49,22 +52,45 @@ fn outcomes(difference: &Difference) -> String {
     let mut text = format!("differs at {}{}\n", spoken(*entry), placed(*entry, lent));
     let _ = writeln!(text, "proved library: {}", answer(*entry, proved));
     let _ = writeln!(text, "{other}: {told}");
-    let (found, wanted) = (&proved.after, &due.after);
-    let input = first_byte(entry.input(), &found.input, &wanted.input);
-    let output = first_byte(
-        entry.output().unwrap_or(Form::Field),
-        &found.output,
-        &wanted.output,
-    );
-    for (title, byte) in [(name(entry.input()), input), ("output", output)] {
-        if let Some((place, found, wanted)) = byte {
-            let _ = writeln!(
-                text,
-                "{title} afterwards, byte {place}: proved library {found:#04x}, {other} {wanted:#04x}"
-            );
-        }
+    for (title, (place, found, wanted)) in differences(*entry, &proved.after, &due.after) {
+        let _ = writeln!(
+            text,
+            "{title} afterwards, {place}: proved library {found:#04x}, {other} {wanted:#04x}"
+        );
     }
     text
+}
+
+/// Where two units differ, and both values.
+type Unlike = (String, u16, u16);
+
+/// The first difference of each buffer, under the buffer's name.
+fn differences(entry: Entry, found: &Lent, wanted: &Lent) -> Vec<(&'static str, Unlike)> {
+    let output = entry.output().unwrap_or(Form::Field);
+    let mut all = vec![
+        (
+            first_name(entry),
+            first_byte(entry.input(), &found.input, &wanted.input),
+        ),
+        ("output", first_byte(output, &found.output, &wanted.output)),
+    ];
+    if let (Some(found), Some(wanted)) = (&found.tonight, &wanted.tonight) {
+        let flow = first_byte(Form::Flow, &found.flow, &wanted.flow);
+        all.push(("tonight's flow", flow));
+        all.push(("working memory", first_number(&found.work, &wanted.work)));
+    }
+    let differing = all.into_iter();
+    differing
+        .filter_map(|(title, unlike)| Some((title, unlike?)))
+        .collect()
+}
+
+/// The name of the input.
+fn first_name(entry: Entry) -> &'static str {
+    match entry.of_two_flows() {
+        true => "last night's flow",
+        false => name(entry.input()),
+    }
 }
 
 /// A call by its name in C, with its numbers.
@@ -72,6 +98,7 @@ fn spoken(entry: Entry) -> String {
     let numbers = match entry {
         Entry::Find { k } | Entry::Withdraw { k } => format!("k {k}"),
         Entry::Change { k, cents } => format!("k {k}, cents {cents}"),
+        Entry::Line { n } => format!("n {n}"),
         _ => String::new(),
     };
     format!("{}({numbers})", entry.name())
@@ -79,18 +106,22 @@ fn spoken(entry: Entry) -> String {
 
 /// Where the buffers of a call start, and the room of its output.
 fn placed(entry: Entry, lent: &Lent) -> String {
-    let input = format!(
-        ", {} at offset {}",
-        name(entry.input()),
-        lent.input.offset()
-    );
-    match entry.output() {
-        None => input,
-        Some(_) => {
-            let (room, offset) = (lent.output.lent().len(), lent.output.offset());
-            format!("{input}, output of room {room} at offset {offset}")
-        }
+    let mut text = format!(", {} at offset {}", first_name(entry), lent.input.offset());
+    if let Some(tonight) = &lent.tonight {
+        let (flow, work) = (&tonight.flow, &tonight.work);
+        let _ = write!(
+            text,
+            ", tonight's at offset {}, working memory of {} numbers at offset {}",
+            flow.offset(),
+            work.lent().len(),
+            work.offset()
+        );
     }
+    if entry.output().is_some() {
+        let (room, offset) = (lent.output.lent().len(), lent.output.offset());
+        let _ = write!(text, ", output of room {room} at offset {offset}");
+    }
+    text
 }
 
 fn name(form: Form) -> &'static str {
@@ -98,6 +129,7 @@ fn name(form: Form) -> &'static str {
         Form::Field => "field",
         Form::Flow => "flow",
         Form::List => "list",
+        Form::Account => "account",
     }
 }
 
@@ -129,19 +161,38 @@ fn kind_told(entry: Entry, number: u64) -> String {
     }
 }
 
-/// The place of the first byte of a buffer that differs, and both values.
-fn first_byte(form: Form, found: &Buffer, wanted: &Buffer) -> Option<(String, u8, u8)> {
+/// The first byte in which two buffers differ.
+fn first_byte(form: Form, found: &Buffer, wanted: &Buffer) -> Option<Unlike> {
     let (index, found_byte, wanted_byte) = found.first_difference(wanted)?;
     let place = match usize::try_from(index) {
-        Err(_) => String::from(" (in front of it)"),
-        Ok(index) if index >= found.lent().len() => String::from(" (after it)"),
-        Ok(index) if form == Form::Flow => {
+        Ok(index) if index < found.lent().len() && form == Form::Flow => {
             let (record, position) = (index / RECORD_LEN + 1, index % RECORD_LEN + 1);
             format!(" (record {record}, position {position})")
         }
-        Ok(_) => String::new(),
+        _ => beside(index, found.lent().len()).to_string(),
     };
-    Some((format!("{index}{place}"), found_byte, wanted_byte))
+    let place = format!("byte {index}{place}");
+    Some((place, found_byte.into(), wanted_byte.into()))
+}
+
+/// The first number in which two working memories differ.
+fn first_number(found: &Buffer<u16>, wanted: &Buffer<u16>) -> Option<Unlike> {
+    let (index, found_number, wanted_number) = found.first_difference(wanted)?;
+    let place = beside(index, found.lent().len());
+    Some((
+        format!("number {index}{place}"),
+        found_number,
+        wanted_number,
+    ))
+}
+
+/// Whether a place is beside a buffer of this length.
+fn beside(index: isize, len: usize) -> &'static str {
+    match usize::try_from(index) {
+        Err(_) => " (in front of it)",
+        Ok(index) if index >= len => " (after it)",
+        Ok(_) => "",
+    }
 }
 
 /// Bytes row by row, in hex and below it as text.

@@ -13,17 +13,42 @@ use oracle::Answer;
 
 use crate::cases::{openings, Case};
 use crate::entry::Entry;
+use crate::evenings;
+
+/// Two flows come in one round of so many: their calls take longer than the
+/// others.
+const EVENINGS: u64 = 24;
+/// The most requests of such a flow: one more than are compared.
+const MOST: usize = 257;
 
 /// The cases of one round: a field, a flow, a request list, or a list of
-/// calls, each in its turn.
+/// calls, each in its turn; after some of them, two flows.
 pub fn round(seed: u64, index: u64) -> Vec<Case> {
     let mut rng = Rng::for_case(seed, index);
     let turn = index / 4;
-    match index % 4 {
+    let mut cases = match index % 4 {
         0 => field_round(&mut rng, turn),
         1 => flow_round(&mut rng, seed, turn),
         2 => list_round(&mut rng, seed, turn),
         _ => vec![call_list(&mut rng)],
+    };
+    if index % EVENINGS == EVENINGS - 1 {
+        cases.push(two_flows(&mut rng, 99, MOST));
+    }
+    cases
+}
+
+/// Pair `index` of a seed in a run of the calls on two flows alone.
+pub fn pair(seed: u64, index: u64, most: usize) -> Case {
+    two_flows(&mut Rng::for_case(seed, index), 12, most)
+}
+
+/// Two flows of usual sizes so many times in a hundred, and of any size up to
+/// `most` otherwise.
+fn two_flows(rng: &mut Rng, usual: u64, most: usize) -> Case {
+    match rng.below(100) < usual {
+        true => evenings::usual(rng, most),
+        false => evenings::of_any_size(rng, most),
     }
 }
 
@@ -39,7 +64,7 @@ fn one(rng: &mut Rng, entry: Entry, input: &[u8]) -> Case {
 
 /// The room of an output beyond what is needed: exact, one too short, none at
 /// all, longer, or any amount too short.
-fn slack(rng: &mut Rng) -> isize {
+pub fn slack(rng: &mut Rng) -> isize {
     match rng.below(12) {
         0 => -1,
         1 => isize::MIN,

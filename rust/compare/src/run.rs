@@ -1,8 +1,9 @@
 //! A run: round after round, until enough cases agree.
 
+use crate::cases::Case;
 use crate::minimal::smallest;
 use crate::report::report;
-use crate::rounds::round;
+use crate::rounds::{pair, round};
 use crate::sides::Sides;
 use crate::tally::Tally;
 
@@ -16,10 +17,7 @@ pub fn run(sides: &Sides, seed: u64, count: u64) -> Result<Tally, String> {
             if tally.cases() >= count {
                 return Ok(tally);
             }
-            if let Err(found) = case.check(sides, &mut tally) {
-                let case = smallest(sides, &case);
-                let small = case.check(sides, &mut Tally::default()).err();
-                let text = report(&case, &small.unwrap_or(found));
+            if let Err(text) = check(sides, &mut tally, &case) {
                 let number = tally.cases() + 1;
                 return Err(format!(
                     "{text}case {number} of seed {seed}, in round {index}; \
@@ -29,4 +27,29 @@ pub fn run(sides: &Sides, seed: u64, count: u64) -> Result<Tally, String> {
         }
     }
     Ok(tally)
+}
+
+/// Compares only the calls on two flows, of so many pairs of a seed with at
+/// most so many requests a side. Gives the same.
+pub fn run_evenings(sides: &Sides, seed: u64, pairs: u64, most: usize) -> Result<Tally, String> {
+    let mut tally = Tally::default();
+    for index in 0..pairs {
+        if let Err(text) = check(sides, &mut tally, &pair(seed, index, most)) {
+            let number = index + 1;
+            return Err(format!(
+                "{text}pair {number} of seed {seed}; \
+                 to repeat it: compare evenings {seed} {number} {most}\n"
+            ));
+        }
+    }
+    Ok(tally)
+}
+
+/// Compares a case, or gives the text of a small one that differs too.
+fn check(sides: &Sides, tally: &mut Tally, case: &Case) -> Result<(), String> {
+    case.check(sides, tally).map_err(|found| {
+        let case = smallest(sides, case);
+        let small = case.check(sides, &mut Tally::default()).err();
+        report(&case, &small.unwrap_or(found))
+    })
 }

@@ -2,18 +2,19 @@
 
 use mav::raw::{self, Entries};
 use oracle::amend::{change, withdraw};
+use oracle::evenings;
 use oracle::fields::{amount, date, digits};
 use oracle::find::find;
 use oracle::list::{write_flow, write_list};
 use oracle::reader::read;
-use oracle::{Answer, FlowKind};
+use oracle::{Answer, FlowKind, Refusal};
 
 use crate::entry::Entry;
+use crate::lent::Memory;
 
-/// A side: runs a call on its input, its output and the entries of its
-/// answer, and gives what the call returns. A call that has no output leaves
-/// it alone.
-pub type Side<'a> = &'a dyn Fn(Entry, &mut [u8], &mut [u8], &mut Entries) -> u8;
+/// A side: runs a call on the memory lent to it, and gives what the call
+/// returns.
+pub type Side<'a> = &'a dyn Fn(Entry, &mut Memory) -> u8;
 
 /// What is compared.
 #[derive(Clone, Copy)]
@@ -31,7 +32,14 @@ impl Sides<'_> {
 }
 
 /// The proved library.
-pub fn proved(entry: Entry, input: &mut [u8], output: &mut [u8], answer: &mut Entries) -> u8 {
+pub fn proved(entry: Entry, memory: &mut Memory) -> u8 {
+    let Memory {
+        input,
+        new,
+        work,
+        output,
+        answer,
+    } = memory;
     match entry {
         Entry::Digits => raw::digits(input, answer),
         Entry::Amount => raw::amount(input, answer),
@@ -42,27 +50,46 @@ pub fn proved(entry: Entry, input: &mut [u8], output: &mut [u8], answer: &mut En
         Entry::List => raw::list(input, output, answer),
         Entry::Change { k, cents } => raw::change(input, k, cents, answer),
         Entry::Withdraw { k } => raw::withdraw(input, k, answer),
+        Entry::Compare => raw::compare(input, new, work, output, answer),
+        Entry::Line { n } => raw::compare_line(input, new, work, n, answer),
     }
 }
 
 /// The second program.
-pub fn second(entry: Entry, input: &mut [u8], output: &mut [u8], answer: &mut Entries) -> u8 {
+pub fn second(entry: Entry, memory: &mut Memory) -> u8 {
+    let Memory {
+        input,
+        new,
+        work,
+        output,
+        answer,
+    } = memory;
     let (told, length) = match entry {
         Entry::Digits => (of_field(digits(input)), 0),
         Entry::Amount => (of_field(amount(input)), 0),
         Entry::Date => (of_field(date(input).map(|_| 0)), 0),
         Entry::Read => (of_answer(read(input)), 0),
-        Entry::Find { k } => match find(input, k) {
-            Ok(found) => (Ok(([found.first, found.records, found.cents], None)), 0),
-            Err(refusal) => (of_answer(refusal.into()), 0),
-        },
+        Entry::Find { k } => {
+            let numbers = find(input, k).map(|found| [found.first, found.records, found.cents]);
+            (of_numbers(numbers), 0)
+        }
         Entry::Write => with_length(write_flow(input, output)),
         Entry::List => with_length(write_list(input, output)),
         Entry::Change { k, cents } => (of_answer(change(input, k, cents)), 0),
         Entry::Withdraw { k } => with_length(withdraw(input, k)),
+        Entry::Compare => {
+            let compared = evenings::compare(input, new, work, output);
+            let numbers = compared.map(|found| [found.kept, found.dropped, found.added]);
+            (of_numbers(numbers), compared.map_or(0, |found| found.len))
+        }
+        Entry::Line { n } => {
+            let line = evenings::line(input, new, work, n);
+            let numbers = line.map(|line| [line.letter.into(), line.record, 0]);
+            (of_numbers(numbers), 0)
+        }
     };
     let (status, entries) = reply(told, length);
-    *answer = entries;
+    **answer = entries;
     status
 }
 
@@ -105,6 +132,14 @@ pub fn of_answer(answer: Answer) -> Told {
             record,
             position,
         } => Err([number.into(), record, position.into()]),
+    }
+}
+
+/// The numbers of a call that tells no kind, or its refusal.
+fn of_numbers(numbers: Result<[u64; 3], Refusal>) -> Told {
+    match numbers {
+        Ok(numbers) => Ok((numbers, None)),
+        Err(refusal) => of_answer(refusal.into()),
     }
 }
 

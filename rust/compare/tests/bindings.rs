@@ -1,5 +1,8 @@
 //! What the safe bindings add to the calls compared, on generated flows.
 
+use mav::{AccountLine, Compared, Letter};
+use oracle::evenings::{self, Side};
+use oracle::evenings_cases::{pair_case, Pair};
 use oracle::find::find;
 use oracle::generate::{disposition_number, draft, flow_to_amend, Draft, Size};
 use oracle::reader::read;
@@ -136,4 +139,85 @@ fn a_vector_is_shortened_to_the_flow_left() {
         withdrawn.iter().all(|&count| count > 2_500),
         "{withdrawn:?}"
     );
+}
+
+/// The account and its counts are those of the second program, or the refusal
+/// is.
+#[test]
+fn an_account_is_given_with_its_counts() {
+    let (mut accepted, mut refused) = (0, 0);
+    for index in 0..10_000 {
+        let Pair {
+            old,
+            new,
+            work,
+            room,
+            ..
+        } = pair_case(SEED, index, 60);
+        let (mut ours, mut theirs) = (vec![b'#'; room], vec![b'#'; room]);
+        let given = mav::compare(&old, &new, &mut vec![7; work], &mut ours);
+        let due = evenings::compare(&old, &new, &mut vec![7; work], &mut theirs);
+        match (given, due) {
+            (Ok(given), Ok(due)) => {
+                let due = Compared {
+                    kept: due.kept,
+                    dropped: due.dropped,
+                    added: due.added,
+                    length: due.len,
+                };
+                assert_eq!(given, due, "pair {index}");
+                accepted += 1;
+            }
+            (Err(given), Err(due)) => {
+                let due = (u64::from(due.number), due.record, u64::from(due.position));
+                assert_eq!(numbers(given), due, "pair {index}");
+                refused += 1;
+            }
+            (given, due) => panic!("pair {index}: {given:?}, {due:?}"),
+        }
+        assert_eq!(ours, theirs, "pair {index}");
+    }
+    assert!(accepted > 5_000 && refused > 1_000, "{accepted} {refused}");
+}
+
+fn numbers(refusal: mav::Refusal) -> (u64, u64, u64) {
+    (refusal.reason.number(), refusal.record, refusal.position)
+}
+
+/// The record 14 of each line stands in the caller's own flow, at the place
+/// that the second program gives.
+#[test]
+fn the_part_of_a_line_is_in_the_flow_lent() {
+    let mut work = vec![0; mav::MIN_WORK];
+    // Kept, dropped, added.
+    let mut lines = [0; 3];
+    for index in 0..2_000 {
+        let Pair { old, new, .. } = pair_case(SEED, index, 12);
+        let Ok(account) = evenings::account(&old, &new) else {
+            continue;
+        };
+        for (n, &letter) in (1..).zip(&account) {
+            let given = mav::compare_line(&old, &new, &mut work, n).expect("a line");
+            let due = evenings::line(&old, &new, &mut work, n).expect("a line");
+            assert_eq!(given.letter.byte(), letter);
+            assert_eq!(given.part, due.part);
+            assert_eq!(place(&given, &old, &new), (due.side, due.offset));
+            assert_eq!(given.record, due.record);
+            lines[given.letter as usize] += 1;
+        }
+        let after = mav::compare_line(&old, &new, &mut work, account.len() as u64 + 1);
+        let refusal = after.expect_err("no line");
+        assert_eq!(refusal.reason, mav::Reason::NoSuchDisposition);
+    }
+    assert!(lines.iter().all(|&count| count > 1_000), "{lines:?}");
+}
+
+/// In which flow the part stands, and where, by its address.
+fn place(line: &AccountLine, old: &[u8], new: &[u8]) -> (Side, usize) {
+    let (side, flow) = match line.letter {
+        Letter::Dropped => (Side::Old, old),
+        Letter::Kept | Letter::Added => (Side::New, new),
+    };
+    assert!(flow.as_ptr_range().contains(&line.part.as_ptr()));
+    (side, line.part.as_ptr().addr() - flow.as_ptr().addr())
 }

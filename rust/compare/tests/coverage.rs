@@ -1,15 +1,33 @@
 //! The run without arguments meets every kind and number that a call can give.
 
 use compare::entry::Answered;
+use compare::evenings::usual;
 use compare::tally::Tally;
 use compare::{run, Entry, Sides};
+use oracle::rng::Rng;
 use oracle::FlowKind;
 
-/// A part of that run is enough for it.
+/// A part of that run is enough for the calls on one flow, field or list.
 #[test]
 fn every_kind_and_number_comes() {
     let tally = run(&Sides::REAL, 1, 250_000).expect("the two agree");
-    assert_eq!(tally.missed(), []);
+    let mut missed = tally.missed();
+    missed.retain(|(entry, _)| !entry.of_two_flows());
+    assert_eq!(missed, []);
+}
+
+/// As many pairs of flows as a part of that run are enough for the calls on
+/// them: each number of reading for either flow, 27, 28, 34, and 21 or 15.
+#[test]
+fn every_kind_and_number_comes_of_two_flows() {
+    let mut tally = Tally::default();
+    for index in 0..8_000 {
+        let pair = usual(&mut Rng::for_case(1, index), 257);
+        pair.check(&Sides::REAL, &mut tally).expect("the two agree");
+    }
+    let mut missed = tally.missed();
+    missed.retain(|(entry, _)| entry.of_two_flows());
+    assert_eq!(missed, []);
 }
 
 /// A run that is too short is told from it.
@@ -19,14 +37,31 @@ fn a_number_missed_is_named() {
     let refused = |(_, answered): &&(_, Answered)| matches!(answered, Answered::Refused(_));
     assert_eq!(
         missed.iter().filter(refused).count(),
-        1 + 1 + 2 + 15 + 16 + 11 + 16 + 18 + 17
+        1 + 1 + 2 + 15 + 16 + 11 + 16 + 18 + 17 + 19 + 19
     );
+    let of_new = |(_, answered): &&(_, Answered)| matches!(answered, Answered::RefusedNew(_));
+    assert_eq!(missed.iter().filter(of_new).count(), 15 + 15);
     let tally = run(&Sides::REAL, 1, 200).expect("the two agree");
     let change = Entry::Change { k: 0, cents: 0 };
     assert!(tally.missed().contains(&(change, Answered::Refused(17))));
 }
 
-/// Reading, writing, reading back, change and withdrawal tell two kinds.
+/// The calls on two flows and the numbers that only they give.
+#[test]
+fn the_numbers_of_two_flows() {
+    let line = Entry::Line { n: 0 };
+    for entry in Entry::ALL {
+        for number in [27, 28, 34] {
+            assert_eq!(entry.gives(Answered::Refused(number)), entry.of_two_flows());
+            assert!(!entry.gives(Answered::RefusedNew(number)));
+        }
+    }
+    assert!(Entry::Compare.gives(Answered::Refused(21)) && !line.gives(Answered::Refused(21)));
+    assert!(line.gives(Answered::Refused(15)) && !Entry::Compare.gives(Answered::Refused(15)));
+}
+
+/// Reading, writing, reading back, change and withdrawal tell two kinds; two
+/// flows to be compared are of either.
 #[test]
 fn a_kind_missed_is_named() {
     let missed = Tally::default().missed();
@@ -34,14 +69,14 @@ fn a_kind_missed_is_named() {
         let of_entry = missed.iter().filter(|(of, _)| *of == entry);
         let accepted = of_entry.filter_map(|(_, answered)| match answered {
             Answered::Accepted(kind) => Some(*kind),
-            Answered::Refused(_) => None,
+            Answered::Refused(_) | Answered::RefusedNew(_) => None,
         });
         accepted.collect::<Vec<_>>()
     };
     let both = vec![FlowKind::Requests, FlowKind::Recalls];
     let none = vec![];
     let due = [
-        &none, &none, &none, &both, &none, &both, &both, &both, &both,
+        &none, &none, &none, &both, &none, &both, &both, &both, &both, &both, &both,
     ];
     assert_eq!(Entry::ALL.map(kinds).each_ref(), due);
 }

@@ -1,47 +1,16 @@
 //! The comparison itself: a side that is wrong in one way is found, and the
 //! case printed is small.
 
+mod found;
+
+use compare::lent::Memory;
 use compare::sides::{second, Side};
 use compare::{run, Entry, Sides};
+use found::{check, found, found_in_both};
 use mav::raw::Entries;
 use oracle::fields::{digits, write_digits};
 use oracle::find::find;
 use oracle::record::{field, field_mut, record_type, Record, RECORD_LEN};
-
-/// What is printed when the side stands in the place of the second program,
-/// and the second program in the place of the proved library.
-fn found(wrong: Side) -> String {
-    let sides = Sides {
-        proved: &second,
-        second: wrong,
-    };
-    run(&sides, 1, 100_000).expect_err("the fault is found")
-}
-
-/// What is printed when both sides are wrong in the same way.
-fn found_in_both(wrong: Side) -> String {
-    let sides = Sides {
-        proved: wrong,
-        second: wrong,
-    };
-    run(&sides, 1, 100_000).expect_err("the fault is found")
-}
-
-/// All the texts are printed, at most so many rows of bytes, and at the end
-/// how the case comes again.
-fn check(report: &str, most: usize, texts: &[&str]) {
-    for text in texts {
-        assert!(report.contains(text), "no {text:?} in\n{report}");
-    }
-    let numbered = |line: &&str| {
-        line.get(..4)
-            .is_some_and(|n| n.trim().parse::<u32>().is_ok())
-    };
-    let rows = report.lines().filter(numbered).count();
-    assert!((1..=most).contains(&rows), "{rows} rows in\n{report}");
-    let last = report.lines().last().unwrap_or("");
-    assert!(last.contains("to repeat it: compare 1 "), "{report}");
-}
 
 /// Entry 4 of a call on a flow of requests.
 const REQUESTS: u64 = 1;
@@ -64,11 +33,11 @@ fn right_sides_agree() {
 }
 
 /// Reads a flow as if its dispositions had the numbers due.
-fn ignores_numbers(entry: Entry, flow: &mut [u8], output: &mut [u8], answer: &mut Entries) -> u8 {
+fn ignores_numbers(entry: Entry, memory: &mut Memory) -> u8 {
     if entry != Entry::Read {
-        return second(entry, flow, output, answer);
+        return second(entry, memory);
     }
-    let mut flow = flow.to_vec();
+    let mut flow = memory.input.to_vec();
     let mut count = 0;
     for record in records(&mut flow) {
         count += u64::from(record_type(record) == *b"14");
@@ -77,7 +46,7 @@ fn ignores_numbers(entry: Entry, flow: &mut [u8], output: &mut [u8], answer: &mu
             write_digits(field_mut(record, 4, 10), count);
         }
     }
-    second(entry, &mut flow, output, answer)
+    second(entry, &mut memory.with_input(&mut flow))
 }
 
 #[test]
@@ -106,12 +75,13 @@ fn a_case_comes_again() {
 
 /// Closes the gap with one block twice, and sums the trailer from what then
 /// stands there, so that the flow left is accepted.
-fn copies_twice(entry: Entry, flow: &mut [u8], output: &mut [u8], answer: &mut Entries) -> u8 {
-    let status = second(entry, flow, output, answer);
+fn copies_twice(entry: Entry, memory: &mut Memory) -> u8 {
+    let status = second(entry, memory);
     let (Entry::Withdraw { k }, 1) = (entry, status) else {
         return status;
     };
-    let flow = &mut flow[..answer[3] as usize];
+    let Memory { input, answer, .. } = memory;
+    let flow = &mut input[..answer[3] as usize];
     let (Ok(block), Ok(next)) = (find(flow, k), find(flow, k + 1)) else {
         return status;
     };
@@ -157,9 +127,9 @@ fn a_block_is_copied_twice_by_both() {
 }
 
 /// Writes into the output before it refuses.
-fn writes_early(entry: Entry, input: &mut [u8], output: &mut [u8], answer: &mut Entries) -> u8 {
-    let status = second(entry, input, output, answer);
-    if let (0, Some(byte)) = (status, output.first_mut()) {
+fn writes_early(entry: Entry, memory: &mut Memory) -> u8 {
+    let status = second(entry, memory);
+    if let (0, Some(byte)) = (status, memory.output.first_mut()) {
         *byte = !*byte;
     }
     status
@@ -181,24 +151,23 @@ fn a_zero_entry_is_forgotten() {
         "differs at mav_digits(), field at offset ",
     ];
     for index in 1..8 {
-        let forgets_a_zero: Side =
-            &|entry, input: &mut [u8], output: &mut [u8], answer: &mut Entries| {
-                let mark = answer[index];
-                let status = second(entry, input, output, answer);
-                answer[index] = mark;
-                status
-            };
+        let forgets_a_zero: Side = &|entry, memory: &mut Memory| {
+            let mark = memory.answer[index];
+            let status = second(entry, memory);
+            memory.answer[index] = mark;
+            status
+        };
         check(&found(forgets_a_zero), 1, &differs);
     }
 }
 
 /// Leaves the bytes after the flow as they were.
-fn leaves_bytes(entry: Entry, flow: &mut [u8], output: &mut [u8], answer: &mut Entries) -> u8 {
-    let before = flow.to_vec();
-    let status = second(entry, flow, output, answer);
+fn leaves_bytes(entry: Entry, memory: &mut Memory) -> u8 {
+    let before = memory.input.to_vec();
+    let status = second(entry, memory);
     if let Entry::Withdraw { .. } = entry {
-        let len = answer[3] as usize;
-        flow[len..].copy_from_slice(&before[len..]);
+        let len = memory.answer[3] as usize;
+        memory.input[len..].copy_from_slice(&before[len..]);
     }
     status
 }
@@ -212,10 +181,13 @@ fn freed_bytes_are_no_blanks() {
 }
 
 /// Answers a change as due, and makes none.
-fn changes_nothing(entry: Entry, flow: &mut [u8], output: &mut [u8], answer: &mut Entries) -> u8 {
+fn changes_nothing(entry: Entry, memory: &mut Memory) -> u8 {
     match entry {
-        Entry::Change { .. } => second(entry, &mut flow.to_vec(), output, answer),
-        _ => second(entry, flow, output, answer),
+        Entry::Change { .. } => {
+            let mut copy = memory.input.to_vec();
+            second(entry, &mut memory.with_input(&mut copy))
+        }
+        _ => second(entry, memory),
     }
 }
 
@@ -227,9 +199,9 @@ fn a_change_changes_nothing() {
 }
 
 /// Writes to a flow that is lent to be read.
-fn writes_to_input(entry: Entry, input: &mut [u8], output: &mut [u8], answer: &mut Entries) -> u8 {
-    let status = second(entry, input, output, answer);
-    if let (Entry::Find { .. }, Some(byte)) = (entry, input.last_mut()) {
+fn writes_to_input(entry: Entry, memory: &mut Memory) -> u8 {
+    let status = second(entry, memory);
+    if let (Entry::Find { .. }, Some(byte)) = (entry, memory.input.last_mut()) {
         *byte = !*byte;
     }
     status
@@ -242,10 +214,11 @@ fn a_shared_input_is_written() {
 }
 
 /// Has a day 29 in every February.
-fn always_leaps(entry: Entry, field: &mut [u8], output: &mut [u8], answer: &mut Entries) -> u8 {
-    let status = second(entry, field, output, answer);
-    if entry == Entry::Date && field.starts_with(b"2902") && answer[0] == 8 {
-        *answer = [0; 8];
+fn always_leaps(entry: Entry, memory: &mut Memory) -> u8 {
+    let status = second(entry, memory);
+    let Memory { input, answer, .. } = memory;
+    if entry == Entry::Date && input.starts_with(b"2902") && answer[0] == 8 {
+        **answer = [0; 8];
         return 1;
     }
     status
@@ -262,10 +235,10 @@ fn the_leap_years_are_wrong() {
 }
 
 /// Writes a byte of a record that no rule looks at.
-fn writes_unclean(entry: Entry, input: &mut [u8], output: &mut [u8], answer: &mut Entries) -> u8 {
-    let status = second(entry, input, output, answer);
+fn writes_unclean(entry: Entry, memory: &mut Memory) -> u8 {
+    let status = second(entry, memory);
     if (entry, status) == (Entry::Write, 1) {
-        output[0] = b'X';
+        memory.output[0] = b'X';
     }
     status
 }
@@ -282,10 +255,10 @@ fn a_canonical_flow_does_not_come_again() {
 }
 
 /// Gives 6 for a blank field of a request list.
-fn mistakes_blanks(entry: Entry, list: &mut [u8], output: &mut [u8], answer: &mut Entries) -> u8 {
-    let status = second(entry, list, output, answer);
-    if (entry, status, answer[0]) == (Entry::Write, 0, 7) {
-        answer[0] = 6;
+fn mistakes_blanks(entry: Entry, memory: &mut Memory) -> u8 {
+    let status = second(entry, memory);
+    if (entry, status, memory.answer[0]) == (Entry::Write, 0, 7) {
+        memory.answer[0] = 6;
     }
     status
 }
@@ -305,10 +278,10 @@ fn a_request_list_is_printed_by_its_items() {
 }
 
 /// Answers requests for a recall.
-fn tells_requests(entry: Entry, input: &mut [u8], output: &mut [u8], answer: &mut Entries) -> u8 {
-    let status = second(entry, input, output, answer);
-    if answer[4] == RECALLS {
-        answer[4] = REQUESTS;
+fn tells_requests(entry: Entry, memory: &mut Memory) -> u8 {
+    let status = second(entry, memory);
+    if memory.answer[4] == RECALLS {
+        memory.answer[4] = REQUESTS;
     }
     status
 }
@@ -341,10 +314,10 @@ fn a_kind_is_told_where_none_is_due() {
         (Entry::Find { k: 0 }, 1, "second program: accepted first "),
         (Entry::Read, 0, "second program: refused "),
     ] {
-        let wrong: Side = &|entry, input: &mut [u8], output: &mut [u8], answer: &mut Entries| {
-            let told = second(entry, input, output, answer);
+        let wrong: Side = &|entry, memory: &mut Memory| {
+            let told = second(entry, memory);
             if (entry.index(), told) == (found_by.index(), status) {
-                answer[4] = REQUESTS;
+                memory.answer[4] = REQUESTS;
             }
             told
         };
@@ -353,9 +326,14 @@ fn a_kind_is_told_where_none_is_due() {
 }
 
 /// Writes the total of a change where requests have it.
-fn changes_requests(entry: Entry, flow: &mut [u8], output: &mut [u8], answer: &mut Entries) -> u8 {
-    let before = flow.to_vec();
-    let status = second(entry, flow, output, answer);
+fn changes_requests(entry: Entry, memory: &mut Memory) -> u8 {
+    let before = memory.input.to_vec();
+    let status = second(entry, memory);
+    let Memory {
+        input: flow,
+        answer,
+        ..
+    } = memory;
     if let (Entry::Change { .. }, 1, RECALLS) = (entry, status, answer[4]) {
         let place = flow.len() - RECORD_LEN;
         flow[place..].copy_from_slice(&before[place..]);
@@ -390,12 +368,12 @@ fn a_recall_is_changed_at_the_total_of_requests_by_both() {
 }
 
 /// Reads every disposition as one of the first one's kind.
-fn accepts_both(entry: Entry, flow: &mut [u8], output: &mut [u8], answer: &mut Entries) -> u8 {
-    let status = second(entry, flow, output, answer);
-    if (entry, status, answer[0]) != (Entry::Read, 0, 22) {
+fn accepts_both(entry: Entry, memory: &mut Memory) -> u8 {
+    let status = second(entry, memory);
+    if (entry, status, memory.answer[0]) != (Entry::Read, 0, 22) {
         return status;
     }
-    let mut flow = flow.to_vec();
+    let mut flow = memory.input.to_vec();
     let openings = records(&mut flow).iter_mut();
     let mut openings = openings.filter(|record| record_type(record) == *b"14");
     let first = *openings.next().unwrap();
@@ -403,7 +381,7 @@ fn accepts_both(entry: Entry, flow: &mut [u8], output: &mut [u8], answer: &mut E
         field_mut(opening, 29, 33).copy_from_slice(field(&first, 29, 33));
         field_mut(opening, 47, 47).copy_from_slice(field(&first, 47, 47));
     }
-    second(entry, &mut flow, output, answer)
+    second(entry, &mut memory.with_input(&mut flow))
 }
 
 #[test]
@@ -417,11 +395,11 @@ fn a_mixed_flow_is_accepted() {
 }
 
 /// Holds a causale against the flow's kind before it asks whether it is one.
-fn gives_22_first(entry: Entry, flow: &mut [u8], output: &mut [u8], answer: &mut Entries) -> u8 {
-    let status = second(entry, flow, output, answer);
+fn gives_22_first(entry: Entry, memory: &mut Memory) -> u8 {
+    let status = second(entry, memory);
     // The first record 14 is record 2.
-    if let (Entry::Read, 0, [6, (3..), 29, ..]) = (entry, status, &*answer) {
-        answer[0] = 22;
+    if let (Entry::Read, 0, [6, (3..), 29, ..]) = (entry, status, &*memory.answer) {
+        memory.answer[0] = 22;
     }
     status
 }

@@ -3,6 +3,7 @@
 use std::ffi::{OsStr, OsString};
 use std::path::PathBuf;
 
+use crate::diff::Diff;
 use crate::euro;
 use crate::failure::{Failure, Outcome};
 use crate::header;
@@ -23,6 +24,7 @@ pub enum Command {
         flow: PathBuf,
         k: u64,
     },
+    Diff(Diff),
     Explain(Option<u64>),
     /// With or without a question.
     Save {
@@ -52,6 +54,7 @@ const VALUED: [(&str, &str); 3] = [
 struct Words {
     operands: Vec<OsString>,
     yes: bool,
+    all: bool,
     values: Vec<(&'static str, OsString)>,
     help: bool,
 }
@@ -70,6 +73,7 @@ fn known(name: &OsStr) -> Outcome<(&'static str, &'static [&'static str])> {
     Ok(match name.to_str() {
         Some("check") => (help::CHECK, &[]),
         Some("show") => (help::SHOW, &["--find"]),
+        Some("diff") => (help::DIFF, &["--all"]),
         Some("amount") => (help::AMOUNT, &["--yes"]),
         Some("withdraw") => (help::WITHDRAW, &["--yes"]),
         Some("list") => (help::LIST, &["--yes"]),
@@ -131,6 +135,7 @@ fn sorted(name: &str, options: &[&str], rest: &[OsString]) -> Outcome<Words> {
             Some("--") => words.operands.extend(rest.by_ref().cloned()),
             Some("--help" | "-h") => words.help = true,
             Some("--yes") if options.contains(&"--yes") => words.yes = true,
+            Some("--all") if options.contains(&"--all") => words.all = true,
             Some(option) if option.starts_with("--") => {
                 let found = valued(options, option, &mut rest)?;
                 words.values.push(found.ok_or_else(|| {
@@ -179,6 +184,11 @@ fn command(name: &str, words: Words) -> Outcome<Option<Command>> {
             flow: flow.into(),
             k: request(k)?,
         },
+        ("diff", [old, new]) => Command::Diff(Diff {
+            old: old.into(),
+            new: new.into(),
+            all: words.all,
+        }),
         ("explain", []) => Command::Explain(None),
         ("explain", [number]) => Command::Explain(Some(parsed(number, euro::number, "a number")?)),
         _ => {

@@ -5,6 +5,7 @@ use std::io::Write;
 use mav::Reason;
 
 use crate::failure::{Failure, Outcome};
+use crate::output::listed;
 
 /// Explains one number.
 pub fn number(number: u64, out: &mut impl Write) -> Outcome {
@@ -18,21 +19,17 @@ pub fn number(number: u64, out: &mut impl Write) -> Outcome {
     }
 }
 
-/// The numbers that there are, in runs, as `1 to 18 and 20 to 22`.
+/// The numbers that there are, in runs, as `1 to 18, 20 to 22, 27, 28 and 34`.
 fn all_numbers() -> String {
     let numbers: Vec<u64> = Reason::ALL.iter().map(|reason| reason.number()).collect();
     let runs = numbers.chunk_by(|a, b| a + 1 == *b);
-    let mut runs: Vec<String> = runs
-        .map(|run| match run {
-            [first, .., last] => format!("{first} to {last}"),
+    let runs: Vec<String> = runs
+        .flat_map(|run| match run {
+            [first, _, .., last] => vec![format!("{first} to {last}")],
             _ => run.iter().map(u64::to_string).collect(),
         })
         .collect();
-    let last = runs.pop().unwrap_or_default();
-    match runs.is_empty() {
-        true => last,
-        false => format!("{} and {last}", runs.join(", ")),
-    }
+    listed(&runs)
 }
 
 /// Explains all of them.
@@ -59,7 +56,8 @@ fn row(reason: Reason, out: &mut impl Write) -> Outcome {
     Ok(())
 }
 
-/// The place that a refusal by the number gives (document 01, "Numbers a clerk may see"; document 02 for 22).
+/// The place that a refusal by the number gives (document 01, "Numbers a clerk may see"; document 02 from 22
+/// on).
 fn place(reason: Reason) -> Option<&'static str> {
     Some(match reason {
         Reason::Byte => "the record, and the position of the byte",
@@ -82,7 +80,10 @@ fn place(reason: Reason) -> Option<&'static str> {
         | Reason::AmountTooLarge
         | Reason::TotalTooLarge
         | Reason::OnlyDisposition
-        | Reason::Room => "none",
+        | Reason::Room
+        | Reason::TooManyRequests
+        | Reason::KindsDiffer
+        | Reason::WorkingMemory => "none",
         _ => return None,
     })
 }
@@ -110,6 +111,9 @@ fn remedy(reason: Reason) -> Option<&'static str> {
         Reason::Item => "The list was cut short or is no list. Make it again from its flow.",
         Reason::Room => "Programs that use the library see it. mavdesk makes the room.",
         Reason::OtherKind => "The flow has new requests and recalls. Have it sent as two.",
+        Reason::TooManyRequests => "Compare smaller flows, such as those of single houses.",
+        Reason::KindsDiffer => "Compare requests with requests, and recalls with recalls.",
+        Reason::WorkingMemory => "Programs that use the library see it. mavdesk has enough of it.",
         _ => return None,
     })
 }

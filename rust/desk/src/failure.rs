@@ -12,7 +12,8 @@ pub type Outcome<T = ()> = Result<T, Failure>;
 
 /// The end of a command that has not done what it was asked.
 pub struct Failure {
-    /// 1 where the rules or the clerk said no, 2 where the command could not be carried out.
+    /// 1 where the rules or the clerk said no, 2 where the command could not be carried out. A comparison
+    /// has its own: 1 where something differs, 2 where it could not be made.
     status: u8,
     /// The sentence, with what belongs under it; nothing where all has been said.
     text: Option<String>,
@@ -46,6 +47,11 @@ impl Failure {
             text: self.text.or(Some(silent.to_owned())),
             ..self
         }
+    }
+
+    /// The same of a comparison, in which 1 says that something differs, and nothing else.
+    pub fn of_comparison(self) -> Failure {
+        Failure { status: 2, ..self }
     }
 
     fn new(status: u8, text: impl Display) -> Failure {

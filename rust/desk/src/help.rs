@@ -8,6 +8,7 @@ NAME
 SYNOPSIS
     mavdesk check FILE..            judge flows, or all flows of a folder
     mavdesk show FILE [K]           show the requests of a flow, or request K
+    mavdesk diff OLD NEW            say what differs between two flows
     mavdesk amount FILE K EUROS     give request K another amount
     mavdesk withdraw FILE K..       take requests out
     mavdesk list FLOW LIST          write the request list of a flow
@@ -24,11 +25,13 @@ DESCRIPTION
     requests already sent: what is said here of requests goes for recalls too.
 
     The commands that save ask first, and with --yes they do not; show has
-    --find TEXT. mavdesk COMMAND --help tells more. A word -- ends the options.
+    --find TEXT, and diff has --all. mavdesk COMMAND --help tells more. A word
+    -- ends the options.
 
 EXIT STATUS
     0  all was done; 1  the rules or the clerk said no, or nothing was found;
-    2  a file, a lock or the command line was in the way.
+    2  a file, a lock or the command line was in the way. Of diff: 0  nothing
+    differs; 1  something does; 2  the flows could not be compared.
 ";
 
 pub const CHECK: &str = "\
@@ -84,6 +87,48 @@ EXIT STATUS
 EXAMPLES
     mavdesk show house-07.flow --find rossi
     mavdesk show house-07.flow 17
+";
+
+pub const DIFF: &str = "\
+NAME
+    mavdesk diff - say what differs between two flows
+
+SYNOPSIS
+    mavdesk diff [--all] OLD NEW
+
+DESCRIPTION
+    Compares the flow OLD, such as last night's, with the flow NEW, such as
+    tonight's, and prints what both are, a row for each request that differs,
+    and both totals. Both files are only read.
+
+    A row has the request's number in OLD (BEFORE) and in NEW (AFTER), when it
+    is due, its amount in euro and the debtor (record 30, positions 11-70), and
+    begins with what became of it:
+
+    dropped     It is in OLD alone.
+    added       It is in NEW alone.
+    changed     One was dropped and one added for the same debtor. The row now
+                under it has the due date and the amount where they differ, and
+                says in which records something else does.
+    moved       It stands elsewhere among the others, and is as it was.
+    kept        It is as it was. Without --all these are only counted.
+
+    Two requests are the same if all that a request list has of them is the
+    same; their numbers do not count, and the flows' own names and dates are
+    not compared. Of all ways from OLD to NEW it is the one that drops and adds
+    fewest. A flow of more than 256 requests cannot be compared, nor requests
+    with recalls.
+
+OPTIONS
+    --all
+        A row for each request that is kept, too.
+
+EXIT STATUS
+    0 if nothing differs; 1 if something does; 2 if a flow is refused or cannot
+    be read, or the two cannot be compared.
+
+EXAMPLE
+    mavdesk diff last-night/house-07.flow tonight/house-07.flow
 ";
 
 pub const AMOUNT: &str = "\

@@ -1,5 +1,5 @@
-//! The command `mavdesk`: a clerk checks flows of payment requests, looks into them, amends and saves them,
-//! and recalls requests already sent.
+//! The command `mavdesk`: a clerk checks flows of payment requests, looks into them, compares two of them,
+//! amends and saves them, and recalls requests already sent.
 //!
 //! It is thin. Every change of a flow is made by the proved library, through the bindings `mav`, and every
 //! judgement but one: a file above the ceiling is not read, and `check` gives its number, 1, by itself. This
@@ -8,10 +8,13 @@
 
 #![forbid(unsafe_code)]
 
+mod account;
 mod amend;
 mod arguments;
 mod check;
+mod diff;
 mod euro;
+mod evening;
 mod explain;
 mod failure;
 mod header;
@@ -53,6 +56,7 @@ fn run(command: &Command) -> Outcome {
         Command::Check(named) => check::check(named, out)?,
         Command::Table { flow, wanted } => show::table(flow, wanted.as_deref(), out)?,
         Command::Request { flow, k } => show::request(flow, *k, out)?,
+        Command::Diff(asked) => diff::diff(asked, out)?,
         Command::Explain(None) => explain::table(out)?,
         Command::Explain(Some(number)) => explain::number(*number, out)?,
         Command::Save { saving, yes } => save(saving, *yes, out).map_err(Failure::of_saving)?,

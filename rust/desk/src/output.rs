@@ -52,6 +52,14 @@ pub fn saved(out: &mut impl Write, what: &str, kept_as: Option<&Path>) -> Outcom
     })
 }
 
+/// Words one after the other, as `1, 2 and 3`.
+pub fn listed(words: &[String]) -> String {
+    match words {
+        [front @ .., last] if !front.is_empty() => format!("{} and {last}", front.join(", ")),
+        _ => words.concat(),
+    }
+}
+
 /// So many things, with the word for one or for several.
 pub fn counted(number: u64, one: &str, several: &str) -> String {
     let word = if number == 1 { one } else { several };

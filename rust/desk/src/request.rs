@@ -28,19 +28,12 @@ impl Request {
             part,
             ..
         } = found;
-        let opening = &part[..RECORD_LENGTH];
-        let of_type = |wanted: &[u8]| {
-            let found = part
-                .chunks_exact(RECORD_LENGTH)
-                .find(|record| record_type(record) == wanted);
-            found.expect("every request of an accepted flow has records 30 and 51")
-        };
         let cells = [
             number.to_string(),
-            date(field(opening, 23, 28)),
+            date(due(part)),
             euro::shown(cents),
-            text(field(of_type(b"30"), 11, 40)),
-            text(field(of_type(b"51"), 11, 20)),
+            text(field(of_type(part, b"30"), 11, 40)),
+            text(field(of_type(part, b"51"), 11, 20)),
         ];
         Request {
             number,
@@ -76,6 +69,30 @@ impl Request {
     }
 }
 
+/// The date at which a request is due, as the flow has it: 23-28 of its record 14.
+pub fn due(part: &[u8]) -> &[u8] {
+    field(part, 23, 28)
+}
+
+/// The debtor of a request, as the flow has it: 11-70 of its record 30.
+pub fn debtor(part: &[u8]) -> &[u8] {
+    field(of_type(part, b"30"), 11, 70)
+}
+
+/// A debtor as text. It has two halves of thirty positions, each with its own blanks behind it.
+pub fn debtor_text(debtor: &[u8]) -> String {
+    let halves = debtor.chunks(30).map(text);
+    let filled: Vec<String> = halves.filter(|half| !half.is_empty()).collect();
+    filled.join(" ")
+}
+
+/// The first record of a type that every request has.
+fn of_type<'a>(part: &'a [u8], wanted: &[u8]) -> &'a [u8] {
+    let mut records = part.chunks_exact(RECORD_LENGTH);
+    let found = records.find(|record| record_type(record) == wanted);
+    found.expect("every request of an accepted flow has records 30 and 51")
+}
+
 /// The line over the rows.
 pub fn titles() -> String {
     line(&TITLES)
@@ -91,4 +108,21 @@ fn line([number, due, amount, debtor, reference]: &[&str; 5]) -> String {
 pub fn date(digits: &[u8]) -> String {
     let [day, month, year] = [0..2, 2..4, 4..6].map(|range| characters(&digits[range]));
     format!("{day}/{month}/20{year}")
+}
+
+#[cfg(test)]
+mod tests {
+    use super::*;
+
+    #[test]
+    fn the_halves_of_a_debtor_are_one_text() {
+        let shown =
+            |first: &str, second: &str| debtor_text(format!("{first:<30}{second:<30}").as_bytes());
+        assert_eq!(shown("ROSSI GIULIA", ""), "ROSSI GIULIA");
+        assert_eq!(shown("ROSSI", "GIULIA"), "ROSSI GIULIA");
+        assert_eq!(shown(" ROSSI", "  GIULIA"), "ROSSI GIULIA");
+        assert_eq!(shown("", "GIULIA"), "GIULIA");
+        let (full, also) = ("A".repeat(30), "B".repeat(30));
+        assert_eq!(shown(&full, &also), format!("{full} {also}"));
+    }
 }

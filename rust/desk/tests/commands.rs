@@ -46,12 +46,17 @@ trailer, records                              16                       9
 const SAVED: &str = "Saved. The flow as it was is kept as two-rents.flow.before.\n";
 
 /// The commands, each with what its page says that it does, and its forms.
-const PAGES: [(&str, &str, &[&str]); 8] = [
+const PAGES: [(&str, &str, &[&str]); 9] = [
     ("check", "judge flows", &["mavdesk check FILE.."]),
     (
         "show",
         "show the requests of a flow",
         &["mavdesk show FILE [--find TEXT]", "mavdesk show FILE K"],
+    ),
+    (
+        "diff",
+        "say what differs between two flows",
+        &["mavdesk diff [--all] OLD NEW"],
     ),
     (
         "amount",
@@ -518,6 +523,8 @@ fn what_only_reads_leaves_every_file_as_it_was() {
     folder.run(&["show", "refused-13-total.flow"]);
     folder.run(&["show", "two-rents.flow", "2"]);
     folder.run(&["show", "two-rents.flow", "--find", "rossi"]);
+    folder.run(&["diff", "two-rents.flow", "two-rents.flow"]);
+    folder.run(&["diff", "two-rents.flow", "refused-13-total.flow"]);
     left(
         &folder,
         &[
@@ -1008,6 +1015,9 @@ fn all_numbers_are_explained_once_with_the_place_that_documents_01_and_02_give()
         (20, "the item of the list, counted from 1"),
         (21, "none"),
         (22, "the record, position 29"),
+        (27, "none"),
+        (28, "none"),
+        (34, "none"),
     ];
     let folder = Folder::new();
     let mut due = Vec::new();
@@ -1037,11 +1047,11 @@ fn a_number_outside_the_table_is_not_explained() {
     folder
         .run(&["explain", "19"])
         .failed(2, "mavdesk: number 19 is not used.\n");
-    for number in ["0", "23", "257"] {
+    for number in ["0", "23", "29", "257"] {
         folder.run(&["explain", number]).failed(
             2,
             &format!(
-                "mavdesk: there is no number {number}; the numbers are 1 to 18 and 20 to 22.\n"
+                "mavdesk: there is no number {number}; the numbers are 1 to 18, 20 to 22, 27, 28 and 34.\n"
             ),
         );
     }
@@ -1097,6 +1107,7 @@ fn the_options_of_a_command_are_on_its_page() {
     let folder = Folder::new();
     for (command, option) in [
         ("show", "--find TEXT"),
+        ("diff", "--all"),
         ("amount", "--yes"),
         ("withdraw", "--yes"),
         ("list", "--yes"),

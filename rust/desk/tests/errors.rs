@@ -67,6 +67,7 @@ fn a_missing_file_is_told_by_every_command_that_reads_one() {
         &["show", "house.flow"][..],
         &["show", "house.flow", "1"],
         &["show", "house.flow", "--find", "rossi"],
+        &["diff", "house.flow", "other.flow"],
         &["amount", "house.flow", "1", "450"],
         &["amount", "--yes", "house.flow", "1", "450"],
         &["withdraw", "--yes", "house.flow", "1"],
@@ -229,6 +230,8 @@ fn a_folder_where_a_file_is_due_is_told() {
     for (words, doing) in [
         (&["show", "night"][..], "read"),
         (&["show", "night", "1"], "read"),
+        (&["diff", "night", "two-rents.flow"], "read"),
+        (&["diff", "two-rents.flow", "night"], "read"),
         (&["amount", "--yes", "night", "1", "450"], "changed"),
         (&["withdraw", "--yes", "night", "1"], "changed"),
         (&["list", "night", "new.list"], "read"),
@@ -312,6 +315,7 @@ fn a_file_that_may_not_be_read_is_told() {
     set_mode(&folder.path("two-rents.flow"), 0);
     for (words, doing) in [
         (&["show", "two-rents.flow"][..], "read"),
+        (&["diff", "two-rents.flow", "two-rents.flow"], "read"),
         (&["list", "two-rents.flow", "new.list"], "read"),
         (&["write", "two-rents.flow", "new.flow"], "read"),
         (
@@ -549,6 +553,8 @@ fn an_output_that_cannot_be_written_is_told_and_nothing_is_saved() {
         &["show", "two-rents.flow"],
         &["show", "forty-rents.flow"],
         &["show", "forty-rents.flow", "4"],
+        &["diff", "two-rents.flow", "two-rents.flow"],
+        &["diff", "two-rents.flow", "forty-rents.flow"],
         &["amount", "two-rents.flow", "2", "400"],
         &["amount", "--yes", "two-rents.flow", "2", "400"],
         &["amount", "--yes", "two-rents.flow", "2", "380,50"],

@@ -6,7 +6,10 @@ mod common;
 
 use std::fs;
 
-use common::{amended, change, drawn, left, record, sample, Folder, DATE, NAME, RULER_1, RULER_2};
+use common::{
+    amended, change, drawn, flow_of, left, record, sample, samples, Folder, DATE, NAME, RULER_1,
+    RULER_2,
+};
 use oracle::answer::Answer;
 use oracle::list::write_flow;
 use oracle::FlowKind;
@@ -834,8 +837,10 @@ fn number_21_is_only_explained() {
 }
 
 #[test]
-fn every_number_but_21_is_reached_with_the_sentence_that_explains_it() {
+fn every_number_but_21_and_34_is_reached_with_the_sentence_that_explains_it() {
     let full = full_flow();
+    let [head, first, _] = rents();
+    let many = flow_of(&[head, first.repeat(257)].concat());
     let mut cases: Vec<(u64, Vec<String>)> = MARKED
         .iter()
         .map(|row| (row.number, vec!["show".into(), row.file.into()]))
@@ -848,17 +853,20 @@ fn every_number_but_21_is_reached_with_the_sentence_that_explains_it() {
         (17, "amount full.flow 101 1"),
         (18, "withdraw one-rent.flow 1"),
         (20, "write refused-20-item.list new.flow"),
+        (27, "diff two-rents.flow many.flow"),
+        (28, "diff two-rents.flow two-rents-recall.flow"),
     ] {
         cases.push((number, words.split(' ').map(str::to_owned).collect()));
     }
     cases.sort();
     let numbers: Vec<u64> = cases.iter().map(|(number, _)| *number).collect();
-    let due: Vec<u64> = (1..=18).chain([20, 22]).collect();
+    let due: Vec<u64> = (1..=18).chain([20, 22, 27, 28]).collect();
     assert_eq!(numbers, due);
     for (number, words) in cases {
         let folder = folder_of("full.flow", &full);
-        if words[1] != "full.flow" {
-            fs::write(folder.path(&words[1]), sample(&words[1])).unwrap();
+        fs::write(folder.path("many.flow"), &many).unwrap();
+        for name in words.iter().filter(|word| samples().join(word).is_file()) {
+            fs::write(folder.path(name), sample(name)).unwrap();
         }
         let explained = folder.run(&["explain", &number.to_string()]).out;
         let sentence = explained.lines().next().unwrap()[4..].to_owned();
@@ -867,6 +875,8 @@ fn every_number_but_21_is_reached_with_the_sentence_that_explains_it() {
         let (_, behind) = told.split_once(&format!(": refused {number}")).unwrap();
         assert!(behind.contains(&format!(": {sentence}")), "{told}");
         assert_eq!(ended.out, "");
-        assert_eq!(ended.status, Some(1));
+        // Of a comparison 1 says that the flows differ.
+        let status = if words[0] == "diff" { 2 } else { 1 };
+        assert_eq!(ended.status, Some(status));
     }
 }

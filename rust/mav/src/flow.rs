@@ -100,7 +100,7 @@ pub fn find(flow: &[u8], k: u64) -> Result<Disposition<'_>, Refusal> {
 }
 
 /// The bytes of so many records from a record on, which is counted from 1.
-fn byte_range(first_record: u64, records: u64) -> Range<usize> {
+pub(crate) fn byte_range(first_record: u64, records: u64) -> Range<usize> {
     let before = first_record.saturating_sub(1);
     offset(before)..offset(before.saturating_add(records))
 }

@@ -1,5 +1,5 @@
 //! Safe bindings to the proved M.Av. library: flows of 120-byte records, of new requests or of recalls, are
-//! read, searched, written from a request list, read back to one, and amended.
+//! read, searched, written from a request list, read back to one, amended, and compared.
 //!
 //! A flow and a list are the caller's bytes. Every call takes them at any length and with any contents and
 //! asks nothing of them first. It works in place, keeps nothing between calls, and gives either what it
@@ -16,6 +16,8 @@
 //! | [`change`] | gives a disposition another amount |
 //! | [`withdraw`] | takes a disposition out and shortens the flow |
 //! | [`withdraw_in_place`] | the same on a slice: it gives the new length, and leaves blanks after it |
+//! | [`compare`] | writes the shortest account of what differs between two flows |
+//! | [`compare_line`] | says what a line of that account is, and gives its record 14 |
 //! | [`digits`], [`amount`], [`date`] | the field rules, without any flow |
 //! | [`items`], [`ItemKind`] | the items of a request list, for showing them; plain Rust |
 //!
@@ -48,6 +50,7 @@ compile_error!("the proved library is compiled for x86-64 Linux");
 
 mod amend;
 mod answer;
+mod evenings;
 mod fields;
 mod flow;
 mod item;
@@ -61,13 +64,14 @@ mod reason;
 
 pub use amend::{change, withdraw, withdraw_in_place, Withdrawn};
 pub use answer::{Accepted, Refusal};
+pub use evenings::{compare, compare_line, AccountLine, Compared, Letter};
 pub use fields::{amount, date, digits, FieldRefusal};
 pub use flow::{find, read, Disposition};
 pub use item::{items, ItemKind};
 pub use kind::FlowKind;
 pub use limits::{
-    AMOUNT_LENGTH, DATE_LENGTH, MAX_AMOUNT, MAX_DIGITS, MAX_FLOW_LENGTH, MAX_ITEM_LENGTH,
-    MAX_RECORDS, MAX_TOTAL, RECORD_LENGTH,
+    AMOUNT_LENGTH, DATE_LENGTH, MAX_ACCOUNT_LENGTH, MAX_AMOUNT, MAX_COMPARED, MAX_DIGITS,
+    MAX_FLOW_LENGTH, MAX_ITEM_LENGTH, MAX_RECORDS, MAX_TOTAL, MIN_WORK, RECORD_LENGTH,
 };
 pub use list::{flow_room, list_room, read_back, read_back_to_vec, write, write_to_vec, Written};
 pub use parts::{dispositions, Dispositions};

@@ -1,4 +1,4 @@
-//! The lengths and the largest numbers of document 01.
+//! The lengths and the largest numbers of documents 01 and 02.
 
 /// The length of a record in bytes.
 pub const RECORD_LENGTH: usize = 120;
@@ -27,3 +27,12 @@ pub const AMOUNT_LENGTH: usize = 13;
 
 /// The length of a date in digits: day, month and year, two of each.
 pub const DATE_LENGTH: usize = 6;
+
+/// The most dispositions of a flow that can be [compared](crate::compare) with another.
+pub const MAX_COMPARED: u64 = 256;
+
+/// The least working memory of a comparison, in numbers of 16 bits: 257 times 257.
+pub const MIN_WORK: usize = 66_049;
+
+/// The length of the longest account of a comparison: [`MAX_COMPARED`] lines for each side.
+pub const MAX_ACCOUNT_LENGTH: usize = 512;

@@ -41,6 +41,27 @@ extern "C" {
         -> u8;
     fn mav_change(flow: *mut u8, len: usize, k: u64, cents: u64, answer: *mut Entries) -> u8;
     fn mav_withdraw(flow: *mut u8, len: usize, k: u64, answer: *mut Entries) -> u8;
+    fn mav_compare(
+        old: *const u8,
+        old_len: usize,
+        new: *const u8,
+        new_len: usize,
+        work: *mut u16,
+        work_len: usize,
+        account: *mut u8,
+        room: usize,
+        answer: *mut Entries,
+    ) -> u8;
+    fn mav_compare_line(
+        old: *const u8,
+        old_len: usize,
+        new: *const u8,
+        new_len: usize,
+        work: *mut u16,
+        work_len: usize,
+        n: u64,
+        answer: *mut Entries,
+    ) -> u8;
 }
 
 /// The number of a field of 1 to 15 digits: entry 0.
@@ -120,4 +141,50 @@ pub fn change(flow: &mut [u8], k: u64, cents: u64, answer: &mut Entries) -> u8 {
 pub fn withdraw(flow: &mut [u8], k: u64, answer: &mut Entries) -> u8 {
     // SAFETY: as for `change`.
     unsafe { mav_withdraw(flow.as_mut_ptr(), flow.len(), k, answer) }
+}
+
+/// Writes the account of what differs between two flows at the front of `account`: how many lines are K, D and
+/// A. Entry 3 is the length written, 0 where refused. An accepted call leaves `work` all zero.
+#[must_use = "0 says that the call is refused"]
+pub fn compare(
+    old: &[u8],
+    new: &[u8],
+    work: &mut [u16],
+    account: &mut [u8],
+    answer: &mut Entries,
+) -> u8 {
+    // SAFETY: as for `write`, with `work` and `account` in the place of `out`; the two flows are only read,
+    // so they may overlap.
+    unsafe {
+        mav_compare(
+            old.as_ptr(),
+            old.len(),
+            new.as_ptr(),
+            new.len(),
+            work.as_mut_ptr(),
+            work.len(),
+            account.as_mut_ptr(),
+            account.len(),
+            answer,
+        )
+    }
+}
+
+/// Line `n` of that account: its letter as a byte, and its record 14, counted from 1 in its own flow. An
+/// accepted call leaves `work` all zero.
+#[must_use = "0 says that the call is refused"]
+pub fn compare_line(old: &[u8], new: &[u8], work: &mut [u16], n: u64, answer: &mut Entries) -> u8 {
+    // SAFETY: as for `compare`.
+    unsafe {
+        mav_compare_line(
+            old.as_ptr(),
+            old.len(),
+            new.as_ptr(),
+            new.len(),
+            work.as_mut_ptr(),
+            work.len(),
+            n,
+            answer,
+        )
+    }
 }

@@ -60,7 +60,7 @@ pub enum Reason {
     Total = 13,
     /// 14: the trailer's count of records is wrong.
     RecordCount = 14,
-    /// 15: there is no disposition of that number.
+    /// 15: there is no disposition of that number, or no line of an account.
     NoSuchDisposition = 15,
     /// 16: the new amount is above [`MAX_AMOUNT`](crate::MAX_AMOUNT).
     AmountTooLarge = 16,
@@ -75,6 +75,13 @@ pub enum Reason {
     Room = 21,
     /// 22: a disposition is of another [kind](crate::FlowKind) than the first one of its flow.
     OtherKind = 22,
+    /// 27: one of the two flows to be compared has more than [`MAX_COMPARED`](crate::MAX_COMPARED)
+    /// dispositions.
+    TooManyRequests = 27,
+    /// 28: the two flows to be compared are of different [kinds](crate::FlowKind).
+    KindsDiffer = 28,
+    /// 34: the working memory of a comparison has fewer than [`MIN_WORK`](crate::MIN_WORK) numbers.
+    WorkingMemory = 34,
 }
 
 impl Reason {
@@ -83,7 +90,7 @@ impl Reason {
     /// ```
     /// use mav::Reason;
     ///
-    /// assert_eq!(Reason::ALL.len(), 21);
+    /// assert_eq!(Reason::ALL.len(), 24);
     /// assert!(Reason::ALL.iter().all(|reason| reason.number() != 19));
     /// ```
     pub const ALL: &'static [Reason] = &[
@@ -108,6 +115,9 @@ impl Reason {
         Reason::Item,
         Reason::Room,
         Reason::OtherKind,
+        Reason::TooManyRequests,
+        Reason::KindsDiffer,
+        Reason::WorkingMemory,
     ];
 
     /// The number in the documents.
@@ -162,6 +172,9 @@ impl Reason {
             Reason::OtherKind => {
                 "a request and a recall may not share a flow, and the first one was of the other kind"
             }
+            Reason::TooManyRequests => "flows of more than 256 dispositions cannot be compared",
+            Reason::KindsDiffer => "a flow of requests and one of recalls cannot be compared",
+            Reason::WorkingMemory => "there is not enough working memory for a comparison",
         }
     }
 }

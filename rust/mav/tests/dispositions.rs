@@ -5,12 +5,14 @@ mod common;
 use common::{differences, positions, refused, sample};
 use mav::{Disposition, FlowKind, Reason};
 
-const RIGHT: [&str; 5] = [
+const RIGHT: [&str; 7] = [
     "two-rents.flow",
     "two-rents-recall.flow",
     "two-rents-filler.flow",
     "one-rent.flow",
     "forty-rents.flow",
+    "last-night.flow",
+    "tonight.flow",
 ];
 
 /// All that is given of a flow, held against `find`.

@@ -65,11 +65,45 @@ fn the_header_has_the_limits() {
         format!("MAV_MAX_FLOW_LENGTH {}", mav::MAX_FLOW_LENGTH),
         format!("MAV_MAX_AMOUNT UINT64_C({})", mav::MAX_AMOUNT),
         format!("MAV_MAX_TOTAL UINT64_C({})", mav::MAX_TOTAL),
+        format!("MAV_MAX_COMPARED {}", mav::MAX_COMPARED),
+        format!("MAV_MIN_WORK {}", mav::MIN_WORK),
+        format!("MAV_MAX_ACCOUNT_LENGTH {}", mav::MAX_ACCOUNT_LENGTH),
     ] {
         assert!(
             text.lines().any(|line| line == format!("#define {due}")),
             "{due}"
         );
+    }
+}
+
+#[test]
+fn the_header_declares_every_call() {
+    let text = header();
+    let declared = |front: &str| {
+        let lines = text.lines().filter_map(|line| line.strip_prefix(front));
+        let names: Vec<&str> = lines.filter_map(|rest| rest.split('(').next()).collect();
+        names
+    };
+    let bound = include_str!("../src/raw.rs").lines();
+    let bound: Vec<&str> = bound
+        .filter_map(|line| line.strip_prefix("    fn ")?.split('(').next())
+        .collect();
+    assert_eq!(declared("uint8_t "), bound);
+    assert_eq!(bound.len(), 11);
+}
+
+#[test]
+fn the_header_has_the_entries_of_a_comparison() {
+    let text = header();
+    for (name, entry) in [
+        ("MAV_KEPT", 0),
+        ("MAV_DROPPED", 1),
+        ("MAV_ADDED", 2),
+        ("MAV_LENGTH", 3),
+        ("MAV_LINE_LETTER", 0),
+        ("MAV_LINE_RECORD", 1),
+    ] {
+        assert!(gives(&text, name, entry), "{name}");
     }
 }
 

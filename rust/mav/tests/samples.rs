@@ -3,7 +3,7 @@
 mod common;
 
 use common::sample;
-use mav::Reason;
+use mav::{Accepted, Reason, Refusal};
 
 /// What is asked of a sample.
 #[derive(Clone, Copy, Debug)]
@@ -15,14 +15,18 @@ enum Call {
     Change(u64, u64),
     /// Withdraw a disposition.
     Withdraw(u64),
+    /// Compare it with another sample, in a working memory of this length.
+    Compare(&'static str, usize),
+    /// Compare it with the first rent so many times.
+    CompareRents(usize),
 }
 
-use Call::{Change, Read, Withdraw, Write};
+use Call::{Change, Compare, CompareRents, Read, Withdraw, Write};
 
 /// A sample, the call, and the line of the answer due.
 type Row = (&'static str, Call, &'static str);
 
-const ACCEPTED: [Row; 8] = [
+const ACCEPTED: [Row; 10] = [
     (
         "two-rents.flow",
         Read,
@@ -63,9 +67,19 @@ const ACCEPTED: [Row; 8] = [
         Write(44_160),
         "accepted dispositions 40 cents 2225000 records 368 kind requests",
     ),
+    (
+        "last-night.flow",
+        Read,
+        "accepted dispositions 8 cents 323300 records 60 kind requests",
+    ),
+    (
+        "tonight.flow",
+        Read,
+        "accepted dispositions 8 cents 325850 records 60 kind requests",
+    ),
 ];
 
-const REFUSED: [Row; 22] = [
+const REFUSED: [Row; 25] = [
     (
         "refused-01-length.flow",
         Read,
@@ -176,7 +190,36 @@ const REFUSED: [Row; 22] = [
         Read,
         "refused 22 record 9 position 29",
     ),
+    (
+        "two-rents.flow",
+        CompareRents(257),
+        "refused 27 record 0 position 0",
+    ),
+    (
+        "two-rents.flow",
+        Compare("two-rents-recall.flow", 66_049),
+        "refused 28 record 0 position 0",
+    ),
+    (
+        "last-night.flow",
+        Compare("tonight.flow", 66_048),
+        "refused 34 record 0 position 0",
+    ),
 ];
+
+/// The refusal of a comparison, which has no numbers of a flow.
+fn compared(old: &[u8], new: &[u8], work: usize) -> Result<Accepted, Refusal> {
+    let told = mav::compare(old, new, &mut vec![0; work], &mut [0; 512]);
+    Err(told.expect_err("only refused ones stand here"))
+}
+
+/// The flow of the first rent so many times.
+fn rents(count: usize) -> Vec<u8> {
+    let list = sample("two-rents.list");
+    let rents = list[50..643].repeat(count);
+    let (_, flow) = mav::write_to_vec(&[&list[..50], &rents].concat()).expect("rents");
+    flow
+}
 
 /// The answer, and beside a refusal its reason.
 fn answer((file, call, _): Row) -> (String, Option<Reason>) {
@@ -186,6 +229,8 @@ fn answer((file, call, _): Row) -> (String, Option<Reason>) {
         Write(room) => mav::write(&bytes, &mut vec![0; room]).map(|written| written.accepted),
         Change(k, cents) => mav::change(&mut bytes, k, cents),
         Withdraw(k) => mav::withdraw(&mut bytes, k),
+        Compare(new, work) => compared(&bytes, &sample(new), work),
+        CompareRents(count) => compared(&bytes, &rents(count), mav::MIN_WORK),
     };
     match answer {
         Ok(accepted) => (accepted.to_string(), None),
@@ -222,7 +267,7 @@ fn every_number_of_the_documents_is_reached() {
 #[test]
 fn the_numbers_are_those_of_the_documents() {
     let due = [
-        1, 2, 3, 4, 5, 6, 7, 8, 9, 10, 11, 12, 13, 14, 15, 16, 17, 18, 20, 21, 22,
+        1, 2, 3, 4, 5, 6, 7, 8, 9, 10, 11, 12, 13, 14, 15, 16, 17, 18, 20, 21, 22, 27, 28, 34,
     ];
     let numbers: Vec<u64> = Reason::ALL.iter().map(|reason| reason.number()).collect();
     assert_eq!(numbers, due);

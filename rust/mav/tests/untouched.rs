@@ -6,7 +6,7 @@ use std::fs;
 
 use common::{differences, positions, root, sample};
 
-const FILES: [&str; 26] = [
+const FILES: [&str; 28] = [
     "two-rents.flow",
     "two-rents.list",
     "two-rents-recall.flow",
@@ -15,6 +15,8 @@ const FILES: [&str; 26] = [
     "one-rent.flow",
     "forty-rents.flow",
     "forty-rents.list",
+    "last-night.flow",
+    "tonight.flow",
     "refused-01-length.flow",
     "refused-02-byte.flow",
     "refused-03-type.flow",
@@ -80,12 +82,12 @@ fn refused_outputs_are_as_before() {
             refused[1] += u32::from(output_kept(mav::read_back, &bytes, room));
         }
     }
-    // Of 26 files in 11 rooms three are lists that are written: two of two rents in the four largest rooms,
+    // Of 28 files in 11 rooms three are lists that are written: two of two rents in the four largest rooms,
     // forty in the two largest.
-    assert_eq!(refused[0], 26 * 11 - 2 * 4 - 2);
-    // Five are flows that are read back: three of two rents from 1,236 bytes on, one rent from 643 on, and
-    // forty rents from 31,656 on.
-    assert_eq!(refused[1], 26 * 11 - 3 * 6 - 7 - 2);
+    assert_eq!(refused[0], 28 * 11 - 2 * 4 - 2);
+    // Seven are flows that are read back: three of two rents from 1,236 bytes on, one rent from 643 on, forty
+    // rents from 31,656 on, and twice eight from 4,933 on.
+    assert_eq!(refused[1], 28 * 11 - 3 * 6 - 7 - 2 - 2 * 2);
 }
 
 #[test]
@@ -106,8 +108,9 @@ fn refused_withdrawals_leave_the_flow() {
             }
         }
     }
-    // 1 and 2 of the three flows of two rents, and 1, 2, 3 and 40 of forty, are withdrawn.
-    assert_eq!(refused, 26 * 7 - 3 * 2 - 4);
+    // 1 and 2 of the three flows of two rents, 1, 2, 3 and 40 of forty, and twice 1, 2 and 3 of eight, are
+    // withdrawn.
+    assert_eq!(refused, 28 * 7 - 3 * 2 - 4 - 2 * 3);
 }
 
 #[test]
@@ -126,7 +129,7 @@ fn refused_changes_leave_the_flow() {
         }
     }
     // The same dispositions, and the one of one rent, take three of the five amounts.
-    assert_eq!(refused, 26 * 7 * 5 - 3 * 11);
+    assert_eq!(refused, 28 * 7 * 5 - 3 * 17);
 }
 
 #[test]

@@ -4,8 +4,8 @@ use std::fmt;
 
 use crate::kind::FlowKind;
 
-/// The refusal numbers of document 01's table and of document 02, E1. Number
-/// 19 is not used.
+/// The refusal numbers of document 01's table and of document 02, E1 and E7.
+/// Number 19 is not used.
 pub mod number {
     pub const LENGTH: u8 = 1;
     pub const BYTE: u8 = 2;
@@ -28,6 +28,9 @@ pub mod number {
     pub const ITEM: u8 = 20;
     pub const OUTPUT: u8 = 21;
     pub const OTHER_KIND: u8 = 22;
+    pub const REQUESTS_LIMIT: u8 = 27;
+    pub const KINDS_DIFFER: u8 = 28;
+    pub const WORKING_MEMORY: u8 = 34;
 }
 
 /// The answer of every call on a flow or a request list.

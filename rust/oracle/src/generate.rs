@@ -332,8 +332,10 @@ fn text_record(rng: &mut Rng, kind: &[u8; 2], obligatory: usize, last: usize) ->
 const UNUSED_IM: [(usize, usize); 4] = [(1, 1), (46, 104), (112, 113), (115, 120)];
 const UNUSED_EF: [(usize, usize); 4] = [(1, 1), (40, 45), (90, 113), (115, 120)];
 
-fn unused(record: &Record) -> &'static [(usize, usize)] {
+pub(crate) fn unused(record: &Record) -> &'static [(usize, usize)] {
     match field(record, 2, 3) {
+        b"IM" => &UNUSED_IM,
+        b"EF" => &UNUSED_EF,
         b"14" => &[(1, 1), (11, 22), (70, 91), (114, 119)],
         b"16" => &[(1, 1), (38, 120)],
         b"20" => &[(1, 1), (107, 120)],

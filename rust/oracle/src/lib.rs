@@ -1,11 +1,11 @@
 //! M.Av. flows of 120-byte records, requests and recalls, by the rules of
-//! document 01 and of request E1 of document 02: the field rules, the reader,
-//! where a disposition is, request lists, amount change and withdrawal, and
-//! the ledger that says what a list of calls leaves. Beside them stand
-//! generated cases and sample files.
+//! document 01 and of requests E1 and E7 of document 02: the field rules, the
+//! reader, where a disposition is, request lists, amount change and withdrawal,
+//! the ledger that says what a list of calls leaves, and what differs between
+//! two evenings. Beside them stand generated cases and sample files.
 //!
-//! The rules read in place. No call allocates per record, asks anything of
-//! its input first, or panics.
+//! The rules of one flow read in place and do not allocate per record. No call
+//! asks anything of its input first, or panics.
 
 #![forbid(unsafe_code)]
 
@@ -13,6 +13,8 @@ pub mod amend;
 pub mod amend_cases;
 pub mod answer;
 pub mod damage;
+pub mod evenings;
+pub mod evenings_cases;
 pub mod fields;
 pub mod find;
 pub mod find_cases;

@@ -12,7 +12,7 @@ use oracle::{program, samples, tally, vectors};
 const USAGE: &str = "usage: oracle judge < FLOW, oracle sample DIR, \
     oracle vectors fields INPUT OUTPUT, oracle vectors flow INPUT OUTPUT, \
     oracle vectors list INPUT OUTPUT, oracle vectors amend INPUT OUTPUT, \
-    oracle vectors flows SEED COUNT DIR, or oracle tally SEED COUNT.";
+    oracle vectors evenings INPUT OUTPUT, oracle vectors flows SEED COUNT DIR, or oracle tally SEED COUNT.";
 
 fn main() -> ExitCode {
     let args: Vec<OsString> = std::env::args_os().skip(1).collect();
@@ -48,6 +48,9 @@ fn run(args: &[OsString]) -> io::Result<bool> {
         }
         [vectors, amend, input, output] if vectors == "vectors" && amend == "amend" => {
             vectors::write_amendments(Path::new(input), Path::new(output))?;
+        }
+        [vectors, evenings, input, output] if vectors == "vectors" && evenings == "evenings" => {
+            vectors::write_evenings(Path::new(input), Path::new(output))?;
         }
         [vectors, flows, seed, count, dir] if vectors == "vectors" && flows == "flows" => {
             let (Some(seed), Some(count)) = (number(seed), number(count)) else {

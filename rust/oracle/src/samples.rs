@@ -1,5 +1,6 @@
-//! The sample files: right flows and lists, and for each refusal number a file,
-//! with the call that gives it where reading alone does not.
+//! The sample files: right flows and lists, for each refusal number of one flow
+//! or list a file, with the call that gives it where reading alone does not,
+//! and two evenings to be compared.
 
 use std::fmt::Write;
 use std::path::Path;
@@ -7,6 +8,8 @@ use std::{fs, io};
 
 use crate::amend::{change, withdraw};
 use crate::answer::Answer;
+use crate::evenings::{compare, line, Side, MIN_WORK};
+use crate::evenings_cases::Asked;
 use crate::fields::{write_digits, MAX_AMOUNT};
 use crate::generate::{blank, Draft};
 use crate::kind::FlowKind;
@@ -77,6 +80,34 @@ const TENANTS: [Tenant; 2] = [
         cents: 38_050,
     },
 ];
+
+/// The tenants of a small residence last night.
+#[rustfmt::skip]
+const LAST_NIGHT: [Tenant; 8] = [
+    Tenant { name: "COLOMBO SARA", tax_code: "CLMSRA05C52F205A", room: "STANZA 1",
+        customer: "S0101", number: 101, cents: 41_000 },
+    Tenant { name: "FERRARI LUCA", tax_code: "FRRLCU04H15F205B", room: "STANZA 2",
+        customer: "S0102", number: 102, cents: 39_500 },
+    Tenant { name: "GALLI ANNA", tax_code: "GLLNNA03T60F205C", room: "STANZA 3",
+        customer: "S0103", number: 103, cents: 42_000 },
+    Tenant { name: "MORETTI PAOLO", tax_code: "MRTPLA05E09F205D", room: "STANZA 4",
+        customer: "S0104", number: 104, cents: 36_750 },
+    Tenant { name: "RICCI ELENA", tax_code: "RCCLNE04B47F205E", room: "STANZA 5",
+        customer: "S0105", number: 105, cents: 41_000 },
+    Tenant { name: "CONTI DAVIDE", tax_code: "CNTDVD05S21F205F", room: "STANZA 6",
+        customer: "S0106", number: 106, cents: 45_000 },
+    Tenant { name: "MARINO CHIARA", tax_code: "MRNCHR06A48F205G", room: "STANZA 7",
+        customer: "S0107", number: 107, cents: 38_050 },
+    Tenant { name: "GRECO MATTEO", tax_code: "GRCMTT04R03F205H", room: "STANZA 8",
+        customer: "S0108", number: 108, cents: 40_000 },
+];
+
+/// The tenant who is new tonight, in the room of the one who left.
+#[rustfmt::skip]
+const NEW_TENANT: Tenant = Tenant {
+    name: "LOMBARDI IRENE", tax_code: "LMBRNI05L66F205I", room: "STANZA 3",
+    customer: "S0109", number: 109, cents: 42_000,
+};
 
 fn header() -> Record {
     let mut record = blank(b"IM");
@@ -151,6 +182,30 @@ fn rents(tenants: &[Tenant], kind: FlowKind) -> Draft {
         dispositions: tenants.iter().map(rent).collect(),
         trailer: BLANK_RECORD,
     }
+}
+
+/// Last night's rents of a small residence. The second has a record 16, the
+/// sixth two records 59.
+pub fn last_night() -> Draft {
+    let mut draft = rents(&LAST_NIGHT, FlowKind::Requests);
+    put(&mut draft.header, 14, b"160326");
+    put(&mut draft.header, 20, b"RENT-MARCH-16");
+    draft.dispositions[1].insert(1, account());
+    draft.dispositions[5].splice(4..5, [1, 2].map(detail_line));
+    draft
+}
+
+/// Tonight's: the third tenant has left, one is new, and the fifth has another
+/// amount.
+pub fn tonight() -> Draft {
+    let mut draft = last_night();
+    put(&mut draft.header, 14, b"170326");
+    put(&mut draft.header, 20, b"RENT-MARCH-17");
+    draft.dispositions.remove(2);
+    write_digits(field_mut(&mut draft.dispositions[3][0], 34, 46), 43_550);
+    let new = rent(&NEW_TENANT, FlowKind::Requests);
+    draft.dispositions.insert(3, new);
+    draft
 }
 
 /// Forty rents with every optional record and field.
@@ -292,7 +347,7 @@ pub fn samples() -> Vec<Sample> {
 use UseAs::{Amended, Flow, List};
 
 #[rustfmt::skip]
-const RIGHT: [Row; 8] = [
+const RIGHT: [Row; 10] = [
     ("two-rents.flow", Flow, || two_rents().flow(),
         "two rents, canonical, no record 16, one 50 each",
         "accepted dispositions 2 cents 83050 records 16 kind requests"),
@@ -317,6 +372,12 @@ const RIGHT: [Row; 8] = [
     ("forty-rents.list", List(44_160), || forty_rents().list(),
         "the request list of forty-rents.flow",
         "accepted dispositions 40 cents 2225000 records 368 kind requests"),
+    ("last-night.flow", Flow, || last_night().flow(),
+        "eight rents of a small residence, the evening before tonight.flow",
+        "accepted dispositions 8 cents 323300 records 60 kind requests"),
+    ("tonight.flow", Flow, || tonight().flow(),
+        "the next evening: GALLI ANNA, 3 last night, has left; LOMBARDI IRENE, 4, is new; the rent of RICCI ELENA, 5, is 435.50 and no longer 410.00; MORETTI PAOLO, unchanged, is 3 and no longer 4; the rest is as it was",
+        "accepted dispositions 8 cents 325850 records 60 kind requests"),
 ];
 
 #[rustfmt::skip]
@@ -379,6 +440,109 @@ const REFUSED_CALLS: [Row; 3] = [
         "the only disposition", "refused 18 record 0 position 0"),
 ];
 
+/// Two samples to be compared, by their files: what is asked of them, what it
+/// shows, and the answer due, written by hand.
+pub struct Evenings {
+    pub old: &'static str,
+    pub new: &'static str,
+    pub asked: Asked,
+    pub shows: &'static str,
+    pub due: &'static str,
+}
+
+const fn evenings(
+    old: &'static str,
+    new: &'static str,
+    asked: Asked,
+    shows: &'static str,
+    due: &'static str,
+) -> Evenings {
+    Evenings {
+        old,
+        new,
+        asked,
+        shows,
+        due,
+    }
+}
+
+/// The account in this room.
+const fn account_in(room: usize) -> Asked {
+    let work = MIN_WORK;
+    Asked::Compare { work, room }
+}
+
+/// A line of the account.
+const fn line_of(n: u64) -> Asked {
+    let work = MIN_WORK;
+    Asked::Line { work, n }
+}
+
+/// The samples to be compared, in the order of their table.
+#[rustfmt::skip]
+pub const EVENINGS: [Evenings; 10] = [
+    evenings("last-night.flow", "tonight.flow", account_in(10),
+        "the account from last night to tonight",
+        "accepted kept 6 dropped 2 added 2 account KKDKDAAKKK"),
+    evenings("last-night.flow", "tonight.flow", line_of(3),
+        "GALLI ANNA has left", "D record 17 of last-night.flow"),
+    evenings("last-night.flow", "tonight.flow", line_of(4),
+        "MORETTI PAOLO is kept", "K record 17 of tonight.flow"),
+    evenings("last-night.flow", "tonight.flow", line_of(5),
+        "RICCI ELENA with last night's amount", "D record 31 of last-night.flow"),
+    evenings("last-night.flow", "tonight.flow", line_of(7),
+        "RICCI ELENA with tonight's amount", "A record 31 of tonight.flow"),
+    evenings("tonight.flow", "last-night.flow", account_in(10),
+        "the way back", "accepted kept 6 dropped 2 added 2 account KKAKDDAKKK"),
+    evenings("last-night.flow", "tonight.flow", line_of(11),
+        "the account has ten lines", "refused 15 record 0 position 0"),
+    evenings("last-night.flow", "tonight.flow", account_in(9),
+        "room for nine lines", "refused 21 record 0 position 0"),
+    evenings("two-rents.flow", "two-rents-recall.flow", account_in(4),
+        "requests against recalls", "refused 28 record 0 position 0"),
+    evenings("last-night.flow", "tonight.flow", Asked::Compare { work: MIN_WORK - 1, room: 10 },
+        "a working memory one number too short", "refused 34 record 0 position 0"),
+];
+
+impl Evenings {
+    /// The answer given.
+    pub fn answer(&self) -> String {
+        let (old, new) = (bytes_of(self.old), bytes_of(self.new));
+        match self.asked {
+            Asked::Compare { work, room } => {
+                let mut account = vec![b'?'; room];
+                match compare(&old, &new, &mut vec![0; work], &mut account) {
+                    Ok(done) => format!(
+                        "accepted kept {} dropped {} added {} account {}",
+                        done.kept,
+                        done.dropped,
+                        done.added,
+                        String::from_utf8_lossy(&account[..done.len])
+                    ),
+                    Err(refusal) => Answer::from(refusal).to_string(),
+                }
+            }
+            Asked::Line { work, n } => match line(&old, &new, &mut vec![0; work], n) {
+                Ok(found) => {
+                    let file = match found.side {
+                        Side::Old => self.old,
+                        Side::New => self.new,
+                    };
+                    let letter = char::from(found.letter);
+                    format!("{letter} record {} of {file}", found.record)
+                }
+                Err(refusal) => Answer::from(refusal).to_string(),
+            },
+        }
+    }
+}
+
+/// The bytes of a sample; none if there is no such file.
+fn bytes_of(file: &str) -> Vec<u8> {
+    let sample = samples().into_iter().find(|sample| sample.file == file);
+    sample.map(|sample| sample.bytes).unwrap_or_default()
+}
+
 /// The table of samples, as Markdown.
 pub fn table(samples: &[Sample]) -> String {
     let mut text = String::from(
@@ -386,7 +550,7 @@ pub fn table(samples: &[Sample]) -> String {
          Files ending in `.flow` are flows to be read, files ending in `.list` are request\n\
          lists to be written to an output of the length given. A row that names a call\n\
          is about that call on the flow. The rules are those of document 01 and of\n\
-         request E1 of document 02. The files are written by `oracle sample`.\n\n\
+         requests E1 and E7 of document 02. The files are written by `oracle sample`.\n\n\
          | file | what it shows | answer due |\n|---|---|---|\n",
     );
     for sample in samples {
@@ -400,6 +564,29 @@ pub fn table(samples: &[Sample]) -> String {
             UseAs::Amended(Call::Withdraw { k }) => format!(", withdrawal of {k}"),
         };
         let _ = writeln!(text, "| `{file}`{used} | {shows} | `{due}` |");
+    }
+    text.push_str(
+        "\n## Two evenings\n\n\
+         Two flows are compared, the old one first. The working memory is of 66,049 numbers\n\
+         where nothing else is said.\n\n\
+         | files | asked | what it shows | answer due |\n|---|---|---|---|\n",
+    );
+    for evenings in &EVENINGS {
+        let Evenings {
+            old,
+            new,
+            asked,
+            shows,
+            due,
+        } = evenings;
+        let asked = match asked {
+            Asked::Compare { work, room } if *work == MIN_WORK => format!("account, room {room}"),
+            Asked::Compare { work, room } => {
+                format!("account, room {room}, working memory {work}")
+            }
+            Asked::Line { n, .. } => format!("line {n}"),
+        };
+        let _ = writeln!(text, "| `{old}`, `{new}` | {asked} | {shows} | `{due}` |");
     }
     text
 }

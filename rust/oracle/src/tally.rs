@@ -1,4 +1,5 @@
-//! How often each refusal number comes in generated cases.
+//! How often each refusal number comes in generated cases of the calls on one
+//! flow or list.
 
 use std::fmt;
 
@@ -11,7 +12,7 @@ use crate::reader::read;
 use crate::record::{record_type, RECORD_LEN};
 use crate::rng::Rng;
 
-/// The numbers that can come.
+/// The numbers that can come of one flow or list.
 pub const NUMBERS: [u8; 21] = [
     1, 2, 3, 4, 5, 6, 7, 8, 9, 10, 11, 12, 13, 14, 15, 16, 17, 18, 20, 21, 22,
 ];

@@ -88,6 +88,39 @@
 //! those of the ledger, or of the reader where it refuses the flow; the flows are
 //! those of the amendments.
 //!
+//! What differs between two evenings (`oracle vectors evenings IN OUT`): OUT has
+//! as many lines as IN. A flow stays lent until another takes its place.
+//!
+//! | line of IN | the same line of OUT |
+//! |---|---|
+//! | `# ab and ba`, the name of the case that comes next | as it is |
+//! | `(` and the bytes of the old flow, as above | `old 1920`, its length |
+//! | `)` and the bytes of the new flow | `new 1080` |
+//! | `~` | the old and the new flow exchanged: `old 1080 new 1920` |
+//! | `=66049 2` | the account, with a working memory of 66049 numbers and room for 2 lines |
+//! | `?66049 1` | line 1 of it, with a working memory of 66049 numbers |
+//!
+//! Before a call the account's room, and 64 bytes after it, hold the byte 128 +
+//! i % 101 at index i from 0; the working memory, and 64 numbers after it, hold
+//! the number 1 + i % 60013.
+//!
+//! The account's line is `accepted kept 1 dropped 1 added 0 length 2 kept 64 "DK"
+//! zero 66049 as before 64`: how many requests are kept, dropped and added; the
+//! length returned; how many bytes of the room after that length, and of the 64,
+//! are all as before; the bytes written, in quotes; how many numbers of the
+//! working memory, all zero; and how many after it are all as before. Of a
+//! refused call, as `refused 27 record 0 position 0 length 0 kept 66 as before
+//! 66113`, all of the room and all of the working memory count. Where something
+//! is otherwise, `changed at 3` stands for `kept 64` or `as before 64`, and `not
+//! zero at 3` for `zero 66049`, with the first index.
+//!
+//! A line asked is `line D record 2 part 120 " 140000001" at 120 of old zero 66049
+//! as before 64`: its letter; the number of its record 14; the length of the part
+//! of the flow that this is, and its first 10 bytes in quotes, as they stand; the
+//! index of the part's first byte in its flow, and which flow that is, `old` or
+//! `new`; and the working memory as above. A refused one is `refused 15 record 0
+//! position 0 part 0 as before 66113`.
+//!
 //! Generated flows (`oracle vectors flows SEED COUNT DIR`): a file for each
 //! flow, and `expected` with the small program's line for each.
 
@@ -97,13 +130,16 @@ use std::{fs, io};
 
 use crate::amend::{change, withdraw};
 use crate::answer::Answer;
+use crate::evenings::{compare, line, Side};
 use crate::find::find;
 use crate::ledger::{Call, Ledger};
 use crate::list::{write_flow, write_list};
 use crate::list_cases::Asked;
 use crate::reader::read;
 use crate::record::RECORD_LEN;
-use crate::{amend_cases, fields, find_cases, generate, list_cases, program, reader_cases};
+use crate::{
+    amend_cases, evenings_cases, fields, find_cases, generate, list_cases, program, reader_cases,
+};
 
 /// Writes the input and the output file of the field rules.
 pub fn write_fields(input: &Path, output: &Path) -> io::Result<()> {
@@ -123,6 +159,11 @@ pub fn write_lists(input: &Path, output: &Path) -> io::Result<()> {
 /// Writes the input and the output file of amount changes and withdrawals.
 pub fn write_amendments(input: &Path, output: &Path) -> io::Result<()> {
     write_both(amend_files(), input, output)
+}
+
+/// Writes the input and the output file of what differs between two evenings.
+pub fn write_evenings(input: &Path, output: &Path) -> io::Result<()> {
+    write_both(evenings_files(), input, output)
 }
 
 fn write_both(files: (String, String), input: &Path, output: &Path) -> io::Result<()> {
@@ -199,6 +240,147 @@ pub fn amend_files() -> (String, String) {
         }
     }
     (input, output)
+}
+
+/// The cases of what differs between two evenings and their answers.
+pub fn evenings_files() -> (String, String) {
+    let (mut input, mut output) = (String::new(), String::new());
+    let mut lent = Lent::default();
+    for case in evenings_cases::cases() {
+        let _ = writeln!(input, "# {}", case.name);
+        let _ = writeln!(output, "# {}", case.name);
+        let (old, new) = (&case.old, &case.new);
+        let mut lines = lent.lend(old, new);
+        lines.extend(case.asked.iter().map(|asked| match *asked {
+            evenings_cases::Asked::Compare { work, room } => (
+                format!("={work} {room}"),
+                compared_line(old, new, work, room),
+            ),
+            evenings_cases::Asked::Line { work, n } => {
+                (format!("?{work} {n}"), asked_line(old, new, work, n))
+            }
+        }));
+        for (question, answer) in lines {
+            let _ = writeln!(input, "{question}");
+            let _ = writeln!(output, "{answer}");
+        }
+    }
+    (input, output)
+}
+
+/// The two flows lent so far.
+#[derive(Default)]
+struct Lent {
+    old: Option<Vec<u8>>,
+    new: Option<Vec<u8>>,
+}
+
+impl Lent {
+    /// The lines that lend these two. A flow that is lent already is not lent
+    /// again; where it is on the other side, the two are exchanged.
+    fn lend(&mut self, old: &[u8], new: &[u8]) -> Vec<(String, String)> {
+        let is = |lent: &Option<Vec<u8>>, flow: &[u8]| lent.as_deref() == Some(flow);
+        let stays = is(&self.old, old) || is(&self.new, new);
+        let mut lines = Vec::new();
+        if !stays && (is(&self.old, new) || is(&self.new, old)) {
+            std::mem::swap(&mut self.old, &mut self.new);
+            let len = |lent: &Option<Vec<u8>>| lent.as_ref().map_or(0, Vec::len);
+            let answer = format!("old {} new {}", len(&self.old), len(&self.new));
+            lines.push((String::from("~"), answer));
+        }
+        if !is(&self.old, old) {
+            let answer = format!("old {}", old.len());
+            lines.push((format!("({}", escaped(old)), answer));
+            self.old = Some(old.to_vec());
+        }
+        if !is(&self.new, new) {
+            let answer = format!("new {}", new.len());
+            lines.push((format!("){}", escaped(new)), answer));
+            self.new = Some(new.to_vec());
+        }
+        lines
+    }
+}
+
+/// The number at an index of a working memory before a call.
+fn work_marker(index: usize) -> u16 {
+    1 + (index % 60_013) as u16
+}
+
+/// A working memory of so many numbers, and those after it.
+fn marked_work(work: usize) -> Vec<u16> {
+    (0..work + BEHIND).map(work_marker).collect()
+}
+
+/// The line of a comparison.
+fn compared_line(old: &[u8], new: &[u8], work: usize, room: usize) -> String {
+    let mut account: Vec<u8> = (0..room + BEHIND).map(marker).collect();
+    let mut memory = marked_work(work);
+    match compare(old, new, &mut memory[..work], &mut account[..room]) {
+        Ok(done) => format!(
+            "accepted kept {} dropped {} added {} length {} {} {} {}",
+            done.kept,
+            done.dropped,
+            done.added,
+            done.len,
+            kept_from(&account, done.len),
+            quoted(&account[..done.len]),
+            zeroed(&memory, work),
+        ),
+        Err(refusal) => format!(
+            "{} length 0 {} {}",
+            Answer::from(refusal),
+            kept_from(&account, 0),
+            as_before(&memory, 0),
+        ),
+    }
+}
+
+/// The line of a line asked.
+fn asked_line(old: &[u8], new: &[u8], work: usize, n: u64) -> String {
+    let mut memory = marked_work(work);
+    match line(old, new, &mut memory[..work], n) {
+        Ok(found) => format!(
+            "line {} record {} part {} {} at {} of {} {}",
+            char::from(found.letter),
+            found.record,
+            found.part.len(),
+            quoted(&found.part[..10]),
+            found.offset,
+            match found.side {
+                Side::Old => "old",
+                Side::New => "new",
+            },
+            zeroed(&memory, work),
+        ),
+        Err(refusal) => format!("{} part 0 {}", Answer::from(refusal), as_before(&memory, 0)),
+    }
+}
+
+/// Whether the first so many numbers of a memory are zero and the others as
+/// before.
+fn zeroed(memory: &[u16], work: usize) -> String {
+    let zero = match memory[..work].iter().position(|&number| number != 0) {
+        Some(index) => format!("not zero at {index}"),
+        None => format!("zero {work}"),
+    };
+    format!("{zero} {}", as_before(memory, work))
+}
+
+/// Whether the numbers from an index on are as before.
+fn as_before(memory: &[u16], from: usize) -> String {
+    match (from..memory.len()).find(|&index| memory[index] != work_marker(index)) {
+        Some(index) => format!("changed at {index}"),
+        None => format!("as before {}", memory.len() - from),
+    }
+}
+
+/// Whether the bytes of an output from an index on are as before.
+fn kept_from(out: &[u8], from: usize) -> String {
+    match (from..out.len()).find(|&index| out[index] != marker(index)) {
+        Some(index) => format!("changed at {index}"),
+        None => format!("kept {}", out.len() - from),
+    }
 }
 
 /// A call as the input file has it.
@@ -294,12 +476,7 @@ fn marker(index: usize) -> u8 {
 fn filled_line(fill: Fill, bytes: &[u8], room: usize) -> String {
     let mut out: Vec<u8> = (0..room + BEHIND).map(marker).collect();
     let (answer, len) = fill(bytes, &mut out[..room]);
-    let mut line = format!("{answer} length {len} ");
-    let changed = (len..out.len()).find(|&index| out[index] != marker(index));
-    let _ = match changed {
-        Some(index) => write!(line, "changed at {index}"),
-        None => write!(line, "kept {}", out.len() - len),
-    };
+    let mut line = format!("{answer} length {len} {}", kept_from(&out, len));
     let written = &out[..len];
     if len > SHOWN {
         let _ = write!(line, " adler {}", adler(written));

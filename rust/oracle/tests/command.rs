@@ -9,7 +9,7 @@ use std::process::{Command, Output, Stdio};
 
 use common::*;
 use oracle::tally::{tally, NUMBERS};
-use oracle::{generate, program, rng::Rng, vectors};
+use oracle::{evenings, generate, program, rng::Rng, vectors};
 
 fn oracle(args: &[&str], input: &[u8]) -> Output {
     let mut child = Command::new(env!("CARGO_BIN_EXE_oracle"))
@@ -72,6 +72,7 @@ fn bad_usage_is_one_sentence_and_status_2() {
         &["vectors", "flow", "a"],
         &["vectors", "list", "a"],
         &["vectors", "amend", "a"],
+        &["vectors", "evenings", "a"],
         &["vectors", "flows", "one", "2", "dir"],
         &["tally", "1"],
         &["tally", "1", "-5"],
@@ -107,7 +108,15 @@ fn samples_are_written() {
     let mixed = fs::read(dir.join("refused-22-kind.flow")).unwrap();
     let second = two_rents().with(9, 29, b"07100").with(9, 47, b"+");
     assert_eq!(mixed, second.bytes());
+    let old = fs::read(dir.join("last-night.flow")).unwrap();
+    let new = fs::read(dir.join("tonight.flow")).unwrap();
+    assert_eq!(evenings::account(&old, &new).unwrap(), b"KKDKDAAKKK");
     let table = fs::read_to_string(dir.join("README.md")).unwrap();
+    for number in [15, 21, 28, 34] {
+        let row = format!("| `refused {number} record 0 position 0` |");
+        let (_, second) = table.split_once("## Two evenings").unwrap();
+        assert!(second.contains(&row));
+    }
     for number in NUMBERS {
         assert!(table.contains(&format!("`refused {number} record")));
     }
@@ -119,6 +128,7 @@ fn vectors_of_the_rules_are_written() {
         ("flow", vectors::flow_files()),
         ("list", vectors::list_files()),
         ("amend", vectors::amend_files()),
+        ("evenings", vectors::evenings_files()),
     ] {
         let dir = scratch(rules);
         fs::create_dir_all(&dir).unwrap();

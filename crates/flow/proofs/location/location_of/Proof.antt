@@ -9,7 +9,7 @@ use borrow.Author.Needs.{needs}
 use Rattle.fields.specs.Digits.{number}
 use Rattle.records.specs.Amount.{amountIn}
 use Rattle.flow.specs.Find.{dispositionsIn, startOf}
-use Rattle.flow.proofs.Dispositions.{Disposition, accepted-length, disposition-at}
+use Rattle.flow.proofs.Dispositions.{Disposition, disposition-at}
 use Rattle.flow.proofs.Cut.{record-part}
 use Rattle.flow.proofs.location.location_of.Statement.{statement}
 use Rattle.flow.proofs.location.location_of.Tie as tie
@@ -23,9 +23,6 @@ stood c = rw (c .start-of .ensures) (disposition-at (c .before .before .args .fl
 
 add-next-opening : tie.Need-add-next-opening
 add-next-opening c = let within = stood c .within in omega arith
-
-next-opening-requires : tie.Need-next-opening-requires
-next-opening-requires c κs = accepted-length _ (c .before .before .pre .read) .0
 
 mul-amount : tie.Need-mul-amount
 mul-amount c = let within = stood (c .before) .within in omega arith
@@ -66,7 +63,7 @@ location-of-spec =
     (tie.spec
     (λ c κs. search needs)
     add-next-opening
-    next-opening-requires
+    (search needs)
     mul-amount
     mul-amount-2
     add-amount

@@ -24,14 +24,14 @@ loop-holds c = refl
 
 -- the record's type decides whether it is the one
 decides :
-    (c : tie.After-is-opening Inv-loop μ-loop) → let at = c .before .before .before in let f = at .before .before .args .flow .now in
-    openingFrom f (at .before .before .args .from) ≡ cond (c .is-opening .result) (at .loop .i) (openingFrom f (at .loop .i + 1))
+    (c : tie.After-is-opening Inv-loop μ-loop) → let at = c .before .before .before in let f = at .before .before .before .args .flow .now in
+    openingFrom f (at .before .before .before .args .from) ≡ cond (c .is-opening .result) (at .loop .i) (openingFrom f (at .loop .i + 1))
 decides c =
     let at = c .before .before .before in
-    let f = at .before .before .args .flow .now in
+    let f = at .before .before .before .args .flow .now in
     let i = at .loop .i in
     let type : c .is-opening .result ≡ isOpening (recordAt i f) = c .is-opening .ensures ∙ ap isOpening (record-part i f) in
-    sym (at .loop .inv) ∙ rw (type, add-one) (opening-next f i (omega arith))
+    sym (at .loop .inv) ∙ rw (type, add-one) (opening-next f i (omega (arith, at .before .last-index .ensures)))
 
 returns : tie.Need-returns Inv-loop μ-loop
 returns c = rw (c .if1 .taken) at (sym (decides (c .before)))
@@ -40,7 +40,7 @@ loop-again : tie.Need-loop-again Inv-loop μ-loop
 loop-again c = rw (c .if1 .left) at (sym (decides (c .before)))
 
 returns-2 : tie.Need-returns-2 Inv-loop μ-loop
-returns-2 c = sym (opening-end (c .before .before .before .args .flow .now) (c .before .loop .i) (omega arith)) ∙ c .before .loop .inv
+returns-2 c = sym (opening-end (c .before .before .before .before .args .flow .now) (c .before .loop .i) (omega (arith, c .before .before .last-index .ensures))) ∙ c .before .loop .inv
 
 pub next-opening-spec : {M : Type 1} → statement M
 next-opening-spec =

@@ -5,7 +5,7 @@ use mathlib.Core.Path.{_≡_, refl, sym, _∙_, ap}
 use native.Mathlib.Omega.{arith}
 use borrow.Author.Needs.{needs}
 use Rattle.flow.specs.Find.{dispositionsIn, startOf, HasDisposition, openingFrom}
-use Rattle.flow.proofs.Dispositions.{accepted-length, disposition-at, starts-next}
+use Rattle.flow.proofs.Dispositions.{disposition-at, starts-next}
 use Rattle.flow.proofs.location.start_of.Statement.{statement}
 use Rattle.flow.proofs.location.start_of.Tie as tie
 
@@ -32,9 +32,6 @@ add-next-opening c =
     let within = d .within in
     omega arith
 
-next-opening-requires : tie.Need-next-opening-requires Inv-loop μ-loop
-next-opening-requires c κs = accepted-length _ (c .before .before .before .pre .read) .0
-
 loop-again : tie.Need-loop-again Inv-loop μ-loop
 loop-again c =
     let at = c .before .before in
@@ -56,7 +53,7 @@ start-of-spec =
     μ-loop
     loop-holds
     add-next-opening
-    next-opening-requires
+    (search needs)
     (search needs)
     (search needs)
     loop-again

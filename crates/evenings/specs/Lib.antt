@@ -1,0 +1,11 @@
+pub mod Account
+pub mod Compare
+pub mod Computed
+pub mod Examples
+pub mod Laws
+pub mod LinePlaces
+pub mod Numbering
+pub mod Pair
+pub mod Requests
+pub mod Table
+pub mod Told
