@@ -162,13 +162,13 @@ uint8_t mav_withdraw(uint8_t *flow, size_t length, uint64_t k, uint64_t answer[M
  * flows' lists are; their numbers and the headers do not count. A room of MAV_MAX_ACCOUNT_LENGTH is always
  * enough. work is memory to work in, MAV_MIN_WORK numbers or more: whatever it held, all of it is zero
  * after an accepted call. The two flows may be the same memory. Refused: as mav_read the old flow, then the
- * new one, then 27, 28, 34, 21. */
+ * new one (which of the two it is, the answer does not say: mav_read does), then 27, 28, 34, 21. */
 uint8_t mav_compare(const uint8_t *old_flow, size_t old_length, const uint8_t *new_flow,
                     size_t new_length, uint16_t *work, size_t work_length, uint8_t *account,
                     size_t room, uint64_t answer[MAV_ENTRIES]);
 
 /* What line n of that account is, counted from 1, and where its record 14 stands. work is as for
- * mav_compare. Refused: as mav_compare by 34 at the latest, then 15. */
+ * mav_compare. Refused: as mav_compare, but never by 21, and then 15. */
 uint8_t mav_compare_line(const uint8_t *old_flow, size_t old_length, const uint8_t *new_flow,
                          size_t new_length, uint16_t *work, size_t work_length, uint64_t n,
                          uint64_t answer[MAV_ENTRIES]);
