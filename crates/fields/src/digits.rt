@@ -54,7 +54,8 @@ pub fn write_digits(out: &mut [u8], value: u64)
     }
 }
 
-fn wide(b: u8) -> u64
+// The byte as a 64-bit number.
+pub(crate) fn wide(b: u8) -> u64
     ensures { λ r. ⌜ r ≡ b ⌝ }
 {
     b as u64
