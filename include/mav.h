@@ -99,12 +99,13 @@ enum {
     MAV_REFUSED_TOTAL = 13,                 /* a wrong total in the trailer */
     MAV_REFUSED_RECORD_COUNT = 14,          /* a wrong count of records in the trailer */
     MAV_REFUSED_NO_SUCH_DISPOSITION = 15,   /* k is 0 or above the count; n, of the lines of an account */
-    MAV_REFUSED_AMOUNT_TOO_LARGE = 16,      /* a new amount above MAV_MAX_AMOUNT */
+    MAV_REFUSED_NOT_AN_AMOUNT = 16,         /* a new amount of 0 or above MAV_MAX_AMOUNT */
     MAV_REFUSED_TOTAL_TOO_LARGE = 17,       /* the total would be above MAV_MAX_TOTAL */
     MAV_REFUSED_ONLY_DISPOSITION = 18,      /* the only disposition cannot be withdrawn */
     MAV_REFUSED_ITEM = 20,                  /* an item of a list of unknown kind, or cut short */
     MAV_REFUSED_ROOM = 21,                  /* the output is shorter than needed */
     MAV_REFUSED_OTHER_KIND = 22,            /* a record 14 of another kind than the first one */
+    MAV_REFUSED_ZERO_AMOUNT = 25,           /* an amount of 0 */
     MAV_REFUSED_TOO_MANY_REQUESTS = 27,     /* more than MAV_MAX_COMPARED dispositions on a side */
     MAV_REFUSED_KINDS_DIFFER = 28,          /* the two flows are of different kinds */
     MAV_REFUSED_WORKING_MEMORY = 34         /* fewer than MAV_MIN_WORK numbers of working memory */
@@ -121,13 +122,13 @@ enum {
 /* The number of a field of 1 to 15 digits. Refused: 5. */
 uint8_t mav_digits(const uint8_t *field, size_t length, uint64_t answer[MAV_ENTRIES]);
 
-/* The cents of an amount of 13 digits. Refused: 5. */
+/* The cents of an amount of 13 digits, which is above zero. Refused: 5, 25. */
 uint8_t mav_amount(const uint8_t *field, size_t length, uint64_t answer[MAV_ENTRIES]);
 
 /* Whether six digits, day, month and year, are a date of 2000 to 2099. Refused: 5, 8. */
 uint8_t mav_date(const uint8_t *field, size_t length, uint64_t answer[MAV_ENTRIES]);
 
-/* Judges a flow. Refused: 1 to 14 or 22, the first fault in the documents' order. */
+/* Judges a flow. Refused: 1 to 14, 22 or 25, the first fault in the documents' order. */
 uint8_t mav_read(const uint8_t *flow, size_t length, uint64_t answer[MAV_ENTRIES]);
 
 /* Where disposition k stands, counted from 1. Refused: as mav_read, then 15. */
@@ -135,9 +136,9 @@ uint8_t mav_find(const uint8_t *flow, size_t length, uint64_t k, uint64_t answer
 
 /* Writes the flow that a request list encodes at the front of out, which has 120 * (items + 1) bytes or
  * more, and leaves the rest of out as it was. A list that opens with H is of requests, one that opens
- * with Q of recalls. Refused: 20, 1, 21, then as mav_read by 2, 3, 5 to 8, 10 or 11, then 17. The call
- * itself numbers the records, gives them the kind of their header and writes the trailer, so that 4, 9,
- * 12 to 14 and 22 cannot come. */
+ * with Q of recalls. Refused: 20, 1, 21, then as mav_read by 2, 3, 5 to 8, 10, 11 or 25, then 17. The
+ * call itself numbers the records, gives them the kind of their header and writes the trailer, so that
+ * 4, 9, 12 to 14 and 22 cannot come. */
 uint8_t mav_write(const uint8_t *list, size_t length, uint8_t *out, size_t room,
                   uint64_t answer[MAV_ENTRIES]);
 

@@ -1,6 +1,6 @@
 -- When an amendment is refused and what it then leaves; and that the flow left by an accepted one is accepted with the numbers answered.
 -- Assumes nothing.
-use Prim.Native.Nat.{ℕ, suc, _+_, _-_, _*_, _≤_, _<_}
+use Prim.Native.Nat.{ℕ, suc, _+_, _-_, _*_, _≤_}
 use mathlib.Core.Bool.{Bool, true, false, cond}
 use mathlib.Core.List.{List, flatten}
 use mathlib.Core.Logic.{_⊎_, inl, inr}
@@ -8,8 +8,9 @@ use mathlib.Core.Path.{_≡_, refl, sym, _∙_, ap, subst}
 use native.Mathlib.Omega.{arith}
 use lib.Dec.{leb, ltb}
 use lib.ListN.{length}
-use borrow.Author.Tests.{leb-true, leb-false, ltb-true, ltb-false, le-leb, lt-leb}
-use Rattle.fields.specs.Amount.{mostAmount}
+use borrow.Author.Tests.{leb-true, leb-false, ltb-true, ltb-false, lt-leb}
+use Rattle.fields.specs.Amount.{IsAmount, isAmount}
+use Rattle.fields.proofs.Amounts.{amount-test, no-amount}
 use Rattle.records.specs.Limits.{mostCents}
 use Rattle.flow.specs.Find.{IsNumber, find, withTotals, findWithTotals}
 use Rattle.flow.specs.Judge.{judge}
@@ -25,7 +26,7 @@ use Rattle.flow.proofs.FindWithTotals.{not-read as unread-so}
 use Rattle.grammar.specs.Grammar.{dispositionAmount, Grammar}
 use Rattle.amend.specs.Amended.{Amended, unchanged, whereFound}
 use Rattle.amend.specs.Change.{totalsChanged, changed, changeAt, change}
-use Rattle.amend.specs.Laws.{ChangeFault, not-read, no-disposition, amount-too-large, total-too-large, ChangeRefused, WithdrawFault, only-one, WithdrawRefused, Untouched, RefusedUntouched}
+use Rattle.amend.specs.Laws.{ChangeFault, not-read, no-disposition, not-an-amount, total-too-large, ChangeRefused, WithdrawFault, only-one, WithdrawRefused, Untouched, RefusedUntouched}
 use Rattle.amend.specs.Withdraw.{totalsLeft, recordsLeft, withdrawn, withdrawAt, withdraw}
 use Rattle.amend.proofs.Unchanged.{change-found, withdraw-found}
 use Rattle.amend.proofs.Neighbours.{Neighbours, kind-so, restOf, withdrawn-left, changedOf, changed-left}
@@ -58,26 +59,26 @@ changedBy v new f = record { answer = accepted (totalsChanged v new); size = len
 
 pub data ChangeCase (f : List ℕ) (k new : ℕ) : Amended → Type 0 where
   refuses : {x : Refusal} → ChangeFault f k new x → ChangeCase f k new (unchanged x f)
-  changes : {v : WithTotals} → findWithTotals f k ≡ accepted v → new ≤ mostAmount → totalsChanged v new .cents ≤ mostCents → ChangeCase f k new (changedBy v new f)
+  changes : {v : WithTotals} → findWithTotals f k ≡ accepted v → IsAmount new → totalsChanged v new .cents ≤ mostCents → ChangeCase f k new (changedBy v new f)
 
 pub change-case : (f : List ℕ) (k new : ℕ) → ChangeCase f k new (change f k new)
 unfolding change
 change-case f k new = by (findWithTotals f k) (find-case f k)
   where
     made : {v : WithTotals} → judge f ≡ accepted (v .totals) → find f k ≡ accepted (v .location) → IsNumber k (v .totals .dispositions) → ChangeCase f k new (changeAt v new f)
-    made {v} read found numbers = amount (leb new mostAmount) refl
+    made {v} read found numbers = amount (isAmount new) refl
       where
         total : ℕ
         total = totalsChanged v new .cents
 
-        sum : new ≤ mostAmount → (b : Bool) → leb total mostCents ≡ b → ChangeCase f k new (cond b (changedBy v new f) (unchanged (ofCall 17) f))
-        sum small true t = changes (read-found f k read found) small (leb-true total mostCents t)
-        sum small false t = refuses (total-too-large (v .totals) (v .location) read found small (leb-false total mostCents t))
+        sum : IsAmount new → (b : Bool) → leb total mostCents ≡ b → ChangeCase f k new (cond b (changedBy v new f) (unchanged (ofCall 17) f))
+        sum asked true t = changes (read-found f k read found) asked (leb-true total mostCents t)
+        sum asked false t = refuses (total-too-large (v .totals) (v .location) read found asked (leb-false total mostCents t))
 
-        amount : (b : Bool) → leb new mostAmount ≡ b
+        amount : (b : Bool) → isAmount new ≡ b
             → ChangeCase f k new (cond b (cond (leb total mostCents) (changedBy v new f) (unchanged (ofCall 17) f)) (unchanged (ofCall 16) f))
-        amount true t = sum (leb-true new mostAmount t) (leb total mostCents) refl
-        amount false t = refuses (amount-too-large (v .totals) read numbers (leb-false new mostAmount t))
+        amount true t = sum (amount-test new .0 t) (leb total mostCents) refl
+        amount false t = refuses (not-an-amount (v .totals) read numbers (no-amount new .0 t))
 
     by : (l : Verdict WithTotals) → FindCase f k l → ChangeCase f k new (whereFound l (λ (v : WithTotals). changeAt v new f) f)
     by l (unread wrong) = refuses (not-read _ wrong)
@@ -131,7 +132,7 @@ change-refused f k new x = (said (change f k new) (change-case f k new), tested)
   where
     said : (a : Amended) → ChangeCase f k new a → a .answer ≡ refused x → ChangeFault f k new x
     said a (refuses fault) same = subst (ChangeFault f k new) (refused-same same) fault
-    said a (changes found small fits) same = absurd (accepted-not-refused (sym same))
+    said a (changes found asked fits) same = absurd (accepted-not-refused (sym same))
 
     answers : {l : Verdict WithTotals} → findWithTotals f k ≡ l → change f k new .answer ≡ whereFound l (λ (v : WithTotals). changeAt v new f) f .answer
     answers e = ap (λ (a : Amended). a .answer) (change-found f k e new)
@@ -139,12 +140,12 @@ change-refused f k new x = (said (change f k new) (change-case f k new), tested)
     tested : {x : Refusal} → ChangeFault f k new x → change f k new .answer ≡ refused x
     tested (not-read x wrong) = answers (unread-so f k wrong)
     tested (no-disposition t read absent) = answers (absent-so f k read absent)
-    tested (amount-too-large t read numbers large) =
-        let above : leb new mostAmount ≡ false = lt-leb new mostAmount large in
-        answers (numbers-so f k read numbers .1) ∙ rw above
-    tested (total-too-large t s read found small large) =
+    tested (not-an-amount t read numbers not-one) =
+        let refused-so : isAmount new ≡ false = no-amount new .1 not-one in
+        answers (numbers-so f k read numbers .1) ∙ rw refused-so
+    tested (total-too-large t s read found asked large) =
         let total = t .cents - s .cents + new in
-        let within : leb new mostAmount ≡ true = le-leb new mostAmount small in
+        let within : isAmount new ≡ true = amount-test new .1 asked in
         let above : leb total mostCents ≡ false = lt-leb total mostCents large in
         answers (read-found f k read found) ∙ rw (within, above)
 
@@ -171,7 +172,7 @@ refused-untouched f k x = (λ new. changed-not new (change f k new) (change-case
   where
     changed-not : (new : ℕ) (a : Amended) → ChangeCase f k new a → a .answer ≡ refused x → Untouched f a
     changed-not new a (refuses fault) same = (refl, refl)
-    changed-not new a (changes found small fits) same = absurd (accepted-not-refused (sym same))
+    changed-not new a (changes found asked fits) same = absurd (accepted-not-refused (sym same))
 
     withdrawn-not : (a : Amended) → WithdrawCase f k a → a .answer ≡ refused x → Untouched f a
     withdrawn-not a (refuses fault) same = (refl, refl)
@@ -179,20 +180,20 @@ refused-untouched f k x = (λ new. changed-not new (change f k new) (change-case
 
 -- what is left, as a flow of the grammar
 abbrev pub changed-grammar :
-    (f : List ℕ) (k : ℕ) (v : WithTotals) (new : ℕ) (w : Neighbours f k v) (small : new < suc mostAmount) → totalsChanged v new .cents ≤ mostCents
+    (f : List ℕ) (k : ℕ) (v : WithTotals) (new : ℕ) (w : Neighbours f k v) (asked : IsAmount new) → totalsChanged v new .cents ≤ mostCents
     → Grammar (changed (v .location .first) new (totalsChanged v new) f) (totalsChanged v new)
-changed-grammar f k v new w small fits =
+changed-grammar f k v new w asked fits =
     let g = w .grammar in
     let t = v .totals in
     let total : t .cents - v .location .cents + new ≡ t .cents - dispositionAmount (w .this) + new = ap (λ (x : ℕ). t .cents - x + new) (w .amount) in
     let kind = kind-so f t g in
-    let count = changed-count f t g (w .pre) (w .this) (w .post) (w .split) new small in
-    let cents = changed-cents f t g (w .pre) (w .this) (w .post) (w .split) new small ∙ sym total in
-    let records = changed-records f t g (w .pre) (w .this) (w .post) (w .split) new small in
+    let count = changed-count f t g (w .pre) (w .this) (w .post) (w .split) new asked in
+    let cents = changed-cents f t g (w .pre) (w .this) (w .post) (w .split) new asked ∙ sym total in
+    let records = changed-records f t g (w .pre) (w .this) (w .post) (w .split) new asked in
     record {
-      parts = leftWith (g .parts) (changedOf f k v w new small);
-      bytes = sym (changed-left f k v w new small);
-      right = changed-right f t g (w .pre) (w .this) (w .post) (w .split) new small (omega arith);
+      parts = leftWith (g .parts) (changedOf f k v w new asked);
+      bytes = sym (changed-left f k v w new asked);
+      right = changed-right f t g (w .pre) (w .this) (w .post) (w .split) new asked (omega arith);
       totals = λ i. record { kind = kind i; dispositions = count i; cents = cents i; records = records i };
     }
 

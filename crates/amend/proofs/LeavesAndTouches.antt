@@ -11,7 +11,7 @@ use Rattle.sequences.proofs.All.{all-append, all-before, all-after}
 use Rattle.sequences.proofs.Flatten.{flatten-append}
 use Rattle.sequences.proofs.Pairs.{pairs-length, pairs-append, pairs-at, pairs-map}
 use Rattle.sequences.proofs.Part.{put-length, getD-put-elsewhere}
-use Rattle.fields.specs.Amount.{mostAmount}
+use Rattle.fields.specs.Amount.{IsAmount}
 use Rattle.fields.specs.Digits.{digits}
 use Rattle.fields.proofs.Decimal.{written-length}
 use Rattle.records.specs.Amount.{amountSpan}
@@ -48,12 +48,12 @@ module _ (f : List ℕ) (k : ℕ) (v : WithTotals) (found : findWithTotals f k �
   size-before : v .totals .records * 120 ≡ length f
   size-before = accepted-exact f (v .totals) (find-reads f k found .0) .2
 
-  module _ (new : ℕ) (small : new ≤ mostAmount) (fits : totalsChanged v new .cents ≤ mostCents) where
+  module _ (new : ℕ) (asked : IsAmount new) (fits : totalsChanged v new .cents ≤ mostCents) where
     abbrev pub changedFlow : List ℕ
     changedFlow = changed (v .location .first) new (totalsChanged v new) f
 
     pub changed-read : judge changedFlow ≡ accepted (totalsChanged v new)
-    changed-read = grammar-exact changedFlow (totalsChanged v new) .1 (changed-grammar f k v new here (omega arith) fits)
+    changed-read = grammar-exact changedFlow (totalsChanged v new) .1 (changed-grammar f k v new here asked fits)
 
     pub changed-size : length changedFlow ≡ length f
     changed-size = sym (accepted-exact changedFlow (totalsChanged v new) changed-read .2) ∙ size-before
@@ -85,12 +85,12 @@ change-leaves f k new t same = go (change f k new) (change-case f k new) same
   where
     go : (x : Amended) → ChangeCase f k new x → x .answer ≡ accepted t → LeavesAccepted f x t
     go x (refuses fault) same = absurd (accepted-not-refused same)
-    go x (changes {v = v} found small fits) same =
-        let left = changedFlow f k v found new small fits in
-        let whole = changed-whole f k v found new small fits in
+    go x (changes {v = v} found asked fits) same =
+        let left = changedFlow f k v found new asked fits in
+        let whole = changed-whole f k v found new asked fits in
         let none : length f - length f ≡ 0 = omega arith in
         record {
-          read = ap judge whole ∙ changed-read f k v found new small fits ∙ same;
+          read = ap judge whole ∙ changed-read f k v found new asked fits ∙ same;
           within = omega arith;
           memory = sym (append-nil left) ∙ (λ i. sym whole i ++ replicate (sym none i) 32);
         }
@@ -124,7 +124,7 @@ change-touches f k new t s read found = go (change f k new) (change-case f k new
   where
     go : (x : Amended) → ChangeCase f k new x → AmountOnly f (x .bytes) t (s .first)
     go x (refuses fault) = record { sizes = refl; bytes = λ i u v. refl }
-    go x (changes {v = g} there small fits) =
+    go x (changes {v = g} there asked fits) =
         let both = find-reads f k there in
         let same = accepted-same (sym (both .0) ∙ read) in
         let place = ap (λ (u : Location). u .first) (accepted-same (sym (both .1) ∙ found)) in

@@ -11,7 +11,7 @@ use Rattle.sequences.proofs.All.{all-before}
 use Rattle.sequences.proofs.Append.{parted}
 use Rattle.sequences.proofs.Flatten.{flatten-append, flatten-flatten}
 use Rattle.sequences.proofs.Part.{put-part, put-front, put-back, part-put-after, part-length, put-length}
-use Rattle.fields.specs.Amount.{mostAmount}
+use Rattle.fields.specs.Amount.{IsAmount}
 use Rattle.fields.specs.Digits.{number, digits}
 use Rattle.fields.proofs.Decimal.{written-length}
 use Rattle.records.specs.Amount.{amountIn}
@@ -221,12 +221,12 @@ around-so p pre r rs post last =
     ∙ simp append-assoc
 
 -- what is left with another amount
-module _ (f : List ℕ) (k : ℕ) (v : WithTotals) (w : Neighbours f k v) (new : ℕ) (small : new < suc mostAmount) where
+module _ (f : List ℕ) (k : ℕ) (v : WithTotals) (w : Neighbours f k v) (new : ℕ) (asked : IsAmount new) where
   abbrev own : Grammar f (v .totals)
   own = w .grammar
 
   abbrev pub changedOf : List (List Typed)
-  changedOf = changed f (v .totals) own (w .pre) (w .this) (w .post) (w .split) new small
+  changedOf = changed f (v .totals) own (w .pre) (w .this) (w .post) (w .split) new asked
 
   pub changed-left : Change·changed (v .location .first) new (totalsChanged v new) f ≡ bytesOf (leftWith (own .parts) changedOf)
   changed-left = go (w .this) (opened-so (w .this) (here f (v .totals) own (w .pre) (w .this) (w .post) (w .split) .order)) refl
@@ -269,9 +269,9 @@ module _ (f : List ℕ) (k : ℕ) (v : WithTotals) (w : Neighbours f k v) (new :
           let said-count : Says (t .dispositions) (field 46 52 T) = subst (λ (u : Totals). Says (u .dispositions) (field 46 52 T)) (own .totals) (rules .dispositions-said) in
           let said-records : Says (t .records) (field 83 89 T) = subst (λ (u : Totals). Says (u .records) (field 83 89 T)) (own .totals) (rules .records-said) in
           let kind = kind-so f (v .totals) own in
-          let count = changed-count f (v .totals) own pre (w .this) post (w .split) new small in
-          let cents : amounts changedOf ≡ total = changed-cents f (v .totals) own pre (w .this) post (w .split) new small ∙ ap (λ (x : ℕ). t .cents - x + new) (sym (w .amount)) in
-          let records = changed-records f (v .totals) own pre (w .this) post (w .split) new small in
+          let count = changed-count f (v .totals) own pre (w .this) post (w .split) new asked in
+          let cents : amounts changedOf ≡ total = changed-cents f (v .totals) own pre (w .this) post (w .split) new asked ∙ ap (λ (x : ℕ). t .cents - x + new) (sym (w .amount)) in
+          let records = changed-records f (v .totals) own pre (w .this) post (w .split) new asked in
           let last : put at (digits 15 total) T ≡ recounted (totalsWith (p .kind) changedOf) T = sym (only-total after T closes said-count said-records) ∙ (λ i. recounted (record { kind = sym kind i; dispositions = sym count i; cents = sym cents i; records = sym records i }) T) in
           (λ i. put (sym ends i + at) (digits 15 total) (put (sym starts i + 33) (digits 13 new) (joined i)))
           ∙ two-written 33 at (digits 13 new) (digits 15 total) H R M T fits

@@ -12,7 +12,7 @@ use Rattle.sequences.proofs.All.{all-append, all-before, all-after}
 use Rattle.sequences.proofs.Counted.{counted-before, counted-after, counted-append}
 use Rattle.sequences.proofs.Flatten.{map-flatten}
 use Rattle.sequences.proofs.Sum.{sum-append}
-use Rattle.fields.specs.Amount.{mostAmount}
+use Rattle.fields.specs.Amount.{IsAmount}
 use Rattle.fields.specs.Digits.{number}
 use Rattle.records.specs.Context.{headerOf}
 use Rattle.records.specs.Limits.{centsLimit, countLimit}
@@ -153,8 +153,8 @@ pub record Retold (abi : List ℕ) (i new : ℕ) (d : List Typed) : Type 0 where
   pub kind : (q : FlowKind) → KindRules q (opening d) → KindRules q (opening (retold new d))
   pub size : length (retold new d) ≡ length d
 
-pub retold-so : (abi : List ℕ) (i new : ℕ) (d : List Typed) → new < suc mostAmount → RightDisposition abi i d → Retold abi i new d
-retold-so abi i new d small r = go d (opened-so d (r .order)) (r .order) (r .records)
+pub retold-so : (abi : List ℕ) (i new : ℕ) (d : List Typed) → IsAmount new → RightDisposition abi i d → Retold abi i new d
+retold-so abi i new d asked r = go d (opened-so d (r .order)) (r .order) (r .records)
   where
     go : (d : List Typed) → Opened d → Disposition (kindsOf d) → All (Member abi i) d → Retold abi i new d
     go d (opened-by r rs e details) order members =
@@ -162,16 +162,16 @@ retold-so abi i new d small r = go d (opened-so d (r .order)) (r .order) (r .rec
         let rec = r .bytes in
         let formed = subst (λ (k : RecordKind). Formed k rec) e (m .0) in
         let rules = subst (λ (k : RecordKind). MemberRules k abi i rec) e (m .1) in
-        let member : Formed R14 (repricedRecord new rec) × MemberRules R14 abi i (repricedRecord new rec) = (repriced-formed abi i new rec formed small, repriced-rules abi i new rec formed small rules) in
+        let member : Formed R14 (repricedRecord new rec) × MemberRules R14 abi i (repricedRecord new rec) = (repriced-formed abi i new rec formed asked, repriced-rules abi i new rec formed asked rules) in
         record {
           right =
               record {
                 order = order;
                 records = (subst (λ (k : RecordKind). Formed k (repricedRecord new rec) × MemberRules k abi i (repricedRecord new rec)) (sym e) member, members .1);
               };
-          amount = repriced-says abi i new rec formed small .1;
-          code = repriced-code abi i new rec formed small;
-          kind = repriced-kind abi i new rec formed small;
+          amount = repriced-says abi i new rec formed asked .1;
+          code = repriced-code abi i new rec formed asked;
+          kind = repriced-kind abi i new rec formed asked;
           size = refl;
         }
 
@@ -265,12 +265,12 @@ module _ (f : List ℕ) (t : Totals) (g : Grammar f t) (pre : List (List Typed))
       (omega (arith, rest-records))
 
   -- with another amount in the record that opens it
-  module _ (new : ℕ) (small : new < suc mostAmount) where
+  module _ (new : ℕ) (asked : IsAmount new) where
     abbrev pub changed : List (List Typed)
     changed = pre ++ (retold new x ∷ post)
 
     retold-here : Retold abi number-of new x
-    retold-here = retold-so abi number-of new x small here
+    retold-here = retold-so abi number-of new x asked here
 
     pub changed-count : length changed ≡ t .dispositions
     changed-count = length-append pre (retold new x ∷ post) ∙ omega (arith, count-split)

@@ -1,6 +1,6 @@
 -- A record of a disposition with another number, a 14 with another amount, and a trailer with other counts keep their rules. Assumes
 -- nothing.
-use Prim.Native.Nat.{ℕ, suc, _+_, _-_, _^_, _≤_, _<_}
+use Prim.Native.Nat.{ℕ, _+_, _-_, _^_, _≤_, _<_}
 use mathlib.Core.List.{List, List·Memᴰ}
 use mathlib.Core.Logic.{_⊎_, inl, inr}
 use mathlib.Core.Path.{_≡_, refl, sym, _∙_, ap, subst}
@@ -9,7 +9,7 @@ use lib.ListN.{length, getD}
 use Rattle.sequences.specs.Part.{part, put}
 use Rattle.sequences.specs.Text.{text}
 use Rattle.sequences.proofs.Part.{put-length, part-put, part-put-before, part-put-after, part-getD, all-put}
-use Rattle.fields.specs.Amount.{mostAmount}
+use Rattle.fields.specs.Amount.{IsAmount}
 use Rattle.fields.specs.Digits.{digits, number}
 use Rattle.fields.proofs.Decimal.{written-length}
 use Rattle.records.specs.Amount.{amountIn}
@@ -82,7 +82,7 @@ kind-same rec other same q r = by q r
     by Recalls r = (causale ∙ r .0, sign ∙ r .1)
 
 module _ (abi rec other : List ℕ) where
-  disposition-same : Same BesideAmount rec other → Digits (amountIn other) → DispositionRules abi rec → DispositionRules abi other
+  disposition-same : Same BesideAmount rec other → Digits (amountIn other) × (1 ≤ number (amountIn other)) → DispositionRules abi rec → DispositionRules abi other
   disposition-same same amount r =
       let front : (a n : ℕ) → 10 ≤ a → a + n ≤ 33 → part a n other ≡ part a n rec = λ a n h l. same a n (h, inl l) in
       let back : (a n : ℕ) → 46 ≤ a → part a n other ≡ part a n rec = λ a n h. same a n (omega arith, inr h) in
@@ -110,7 +110,7 @@ module _ (abi rec other : List ℕ) where
     -- what a record keeps beside its number
     beside-same : (k : RecordKind) → BesideNumber k abi rec → BesideNumber k abi other
     beside-same Im r = r
-    beside-same R14 r = disposition-same (λ a n h. same a n (h .0)) (subst Digits (sym (same 33 13 (omega arith))) (r .amount)) r
+    beside-same R14 r = disposition-same (λ a n h. same a n (h .0)) (subst (λ (bs : List ℕ). Digits bs × (1 ≤ number bs)) (sym (same 33 13 (omega arith))) (r .amount)) r
     beside-same R16 r = coordinates-same r
     beside-same R20 r = subst Present (sym (same 10 24 (omega arith))) r
     beside-same R30 r = subst Present (sym (same 10 30 (omega arith))) r
@@ -137,7 +137,10 @@ module _ (k : RecordKind) (abi : List ℕ) (i j : ℕ) (rec : List ℕ) (formed 
 abbrev pub repricedRecord : ℕ → List ℕ → List ℕ
 repricedRecord new rec = put 33 (digits 13 new) rec
 
-module _ (abi : List ℕ) (i new : ℕ) (rec : List ℕ) (formed : Formed R14 rec) (small : new < suc mostAmount) where
+module _ (abi : List ℕ) (i new : ℕ) (rec : List ℕ) (formed : Formed R14 rec) (asked : IsAmount new) where
+  small : new < 10 ^ 13
+  small = let most = asked .1 in omega arith
+
   kept : (b n : ℕ) → (b + n ≤ 33) ⊎ (46 ≤ b) → part b n (repricedRecord new rec) ≡ part b n rec
   kept = over-kept 33 13 new rec (formed .whole) (omega arith)
 
@@ -157,7 +160,7 @@ module _ (abi : List ℕ) (i new : ℕ) (rec : List ℕ) (formed : Formed R14 re
   repriced-rules r =
       record {
         number-said = subst (Says i) (sym (kept 3 7 (inl (omega arith)))) (r .number-said);
-        others = disposition-same abi rec (repricedRecord new rec) (λ a n h. kept a n (h .1)) (repriced-says .0) (r .others);
+        others = disposition-same abi rec (repricedRecord new rec) (λ a n h. kept a n (h .1)) (repriced-says .0, subst (λ (v : ℕ). 1 ≤ v) (sym (repriced-says .1)) (asked .0)) (r .others);
       }
 
 -- where a trailer has its total: fifteen positions between its two counts

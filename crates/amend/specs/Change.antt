@@ -1,11 +1,12 @@
 -- Change the amount of disposition k (document 01, "Questions and changes": the reader's refusals, 15, 16, 17; only 34-46 of that record 14
--- and 53-67 of EF may differ, of a recall 68-82 (document 02, E1); new total = old total - old amount + new amount). Assumes nothing.
+-- and 53-67 of EF may differ, of a recall 68-82 (document 02, E1); new total = old total - old amount + new amount; E5: 16 for a change to 0
+-- too). Assumes nothing.
 use Prim.Native.Nat.{ℕ, _+_, _-_}
 use mathlib.Core.Bool.{cond}
 use mathlib.Core.List.{List}
 use lib.Dec.{leb}
 use lib.ListN.{length}
-use Rattle.fields.specs.Amount.{mostAmount}
+use Rattle.fields.specs.Amount.{isAmount}
 use Rattle.fields.specs.Digits.{digits}
 use Rattle.records.specs.Amount.{amountSpan}
 use Rattle.records.specs.Field.{firstOf, width}
@@ -31,7 +32,7 @@ changed first new t f = writtenInRecord (t .records) (firstOf (totalSpan (t .kin
 abbrev pub changeAt : WithTotals → ℕ → List ℕ → Amended
 changeAt v new f =
     let t = totalsChanged v new in
-    cond (leb new mostAmount)
+    cond (isAmount new)
     (cond (leb (t .cents) mostCents) (record { answer = accepted t; size = length f; bytes = changed (v .location .first) new t f }) (unchanged (ofCall 17) f))
     (unchanged (ofCall 16) f)
 

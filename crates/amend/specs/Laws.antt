@@ -4,7 +4,7 @@ use mathlib.Core.List.{List, [], _∷_, _++_}
 use mathlib.Core.Logic.{_↔_}
 use mathlib.Core.Path.{_≡_}
 use lib.ListN.{length, take, getD, replicate}
-use Rattle.fields.specs.Amount.{mostAmount}
+use Rattle.fields.specs.Amount.{IsAmount}
 use Rattle.records.specs.Amount.{amountSpan}
 use Rattle.records.specs.Field.{Span, _to_, firstOf, lastOf, byteAt}
 use Rattle.records.specs.FlowKinds.{totalSpan}
@@ -25,10 +25,11 @@ use Rattle.flow.specs.declared.location.Location.{Location}
 pub data ChangeFault (f : List ℕ) (k new : ℕ) : Refusal → Type 0 where
   not-read : (x : Refusal) → judge f ≡ refused x → ChangeFault f k new x
   no-disposition : (t : Totals) → judge f ≡ accepted t → ¬ IsNumber k (t .dispositions) → ChangeFault f k new (ofCall 15)
-  amount-too-large : (t : Totals) → judge f ≡ accepted t → IsNumber k (t .dispositions) → mostAmount < new → ChangeFault f k new (ofCall 16)
+  -- zero, or more than thirteen digits hold
+  not-an-amount : (t : Totals) → judge f ≡ accepted t → IsNumber k (t .dispositions) → ¬ IsAmount new → ChangeFault f k new (ofCall 16)
   -- the new total is the old one less the old amount, plus the new one
   total-too-large :
-      (t : Totals) (s : Location) → judge f ≡ accepted t → find f k ≡ accepted s → new ≤ mostAmount → mostCents < t .cents - s .cents + new
+      (t : Totals) (s : Location) → judge f ≡ accepted t → find f k ≡ accepted s → IsAmount new → mostCents < t .cents - s .cents + new
       → ChangeFault f k new (ofCall 17)
 
 abbrev pub ChangeRefused : Type 0

@@ -40,7 +40,7 @@ pub extern "C" fn mav_digits(field: &[u8], answer: &mut [u64; 8]) -> u8
     tell_number(answer, fields::read_digits(field))
 }
 
-// The cents that a field of thirteen digits gives; or 5.
+// The cents that a field of thirteen digits gives, above zero; or 5, then 25.
 #[no_mangle]
 pub extern "C" fn mav_amount(field: &[u8], answer: &mut [u64; 8]) -> u8
     ensures { λ r. ⌜ returned r (now (answer .exit)) ≡ ofNumber (amountField (now (field .entry))) ⌝ }

@@ -1,5 +1,5 @@
 -- A flow is canonical exactly where each of its records is what its item encodes; so amendments keep it canonical. Assumes nothing.
-use Prim.Native.Nat.{ℕ, suc, _+_, _≤_, _<_}
+use Prim.Native.Nat.{ℕ, suc, _+_, _≤_}
 use mathlib.Core.Bool.{Bool, cond}
 use mathlib.Core.List.{List, [], _∷_, _++_, map, map-map, flatten, head-eq-of-cons-eq, tail-eq-of-cons-eq}
 use mathlib.Core.Path.{_≡_, refl, sym, _∙_, ap, ap₂, subst}
@@ -9,7 +9,7 @@ use Rattle.sequences.specs.All.{All}
 use Rattle.sequences.specs.Counted.{Counted}
 use Rattle.sequences.proofs.Append.{append-same}
 use Rattle.sequences.proofs.Counted.{counted-before, counted-after, counted-append}
-use Rattle.fields.specs.Amount.{mostAmount}
+use Rattle.fields.specs.Amount.{IsAmount}
 use Rattle.records.specs.Context.{headerOf}
 use Rattle.records.specs.Kinds.{heads, opens, opened}
 use Rattle.records.specs.Limits.{mostCents}
@@ -246,10 +246,10 @@ module _ (f : List ℕ) (k : ℕ) (v : WithTotals) (w : Neighbours f k v) (canon
         trailer = recounted-trailer ds (left .totals);
       })
 
-  pub changed-canonical : (new : ℕ) (small : new < suc mostAmount) (fits : totalsChanged v new .cents ≤ mostCents) → Canonical (changed (v .location .first) new (totalsChanged v new) f)
-  changed-canonical new small fits =
-      let left = changed-grammar f k v new w small fits in
-      let ds = changedOf f k v w new small in
+  pub changed-canonical : (new : ℕ) (asked : IsAmount new) (fits : totalsChanged v new .cents ≤ mostCents) → Canonical (changed (v .location .first) new (totalsChanged v new) f)
+  changed-canonical new asked fits =
+      let left = changed-grammar f k v new w asked fits in
+      let ds = changedOf f k v w new asked in
       let this = retold-encoded header abi (suc count) (1 + length (w .pre)) new (w .this) (here f t g (w .pre) (w .this) (w .post) (w .split)) (back .0) in
       encoded-canonical (changed (v .location .first) new (totalsChanged v new) f) (totalsChanged v new) left
       (record {

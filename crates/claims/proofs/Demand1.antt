@@ -1,5 +1,6 @@
 -- Demand 1, from the laws of each crate. Assumes nothing.
-use Rattle.fields.proofs.DigitField.{field-refused, amount-refused}
+use Rattle.fields.proofs.Amounts.{amount-tested, amount-refused}
+use Rattle.fields.proofs.DigitField.{field-refused}
 use Rattle.fields.proofs.Gregorian.{date-refused}
 use Rattle.records.proofs.Amounts.{amount-rows}
 use Rattle.records.proofs.RightOrBroken.{checks-in-order, broken-exact}
@@ -28,6 +29,7 @@ demand1 =
       numbers = numbers-given;
       digits = field-refused;
       amount = amount-refused;
+      amount-tested = amount-tested;
       date = date-refused;
       checks-in-order = checks-in-order;
       broken = broken-exact;

@@ -1,6 +1,6 @@
 -- Demand 2, from the laws of each crate. Assumes nothing.
 use Rattle.flow.proofs.Accepted.{accepted-exact}
-use Rattle.flow.proofs.Dispositions.{part-placed}
+use Rattle.flow.proofs.Dispositions.{each-asks, part-placed}
 use Rattle.grammar.proofs.Grammar.{grammar-exact}
 use Rattle.grammar.proofs.Parts.{one-kind, parts-exact, places-exact, opening-exact}
 use Rattle.list.proofs.Answered.{write-answers, write-leaves, read-back-accepted, read-back-answers, read-back-leaves}
@@ -16,6 +16,7 @@ demand2 =
       accepted-exactly = grammar-exact;
       sums = accepted-exact;
       one-kind = one-kind;
+      each-asks = each-asks;
       parts = parts-exact;
       part-placed = part-placed;
       places = places-exact;

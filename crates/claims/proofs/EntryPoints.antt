@@ -4,6 +4,7 @@ use mathlib.Core.Path.{refl}
 use Rattle.fields.proofs.read_digits.Met.{met as read-digits-met}
 use Rattle.fields.proofs.write_digits.Met.{met as write-digits-met}
 use Rattle.fields.proofs.read_amount.Met.{met as read-amount-met}
+use Rattle.fields.proofs.is_amount.Met.{met as is-amount-met}
 use Rattle.fields.proofs.read_date.Met.{met as read-date-met}
 use Rattle.fields.proofs.all_blank.Met.{met as all-blank-met}
 use Rattle.fields.proofs.equal.Met.{met as equal-met}
@@ -68,6 +69,7 @@ entry-points =
       read-digits = (λ M. read-digits-met, λ κs a g w. refl);
       write-digits = (λ M. write-digits-met, λ κs a g w. refl);
       read-amount = (λ M. read-amount-met, λ κs a g w. refl);
+      is-amount = (λ M. is-amount-met, λ κs a g w. refl);
       read-date = (λ M. read-date-met, λ κs a g w. refl);
       all-blank = (λ M. all-blank-met, λ κs a g w. refl);
       equal = (λ M. equal-met, λ κs a g w. refl);

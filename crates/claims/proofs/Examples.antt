@@ -25,7 +25,7 @@ use Rattle.list.specs.Table.{firstRow}
 use Rattle.list.proofs.Examples.{examples as list}
 use Rattle.amend.specs.Change.{change}
 use Rattle.amend.specs.Withdraw.{numberedFrom, withdraw}
-use Rattle.claims.specs.Examples.{Examples, RecallExamples, LedgerExample}
+use Rattle.claims.specs.Examples.{Examples, RecallExamples, NothingExamples, LedgerExample}
 use Rattle.claims.specs.Ledger.{withAmount, withoutDisposition, changeOn, withdrawOn, listAfter, repliesOn}
 
 pub examples : Examples
@@ -57,6 +57,19 @@ recall-examples =
       mixed = flow .recall-after-request;
       no-kind = (flow .no-kind-first, flow .no-kind-second);
       wrong-sign = flow .recall-with-minus;
+    }
+
+pub nothing-examples : NothingExamples
+unfolding kindAmong judge walkFrom cut judgeRecord judgeTyped among judgeAs firstFault checks isListed badFrom isEqual numberFrom digits every isDay daysIn isLeap find groups lead flatten findWithTotals lastHeader listDispositions listCents itemsFrom firstRow change withdraw withAmount changeOn listAfter repliesOn
+nothing-examples =
+    record {
+      field = (fields .zero-amount, fields .least-amount);
+      read = (flow .nothing-asked, flow .nothing-signed);
+      written = list .nothing-written;
+      changed = (refl, (refl, refl), refl);
+      least = (refl, refl);
+      not-amended = (refl, refl);
+      answered = refl;
     }
 
 pub ledger-example : LedgerExample

@@ -11,9 +11,11 @@ use Rattle.sequences.specs.Groups.{lead, groups}
 use Rattle.sequences.specs.Part.{put}
 use Rattle.sequences.specs.Text.{text}
 use Rattle.sequences.proofs.All.{all-getD}
+use Rattle.fields.specs.Amount.{IsAmount}
 use Rattle.fields.specs.Bytes.{isEqual}
 use Rattle.fields.specs.Calendar.{isLeap, daysIn, isDay}
-use Rattle.fields.specs.Digits.{numberFrom, digits}
+use Rattle.fields.specs.Digits.{numberFrom, number, digits}
+use Rattle.records.specs.Amount.{amountIn}
 use Rattle.records.specs.Bytes.{badFrom}
 use Rattle.records.specs.Checks.{isListed, checks}
 use Rattle.records.specs.Field.{field}
@@ -22,7 +24,7 @@ use Rattle.records.specs.Kinds.{isOpening}
 use Rattle.records.specs.declared.flow_kind.FlowKind.the-variants.{Requests, Recalls}
 use Rattle.records.specs.RecordVerdict.{firstFault}
 use Rattle.records.specs.Judge.{judgeAs}
-use Rattle.flow.specs.Examples.{flowOf, headerIm, trailerEf, second, further59, firstClosed, withFurther, twoRents, twoRentTotals, twoRecalls, twoRecallTotals}
+use Rattle.flow.specs.Examples.{flowOf, headerIm, trailerEf, second, further59, firstClosed, withFurther, twoRents, twoRentTotals, twoRecalls, twoRecallTotals, oneCentAsked, oneCentTotals}
 use Rattle.flow.specs.ExactTotals.{kindFrom}
 use Rattle.flow.specs.Judge.{walkFrom, judge}
 use Rattle.flow.specs.Order.{among}
@@ -32,6 +34,7 @@ use Rattle.flow.specs.Verdict.{Verdict, accepted, refused, refusal, ofCall}
 use Rattle.flow.specs.declared.answer.Refusal.{Refusal}
 use Rattle.flow.specs.declared.answer.Totals.{Totals}
 use Rattle.flow.proofs.Accepted.{accepted-not-refused, accepted-same, accepted-exact}
+use Rattle.flow.proofs.Dispositions.{each-asks}
 use Rattle.flow.proofs.Examples.{examples as flow}
 use Rattle.grammar.specs.Fault.{FaultAfter, bad-byte}
 use Rattle.grammar.proofs.FirstFault.{first-fault-exact}
@@ -58,8 +61,8 @@ use Rattle.evenings.specs.Requests.{requestsOf}
 use Rattle.evenings.proofs.Exact.{account-exact}
 use Rattle.evenings.proofs.Refused.{areSame-decides}
 use Rattle.claims.specs.Demand3.{KeepsLedger}
-use Rattle.claims.specs.Excludes.{Reader, AcceptsExactly, RefusesFirst, Refuses, LowestNumber, Mixed, lastWrong, ChangesFaithfully, WithdrawsFaithfully, Service, Serves, Comparer, ComparesRight, dropsAll, oneFurther, otherFurther, LibraryMeets, Excludes}
-use Rattle.claims.specs.Ledger.{Call, change-of, withdrawal-of, withAmount, withoutDisposition, changeOn, withdrawOn, listAfter}
+use Rattle.claims.specs.Excludes.{Reader, AcceptsExactly, RefusesFirst, Refuses, LowestNumber, Mixed, AsksForNothing, lastWrong, ChangesFaithfully, WithdrawsFaithfully, Service, Serves, Comparer, ComparesRight, dropsAll, oneFurther, otherFurther, LibraryMeets, Excludes}
+use Rattle.claims.specs.Ledger.{Call, change-of, withdrawal-of, call-refused, withAmount, withoutDisposition, changeOn, withdrawOn, listAfter, repliesOn}
 use Rattle.claims.specs.Run.{Memory, holding, flowIn}
 use Rattle.claims.proofs.Demand3.{demand3}
 use Rattle.claims.proofs.Examples.{examples}
@@ -113,6 +116,10 @@ list-left : listAfter (withdrawal-of 1 ∷ []) (itemsOf twoRents) ≡ itemsIn (f
 unfolding kindAmong kindFrom cut flatten firstRow isEqual numberFrom digits groups lead listDispositions withoutDisposition withdrawOn listAfter itemsFrom
 list-left = refl
 
+nothing-left : (repliesOn (change-of 2 0 ∷ []) (itemsOf twoRents) ≡ call-refused (ofCall 16) ∷ []) × (listAfter (change-of 2 0 ∷ []) (itemsOf twoRents) ≡ itemsOf twoRents)
+unfolding kindAmong kindFrom cut flatten firstRow isEqual listDispositions changeOn listAfter repliesOn
+nothing-left = (refl, refl)
+
 -- what a service that meets demand 3 leaves of the two-rent flow
 module _ (serve : Service) (serves : Serves serve) where
   abbrev left : List Call → List ℕ
@@ -139,6 +146,11 @@ module _ (serve : Service) (serves : Serves serve) where
 
   withdrawn : (t : Totals) → judge (left (withdrawal-of 1 ∷ [])) ≡ accepted t → t .dispositions ≡ 1
   withdrawn t e = ap (λ (u : Totals). u .dispositions) (accepted-same (sym e ∙ kept (withdrawal-of 1 ∷ []) .read)) ∙ one-left
+
+  not-to-nothing : (serve (change-of 2 0 ∷ []) twoRents .answers ≡ call-refused (ofCall 16) ∷ []) × (left (change-of 2 0 ∷ []) ≡ twoRents)
+  not-to-nothing =
+      let keeps = kept (change-of 2 0 ∷ []) in
+      (keeps .answered ∙ nothing-left .0, keeps .canonical (list .canonical) ∙ ap encode (nothing-left .1) ∙ list .canonical)
 
   moved : left (withdrawal-of 1 ∷ []) ≡ encode (itemsIn (flowOf (headerItem ++ secondItems)))
   moved = kept (withdrawal-of 1 ∷ []) .canonical (list .canonical) ∙ ap encode list-left
@@ -202,6 +214,12 @@ mixed-refused read exact f mixed (t, e) = mixed .differ (causale-of (mixed .one)
         let kept = all-getD (λ (rec : List ℕ). isOpening rec ≡ true → KindRules (t .kind) rec) (recordsOf f) i [] within (one-kind f t (read-so read exact f t e)) in
         kind-rules (t .kind) (getD (recordsOf f) i []) .0 (kept opening) .0
 
+-- and each of them asks for something
+nothing-refused : (read : Reader) → AcceptsExactly read → (f : List ℕ) → AsksForNothing f → ¬ ((t : Totals) × (read f ≡ accepted t))
+nothing-refused read exact f none (t, e) =
+    let asks = all-getD (λ (rec : List ℕ). isOpening rec ≡ true → IsAmount (number (amountIn rec))) (recordsOf f) (none .one) [] (none .there) (each-asks f t (read-so read exact f t e)) in
+    omega (arith, asks (none .opening) .0, none .nothing)
+
 recalls-differ : Requests ≡ Recalls → ⊥
 recalls-differ e = let z : _≡_ {A = ℕ} 0 1 = cc in omega arith
 
@@ -252,6 +270,10 @@ excludes =
       made-up-kind = λ read exact f t e. accepted-exact f t (read-so read exact f t e) .3;
       always-requests = λ read exact all. recalls-differ (sym (all twoRecalls twoRecallTotals (reads-so read exact twoRecalls twoRecallTotals (flow .two-recalls))));
       recall-total-elsewhere = recall-total;
+      nothing-accepted = nothing-refused;
+      cent-refused = λ read exact. not-refused (reads-so read exact oneCentAsked oneCentTotals (flow .one-cent));
+      zero-before-digits = λ read exact. refuses-so read exact _ _ (flow .nothing-no-digits);
+      changed-to-nothing = not-to-nothing;
       drops-all = λ compare right all. omega (arith, ap keptLines (one-account compare right twoRents twoRents twoRentTotals twoRentTotals (flow .two-rents) (flow .two-rents) ∙ all twoRents twoRents), evening-facts .5, evening-facts .6);
       keeps-other = λ compare right. sym (one-account compare right (oneFurther further59) (oneFurther otherFurther) _ _ (evening-facts .1) (evening-facts .2)) ∙ evening-facts .3;
       other-tie = λ compare right. sym (one-account compare right twoRents swappedRents twoRentTotals twoRentTotals (flow .two-rents) (evening-facts .0)) ∙ evening-facts .4;

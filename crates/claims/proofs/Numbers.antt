@@ -8,10 +8,8 @@ use lib.Dec.{eqb}
 use lib.ListN.{length}
 use borrow.Author.Tests.{eqb-true, eq-eqb, ne-eqb}
 use Rattle.sequences.specs.Every.{every}
-use Rattle.fields.specs.Calendar.{Gregorian}
-use Rattle.fields.specs.Date.{dayOf}
-use Rattle.fields.specs.Laws.{SixDigits}
-use Rattle.fields.proofs.DigitField.{field-refused, amount-refused}
+use Rattle.fields.proofs.Amounts.{amount-refused}
+use Rattle.fields.proofs.DigitField.{field-refused}
 use Rattle.fields.proofs.Gregorian.{date-refused}
 use Rattle.records.specs.Checks.{isListed, checks}
 use Rattle.records.specs.Context.{Header, Context}
@@ -41,7 +39,7 @@ use Rattle.list.specs.Write.{judgeList}
 use Rattle.list.proofs.Answered.{read-back-refused}
 use Rattle.list.proofs.WriteNumbers.{numbers-supplied, kinds-supplied, write-refused-by}
 use Rattle.list.proofs.WriteRefused.{write-refused}
-use Rattle.amend.specs.Laws.{ChangeFault, not-read, no-disposition, amount-too-large, total-too-large, WithdrawFault, only-one}
+use Rattle.amend.specs.Laws.{ChangeFault, not-read, no-disposition, not-an-amount, total-too-large, WithdrawFault, only-one}
 use Rattle.amend.proofs.Answered.{change-refused, withdraw-refused}
 use Rattle.evenings.specs.Compare.{accountBetween}
 use Rattle.evenings.specs.Laws.{PairFault, old-not-read, new-not-read, too-many, kinds-differ, little-memory, CanCompare}
@@ -162,8 +160,8 @@ change-number : {f : List ℕ} {k new : ℕ} {x : Refusal} → ChangeFault f k n
 unfolding every isListed
 change-number {f} (not-read x wrong) = among changeNumbers readingNumbers (x .number) refl (reading f x wrong)
 change-number (no-disposition t read none) = refl
-change-number (amount-too-large t read some large) = refl
-change-number (total-too-large t s read found small large) = refl
+change-number (not-an-amount t read some not-one) = refl
+change-number (total-too-large t s read found asked large) = refl
 
 withdraw-number : {f : List ℕ} {k : ℕ} {x : Refusal} → WithdrawFault f k x → OneOf withdrawalNumbers (x .number)
 unfolding every isListed
@@ -187,8 +185,8 @@ unfolding every isListed
 numbers-given =
     record {
       digits = λ bs n e. rw (field-refused bs n .0 e .0);
-      amount = λ bs n e. rw (amount-refused bs n .0 e .0);
-      date = λ bs n e. by-date bs n (date-refused bs n .0 e);
+      amount = λ bs n e. by-field n 25 (amount-refused bs n .0 e);
+      date = λ bs n e. by-field n 8 (date-refused bs n .0 e);
       record-judging = record-judging;
       walking = walking;
       reading = reading;
@@ -202,9 +200,9 @@ numbers-given =
       asking-a-line = λ old new lent n x e. by-line old new lent n x (line-refused old new lent n x .0 e);
     }
   where
-    by-date : (bs : List ℕ) (n : ℕ) → ((n ≡ 5) × ¬ SixDigits bs) ⊎ ((n ≡ 8) × SixDigits bs × ¬ Gregorian (dayOf bs)) → OneOf (5 ∷ 8 ∷ []) n
-    by-date bs n (inl h) = rw (h .0)
-    by-date bs n (inr h) = rw (h .0)
+    by-field : {P Q R : Type 0} (n k : ℕ) → ((n ≡ 5) × P) ⊎ ((n ≡ k) × Q × R) → OneOf (5 ∷ k ∷ []) n
+    by-field n k (inl h) = rw (h .0)
+    by-field n k (inr h) = rw (h .0, eq-eqb k k refl, or-true)
 
     by-room :
         (f : List ℕ) (room : ℕ) (x : Refusal) → (judge f ≡ refused x) ⊎ ((t : Totals) × (judge f ≡ accepted t) × (room < length (listOf f)) × (x ≡ ofCall 21))

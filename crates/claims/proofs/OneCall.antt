@@ -1,6 +1,6 @@
 -- One call on an accepted flow, beside one entry of the ledger. Assumes nothing.
-use Prim.Native.Nat.{ℕ, suc, _+_, _-_, _*_, _≤_, _<_}
-use mathlib.Core.Bool.{Bool, true, false, _&&_}
+use Prim.Native.Nat.{ℕ, _+_, _-_, _*_, _≤_}
+use mathlib.Core.Bool.{Bool, true, false, cond, _&&_}
 use mathlib.Core.List.{List, _∷_, _++_, append-nil, map, map-append, flatten}
 use mathlib.Core.Path.{_≡_, refl, sym, _∙_, ap, ap₂, subst}
 use native.Mathlib.Omega.{arith}
@@ -8,7 +8,8 @@ use lib.Dec.{leb, ltb}
 use lib.ListN.{length, take, replicate}
 use lib.Seq.{take-length}
 use borrow.Author.Tests.{leb-true, le-leb, lt-leb, lt-ltb, le-ltb}
-use Rattle.fields.specs.Amount.{mostAmount}
+use Rattle.fields.specs.Amount.{IsAmount, isAmount}
+use Rattle.fields.proofs.Amounts.{amount-test, no-amount}
 use Rattle.records.specs.Limits.{mostCents}
 use Rattle.records.specs.declared.flow_kind.FlowKind.{FlowKind}
 use Rattle.flow.specs.Find.{IsNumber, find, withTotals, findWithTotals}
@@ -29,14 +30,14 @@ use Rattle.list.proofs.RecordsAgain.{ownItem}
 use Rattle.list.proofs.Rewritten.{own-list-items, own-sums}
 use Rattle.amend.specs.Amended.{Amended, unchanged}
 use Rattle.amend.specs.Change.{totalsChanged, change}
-use Rattle.amend.specs.Laws.{ChangeFault, not-read, no-disposition, amount-too-large, total-too-large, WithdrawFault, only-one}
+use Rattle.amend.specs.Laws.{ChangeFault, not-read, no-disposition, not-an-amount, total-too-large, WithdrawFault, only-one}
 use Rattle.amend.specs.Withdraw.{totalsLeft, withdraw}
 use Rattle.amend.proofs.Neighbours.{Neighbours, neighbours-so, restOf, changedOf}
 use Rattle.amend.proofs.Answered.{changedBy, ChangeCase, change-case, changes, withdrawnBy, WithdrawCase, withdraw-case, withdraws, refuses, changed-grammar, withdrawn-grammar, refused-untouched, find-case, FindCase, is-there, unread, none}
 use Rattle.amend.proofs.LeavesAndTouches.{change-touches, withdraw-touches, changedFlow, changed-read, changed-size, changed-whole, withdrawnFlow, withdrawn-read, withdrawn-length, withdrawn-size, withdrawn-front}
 use Rattle.amend.proofs.PartsLeft.{typedFrom, retold, here, after, changed-cents, changed-numbered}
 use Rattle.claims.specs.Demand3.{TouchesOnly, numberOf, Amends, Touched}
-use Rattle.claims.specs.Ledger.{Call, change-of, withdrawal-of, change-accepted, withdrawal-accepted, call-refused, Entry, refusedEntry, has, withAmount, withoutDisposition, changeOn, withdrawLeaving, withdrawOn, entry, firstRepriced}
+use Rattle.claims.specs.Ledger.{Call, change-of, withdrawal-of, change-accepted, withdrawal-accepted, call-refused, Entry, refusedEntry, has, withAmount, withoutDisposition, changeLeaving, changeOn, withdrawLeaving, withdrawOn, entry, firstRepriced}
 use Rattle.claims.specs.Run.{Memory, flowIn, amend, replyOf}
 use Rattle.claims.proofs.Canonical.{changed-canonical, withdrawn-canonical}
 use Rattle.claims.proofs.Listed.{without-listed, amount-listed, typed-items, items-retold, items-cents}
@@ -128,15 +129,12 @@ module _ (f : List ℕ) (t : Totals) (read : judge f ≡ accepted t) where
       go l (is-there other place numbers) e = numbers-same k other .0 numbers
 
   -- another amount on the ledger, and in the flow
-  module _ (k new : ℕ) (v : WithTotals) (found : findWithTotals f k ≡ accepted v) (small : new ≤ mostAmount) where
+  module _ (k new : ℕ) (v : WithTotals) (found : findWithTotals f k ≡ accepted v) (asked : IsAmount new) where
     abbrev w : Neighbours f k v
     w = neighbours-so f k found
 
-    below : new < suc mostAmount
-    below = omega arith
-
     abbrev ds : List (List Typed)
-    ds = changedOf f k v w new below
+    ds = changedOf f k v w new asked
 
     abbrev q : FlowKind
     q = v .totals .kind
@@ -150,55 +148,60 @@ module _ (f : List ℕ) (t : Totals) (read : judge f ≡ accepted t) where
     amount-cents : listCents (withAmount k new is) ≡ totalsChanged v new .cents
     unfolding listCents
     amount-cents =
-        let each = changed-numbered f (v .totals) (w .grammar) (w .pre) (w .this) (w .post) (w .split) new below in
-        let total = changed-cents f (v .totals) (w .grammar) (w .pre) (w .this) (w .post) (w .split) new below in
+        let each = changed-numbered f (v .totals) (w .grammar) (w .pre) (w .this) (w .post) (w .split) new asked in
+        let total = changed-cents f (v .totals) (w .grammar) (w .pre) (w .this) (w .post) (w .split) new asked in
         let own : v .totals .cents - dispositionAmount (w .this) + new ≡ totalsChanged v new .cents = ap (λ (x : ℕ). v .totals .cents - x + new) (sym (w .amount)) in
         ap listCents amount-so ∙ omega (arith, items-cents q _ 1 ds each)
 
   module _ (k new : ℕ) where
+    -- of a disposition that there is, the new amount is asked first
+    change-tested : has k is ≡ true → changeOn k new is ≡ cond (isAmount new) (changeLeaving (withAmount k new is) is) (refusedEntry 16 is)
+    unfolding changeOn
+    change-tested there = rw there
+
     change-refused : {x : Refusal} → ChangeFault f k new x → Step f (change-of k new) (unchanged x f) (changeOn k new is)
     unfolding changeOn
     change-refused (not-read x wrong) = absurd (accepted-not-refused (sym wrong ∙ read))
     change-refused (no-disposition u other absent) =
         let missing : has k is ≡ false = has-none k (t .dispositions) is count (λ numbers. absent (numbers-same k other .1 numbers)) in
         kept-alone (change-of k new) 15 (changeOn k new is) (rw missing)
-    change-refused (amount-too-large u other numbers large) =
+    change-refused (not-an-amount u other numbers not-one) =
         let there : has k is ≡ true = has-number k (t .dispositions) is count (numbers-same k other .0 numbers) in
-        let above : leb new mostAmount ≡ false = lt-leb new mostAmount large in
-        kept-alone (change-of k new) 16 (changeOn k new is) (rw (there, above))
-    change-refused (total-too-large u s other place small large) =
+        let refused-so : isAmount new ≡ false = no-amount new .1 not-one in
+        kept-alone (change-of k new) 16 (changeOn k new is) (change-tested there ∙ rw refused-so)
+    change-refused (total-too-large u s other place asked large) =
         let v = withTotals u s in
         let found = read-found f k other place in
         let there : has k is ≡ true = has-number k (t .dispositions) is count (found-number k v found) in
-        let within : leb new mostAmount ≡ true = le-leb new mostAmount small in
-        let above : leb (listCents (withAmount k new is)) mostCents ≡ false = ap (λ (x : ℕ). leb x mostCents) (amount-cents k new v found small) ∙ lt-leb (totalsChanged v new .cents) mostCents large in
-        kept-alone (change-of k new) 17 (changeOn k new is) (rw (there, within, above))
+        let within : isAmount new ≡ true = amount-test new .1 asked in
+        let above : leb (listCents (withAmount k new is)) mostCents ≡ false = ap (λ (x : ℕ). leb x mostCents) (amount-cents k new v found asked) ∙ lt-leb (totalsChanged v new .cents) mostCents large in
+        kept-alone (change-of k new) 17 (changeOn k new is) (change-tested there ∙ rw (within, above))
 
     change-made :
-        (v : WithTotals) (found : findWithTotals f k ≡ accepted v) (small : new ≤ mostAmount) (fits : totalsChanged v new .cents ≤ mostCents)
+        (v : WithTotals) (found : findWithTotals f k ≡ accepted v) (asked : IsAmount new) (fits : totalsChanged v new .cents ≤ mostCents)
         → Step f (change-of k new) (changedBy v new f) (changeOn k new is)
     unfolding changeOn
-    change-made v found small fits =
+    change-made v found asked fits =
         let w′ = neighbours-so f k found in
-        let left = changedFlow f k v found new small fits in
-        let whole : take (length f) left ≡ left = changed-whole f k v found new small fits in
-        let told : judge left ≡ accepted (totalsChanged v new) = changed-read f k v found new small fits in
-        let g = changed-grammar f k v new w′ (below k new v found small) fits in
-        let listed : itemsOf left ≡ withAmount k new is = listed-so left (totalsChanged v new) g ∙ sym (amount-so k new v found small) in
+        let left = changedFlow f k v found new asked fits in
+        let whole : take (length f) left ≡ left = changed-whole f k v found new asked fits in
+        let told : judge left ≡ accepted (totalsChanged v new) = changed-read f k v found new asked fits in
+        let g = changed-grammar f k v new w′ asked fits in
+        let listed : itemsOf left ≡ withAmount k new is = listed-so left (totalsChanged v new) g ∙ sym (amount-so k new v found asked) in
         let there : has k is ≡ true = has-number k (t .dispositions) is count (found-number k v found) in
-        let within : leb new mostAmount ≡ true = le-leb new mostAmount small in
-        let low : leb (listCents (withAmount k new is)) mostCents ≡ true = ap (λ (x : ℕ). leb x mostCents) (amount-cents k new v found small) ∙ le-leb (totalsChanged v new .cents) mostCents fits in
-        let own : changeOn k new is ≡ record { reply = change-accepted (listTotals (withAmount k new is)); items = withAmount k new is } = rw (there, within, low) in
+        let within : isAmount new ≡ true = amount-test new .1 asked in
+        let low : leb (listCents (withAmount k new is)) mostCents ≡ true = ap (λ (x : ℕ). leb x mostCents) (amount-cents k new v found asked) ∙ le-leb (totalsChanged v new .cents) mostCents fits in
+        let own : changeOn k new is ≡ record { reply = change-accepted (listTotals (withAmount k new is)); items = withAmount k new is } = change-tested there ∙ rw (within, low) in
         let reply = ap change-accepted (sym (totals-listed left (totalsChanged v new) told) ∙ ap listTotals listed) in
-        let canonical : Canonical f → Canonical left = λ c. changed-canonical f k v w′ c new (below k new v found small) fits in
-        subst (Step f (change-of k new) _) (sym own) (record { held = held-as f (length f) _ (withAmount k new is) left whole told listed canonical (changed-size f k v found new small fits) (omega arith) (whole-memory f left); reply = reply })
+        let canonical : Canonical f → Canonical left = λ c. changed-canonical f k v w′ c new asked fits in
+        subst (Step f (change-of k new) _) (sym own) (record { held = held-as f (length f) _ (withAmount k new is) left whole told listed canonical (changed-size f k v found new asked fits) (omega arith) (whole-memory f left); reply = reply })
 
     pub change-step : Step f (change-of k new) (change f k new) (changeOn k new is)
     change-step = go (change f k new) (change-case f k new)
       where
         go : (x : Amended) → ChangeCase f k new x → Step f (change-of k new) x (changeOn k new is)
         go x (refuses fault) = change-refused fault
-        go x (changes {v = v} found small fits) = change-made v found small fits
+        go x (changes {v = v} found asked fits) = change-made v found asked fits
 
   -- a disposition less on the ledger, and in the flow
   module _ (k : ℕ) where
@@ -263,7 +266,7 @@ call-touched (change-of k new) f =
   where
     go : {t : Totals} (x : Amended) → ChangeCase f k new x → x .answer ≡ accepted t → Amends (change-of k new) f (change f k new)
     go x (refuses fault) same = absurd (accepted-not-refused same)
-    go x (changes there small fits) same = amends (change-of k new) f _ there (λ read found. change-touches f k new _ _ read found)
+    go x (changes there asked fits) same = amends (change-of k new) f _ there (λ read found. change-touches f k new _ _ read found)
 call-touched (withdrawal-of k) f =
     record { only = λ t same. go (withdraw f k) (withdraw-case f k) same same; none = λ x same. refused-untouched f k x .1 same }
   where

@@ -7,7 +7,7 @@ use Rattle.fields.specs.Amount.{amountField}
 use Rattle.fields.specs.FieldVerdict.{refused as FieldVerdict·refused}
 use Rattle.fields.specs.Date.{dateField}
 use Rattle.fields.specs.Digits.{digitField}
-use Rattle.fields.specs.Laws.{FieldRefused, AmountRefused, DateRefused}
+use Rattle.fields.specs.Laws.{FieldRefused, AmountRefused, AmountTested, DateRefused}
 use Rattle.records.specs.Checks.{isListed}
 use Rattle.records.specs.Context.{Header, Context}
 use Rattle.records.specs.RecordVerdict.{refused as RecordVerdict·refused}
@@ -35,14 +35,14 @@ use Rattle.claims.specs.EntryPoints.{EntryPoints}
 
 -- the numbers that documents 01 and 02 give to each call; 19 is given to none
 abbrev pub readingNumbers : List ℕ
-readingNumbers = 1 ∷ 2 ∷ 3 ∷ 4 ∷ 5 ∷ 6 ∷ 7 ∷ 8 ∷ 9 ∷ 10 ∷ 11 ∷ 12 ∷ 13 ∷ 14 ∷ 22 ∷ []
+readingNumbers = 1 ∷ 2 ∷ 3 ∷ 4 ∷ 5 ∷ 6 ∷ 7 ∷ 8 ∷ 9 ∷ 10 ∷ 11 ∷ 12 ∷ 13 ∷ 14 ∷ 22 ∷ 25 ∷ []
 
 abbrev pub findingNumbers : List ℕ
 findingNumbers = readingNumbers ++ (15 ∷ [])
 
 -- a record alone, and at its place in the flow
 abbrev pub recordNumbers : List ℕ
-recordNumbers = 1 ∷ 5 ∷ 6 ∷ 7 ∷ 8 ∷ 9 ∷ 10 ∷ 11 ∷ 12 ∷ 13 ∷ 14 ∷ 22 ∷ []
+recordNumbers = 1 ∷ 5 ∷ 6 ∷ 7 ∷ 8 ∷ 9 ∷ 10 ∷ 11 ∷ 12 ∷ 13 ∷ 14 ∷ 22 ∷ 25 ∷ []
 
 abbrev pub placeNumbers : List ℕ
 placeNumbers = 2 ∷ 3 ∷ recordNumbers
@@ -50,7 +50,7 @@ placeNumbers = 2 ∷ 3 ∷ recordNumbers
 -- writing gives none of 4, 9, 12, 13, 14 and 22: the flow always ends with EF, which is not judged, and the writer itself gives each record its
 -- number and each 14 the causale of the header meant
 abbrev pub writingNumbers : List ℕ
-writingNumbers = 20 ∷ 1 ∷ 21 ∷ 2 ∷ 3 ∷ 5 ∷ 6 ∷ 7 ∷ 8 ∷ 10 ∷ 11 ∷ 17 ∷ []
+writingNumbers = 20 ∷ 1 ∷ 21 ∷ 2 ∷ 3 ∷ 5 ∷ 6 ∷ 7 ∷ 8 ∷ 10 ∷ 11 ∷ 25 ∷ 17 ∷ []
 
 abbrev pub readingBackNumbers : List ℕ
 readingBackNumbers = readingNumbers ++ (21 ∷ [])
@@ -74,7 +74,7 @@ OneOf ns n = isListed n ns ≡ true
 
 pub record NumbersGiven : Type 0 where
   pub digits : (bs : List ℕ) (n : ℕ) → digitField bs ≡ FieldVerdict·refused n → OneOf (5 ∷ []) n
-  pub amount : (bs : List ℕ) (n : ℕ) → amountField bs ≡ FieldVerdict·refused n → OneOf (5 ∷ []) n
+  pub amount : (bs : List ℕ) (n : ℕ) → amountField bs ≡ FieldVerdict·refused n → OneOf (5 ∷ 25 ∷ []) n
   pub date : (bs : List ℕ) (n : ℕ) → dateField bs ≡ FieldVerdict·refused n → OneOf (5 ∷ 8 ∷ []) n
   pub record-judging : (k : RecordKind) (ctx : Context) (rec : List ℕ) (n p : ℕ) → judgeAs k ctx rec ≡ RecordVerdict·refused n p → OneOf recordNumbers n
   pub walking : (header : Header) (w : Walk) (company : List ℕ) (i : ℕ) (rec : List ℕ) (n p : ℕ) → judgeRecord header w company i rec ≡ RecordVerdict·refused n p → OneOf placeNumbers n
@@ -94,9 +94,10 @@ pub record Demand1 : Type 2 where
   -- "a refusal gives one number, one record and one position from the table, always the first fault in the stated order, and no lent byte
   -- has changed"
   pub numbers : NumbersGiven
-  -- the field rules: what is refused, and by which number
+  -- the field rules: what is refused, and by which number; and the test that a change makes of its new amount is the amount's rule
   pub digits : FieldRefused
   pub amount : AmountRefused
+  pub amount-tested : AmountTested
   pub date : DateRefused
   -- one record: the checks stand in the stated order, a record is refused exactly by the first that fails, and by 1 exactly for its length
   pub checks-in-order : ChecksInOrder

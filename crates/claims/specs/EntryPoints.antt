@@ -9,6 +9,8 @@ use Rattle.fields.proofs.write_digits.Reads.{requires as write-digits-requires}
 use Rattle.fields.proofs.write_digits.Statement.{statement as write-digits-statement}
 use Rattle.fields.proofs.read_amount.Reads.{requires as read-amount-requires}
 use Rattle.fields.proofs.read_amount.Statement.{statement as read-amount-statement}
+use Rattle.fields.proofs.is_amount.Reads.{requires as is-amount-requires}
+use Rattle.fields.proofs.is_amount.Statement.{statement as is-amount-statement}
 use Rattle.fields.proofs.read_date.Reads.{requires as read-date-requires}
 use Rattle.fields.proofs.read_date.Statement.{statement as read-date-statement}
 use Rattle.fields.proofs.all_blank.Reads.{requires as all-blank-requires}
@@ -132,6 +134,7 @@ pub record EntryPoints : Type 2 where
   pub read-digits : EntryPoint read-digits-statement read-digits-requires
   pub write-digits : EntryPoint write-digits-statement write-digits-requires
   pub read-amount : EntryPoint read-amount-statement read-amount-requires
+  pub is-amount : EntryPoint is-amount-statement is-amount-requires
   pub read-date : EntryPoint read-date-statement read-date-requires
   pub all-blank : EntryPoint all-blank-statement all-blank-requires
   pub equal : EntryPoint equal-statement equal-requires

@@ -6,18 +6,20 @@ use mathlib.Core.Path.{_≡_}
 use lib.ListN.{length, drop, replicate}
 use Rattle.sequences.specs.Part.{put}
 use Rattle.sequences.specs.Text.{text}
+use Rattle.fields.specs.Amount.{amountField}
 use Rattle.fields.specs.FieldVerdict.{accepted as FieldVerdict·accepted}
 use Rattle.fields.specs.FieldVerdict.{refused as FieldVerdict·refused}
 use Rattle.fields.specs.Date.{dateField}
 use Rattle.records.specs.Field.{field}
 use Rattle.records.specs.declared.flow_kind.FlowKind.the-variants.{Requests, Recalls}
-use Rattle.flow.specs.Examples.{flowOf, headerIm, trailerEf, further59, withFurther, twoRents, recalledAt, twoRecalls}
+use Rattle.flow.specs.Examples.{flowOf, headerIm, trailerEf, further59, withFurther, twoRents, recalledAt, twoRecalls, nothingAsked, oneCentAsked, oneCentTotals}
 use Rattle.flow.specs.Judge.{judge}
 use Rattle.flow.specs.Records.{recordAt}
 use Rattle.flow.specs.Verdict.{accepted, refused, refusal, ofCall}
 use Rattle.list.specs.Encode.{trailerFor, encode}
 use Rattle.list.specs.Examples.{headerItem, secondItems, twoRentList, twoRecallList, oneRentList}
 use Rattle.list.specs.Items.{listBytes, itemsIn}
+use Rattle.list.specs.Write.{judgeList}
 use Rattle.amend.specs.Change.{change}
 use Rattle.amend.specs.Laws.{Untouched, flowLeft}
 use Rattle.amend.specs.Withdraw.{withdraw}
@@ -86,6 +88,27 @@ pub record RecallExamples : Type 0 where
   pub mixed : judge (recalledAt 8 twoRents) ≡ refused (refusal 22 9 29)
   pub no-kind : (judge (put 148 (text "07200") twoRents) ≡ refused (refusal 6 2 29)) × (judge (put 988 (text "07200") twoRecalls) ≡ refused (refusal 6 9 29))
   pub wrong-sign : judge (put 166 (text "-") twoRecalls) ≡ refused (refusal 6 2 47)
+
+-- document 02, E5: no request for nothing
+pub record NothingExamples : Type 0 where
+  -- thirteen zeros are no amount, one cent is
+  pub field : (amountField (text "0000000000000") ≡ FieldVerdict·refused 25) × (amountField (text "0000000000001") ≡ FieldVerdict·accepted 1)
+  -- a request of zero: 25 at its record, 34, also with a wrong sign after it; and in a list
+  pub read : (judge nothingAsked ≡ refused (refusal 25 9 34)) × (judge (put 1006 (text "+") nothingAsked) ≡ refused (refusal 25 9 34))
+  pub written : judgeList (put 650 (text "0000000000000") twoRentList) 1920 ≡ refused (refusal 25 9 34)
+  -- disposition 2 changed to 0: 16, and nothing is touched; a third is missing before that: 15
+  pub changed : (change twoRents 2 0 .answer ≡ refused (ofCall 16)) × Untouched twoRents (change twoRents 2 0) × (change twoRents 3 0 .answer ≡ refused (ofCall 15))
+  -- to one cent: accepted
+  pub least : (change twoRents 2 1 .answer ≡ accepted oneCentTotals) × (change twoRents 2 1 .bytes ≡ oneCentAsked)
+  -- a flow that holds a zero cannot be amended, not even by another amount for that request or by its withdrawal
+  pub not-amended : (change nothingAsked 2 38050 .answer ≡ refused (refusal 25 9 34)) × (withdraw nothingAsked 2 .answer ≡ refused (refusal 25 9 34))
+  -- the ledger answers the changes so
+  pub answered :
+      repliesOn (change-of 2 0 ∷ change-of 3 0 ∷ change-of 2 1 ∷ []) (itemsIn twoRentList)
+      ≡ call-refused (ofCall 16)
+      ∷ call-refused (ofCall 15)
+      ∷ change-accepted oneCentTotals
+      ∷ []
 
 -- beside these, a list of calls on the ledger that starts as the two-rent flow's list: an amount, a number and an amount that are refused, a
 -- withdrawal, one of the only disposition, and an amount of what is now the first

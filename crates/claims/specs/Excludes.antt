@@ -10,15 +10,17 @@ use mathlib.Core.Path.{_≡_}
 use lib.ListN.{length, take, drop, getD}
 use Rattle.sequences.specs.Part.{put}
 use Rattle.sequences.specs.Text.{text}
+use Rattle.fields.specs.Digits.{number}
+use Rattle.records.specs.Amount.{amountIn}
 use Rattle.records.specs.Field.{field}
 use Rattle.records.specs.Kinds.{isOpening}
 use Rattle.records.specs.declared.flow_kind.FlowKind.the-variants.{Requests}
-use Rattle.flow.specs.Examples.{flowOf, headerIm, firstOpened, further59, firstClosed, withFurther, twoRents, twoRecalls}
+use Rattle.flow.specs.Examples.{flowOf, headerIm, firstOpened, further59, firstClosed, withFurther, twoRents, twoRecalls, askingAt, nothingAsked, oneCentAsked}
 use Rattle.flow.specs.Judge.{judge}
 use Rattle.flow.specs.Output.{Output, LeftAlone}
 use Rattle.flow.specs.Records.{recordAt, recordsOf}
 use Rattle.flow.specs.ExactTotals.{openingCount, amountSum, kindOf}
-use Rattle.flow.specs.Verdict.{Verdict, accepted, refused, refusal}
+use Rattle.flow.specs.Verdict.{Verdict, accepted, refused, refusal, ofCall}
 use Rattle.flow.specs.declared.answer.Refusal.{Refusal}
 use Rattle.flow.specs.declared.answer.Totals.{Totals}
 use Rattle.grammar.specs.Fault.{FaultAfter, FirstFault}
@@ -37,7 +39,7 @@ use Rattle.evenings.specs.Examples.{swappedRents}
 use Rattle.evenings.specs.Laws.{Meant}
 use Rattle.evenings.specs.Requests.{requestsOf}
 use Rattle.claims.specs.Demand3.{KeepsLedger}
-use Rattle.claims.specs.Ledger.{Call, Reply, change-of, withdrawal-of}
+use Rattle.claims.specs.Ledger.{Call, Reply, change-of, withdrawal-of, call-refused}
 use Rattle.claims.specs.Run.{Memory, holding, flowIn, run, replies}
 
 -- a reader, and that it meets demand 2, or demand 1
@@ -66,6 +68,13 @@ pub record Mixed (f : List ℕ) : Type 0 where
   pub there : (one < length (recordsOf f)) × (other < length (recordsOf f))
   pub openings : (isOpening (getD (recordsOf f) one []) ≡ true) × (isOpening (getD (recordsOf f) other []) ≡ true)
   pub differ : ¬ (field 29 33 (getD (recordsOf f) one []) ≡ field 29 33 (getD (recordsOf f) other []))
+
+-- a request for nothing: the amount of one of its records 14 is zero
+pub record AsksForNothing (f : List ℕ) : Type 0 where
+  pub one : ℕ
+  pub there : one < length (recordsOf f)
+  pub opening : isOpening (getD (recordsOf f) one []) ≡ true
+  pub nothing : number (amountIn (getD (recordsOf f) one [])) ≡ 0
 
 -- a writer, and that it meets demand 1: a refused call leaves the output as it was
 abbrev pub Writer : Type 0
@@ -171,6 +180,15 @@ pub record Excludes : Type 0 where
   pub recall-total-elsewhere :
       (serve : Service) → Serves serve → let trailer = recordAt 15 (flowIn (serve (change-of 2 40000 ∷ []) twoRecalls .after)) in
       (field 53 67 trailer ≡ text "000000000000000") × (field 68 82 trailer ≡ text "000000000085000")
+  -- Document 02, E5. A reader that accepts a flow with a request for nothing; and one that takes one cent for nothing
+  pub nothing-accepted : (read : Reader) → AcceptsExactly read → (f : List ℕ) → AsksForNothing f → ¬ ((t : Totals) × (read f ≡ accepted t))
+  pub cent-refused : (read : Reader) → AcceptsExactly read → ¬ Refuses (read oneCentAsked)
+  -- one that gives 25 before 5: zeros with a blank after them are no digits
+  pub zero-before-digits : (read : Reader) → RefusesFirst read → read (askingAt 8 "000000000000 " nothingAsked) ≡ refused (refusal 5 9 34)
+  -- an amendment that lets a change to 0 through: it is refused by 16, and the flow stays as it was
+  pub changed-to-nothing :
+      (serve : Service) → Serves serve → let served = serve (change-of 2 0 ∷ []) twoRents in
+      (served .answers ≡ call-refused (ofCall 16) ∷ []) × (flowIn (served .after) ≡ twoRents)
   -- Document 02, E7. A comparison whose account drops all and adds all
   pub drops-all : (compare : Comparer) → ComparesRight compare → ¬ ((old new : List ℕ) → compare old new ≡ dropsAll old new)
   -- one that keeps requests that differ in one byte of a 59

@@ -7,7 +7,7 @@ use lib.Dec.{leb, ltb}
 use lib.ListN.{take, drop, getD}
 use Rattle.sequences.specs.Groups.{lead, groups}
 use Rattle.sequences.specs.Part.{put}
-use Rattle.fields.specs.Amount.{mostAmount}
+use Rattle.fields.specs.Amount.{isAmount}
 use Rattle.fields.specs.Digits.{digits}
 use Rattle.records.specs.Amount.{amountSpan}
 use Rattle.records.specs.Field.{width}
@@ -68,8 +68,8 @@ refusedEntry n is = record { reply = call-refused (ofCall n); items = is }
 abbrev pub has : ℕ → List Item → Bool
 has k is = leb 1 k && leb k (listDispositions is)
 
--- "refused by 15, 16, 17, the first that fits by the table"; "an accepted one answers, of the sheet it leaves, the count, the total and the
--- number of items + 1"
+-- "refused by 15, 16, 17, the first that fits by the table", by 16 for a change to 0 too (document 02, E5); "an accepted one answers, of the
+-- sheet it leaves, the count, the total and the number of items + 1"
 abbrev pub changeLeaving : List Item → List Item → Entry
 changeLeaving left is =
     cond (leb (listCents left) mostCents)
@@ -77,7 +77,7 @@ changeLeaving left is =
     (refusedEntry 17 is)
 
 unfoldable pub changeOn : ℕ → ℕ → List Item → Entry
-changeOn k new is = cond (has k is) (cond (leb new mostAmount) (changeLeaving (withAmount k new is) is) (refusedEntry 16 is)) (refusedEntry 15 is)
+changeOn k new is = cond (has k is) (cond (isAmount new) (changeLeaving (withAmount k new is) is) (refusedEntry 16 is)) (refusedEntry 15 is)
 
 -- "refused by 15, 18 likewise"; "a withdrawal also 120 times that last number, the new length"
 abbrev pub withdrawLeaving : List Item → Entry

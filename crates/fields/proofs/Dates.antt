@@ -14,9 +14,8 @@ use Rattle.fields.specs.FieldVerdict.{accepted, refused, notDigits}
 use Rattle.fields.specs.Calendar.{Day}
 use Rattle.fields.specs.Date.{dayOf, onCalendar, dateField}
 use Rattle.fields.specs.Digits.{isDigit, isDigits, number, digitField}
-use Rattle.fields.proofs.Answers.{failed}
 use Rattle.fields.proofs.Decimal.{number-append, number-below}
-use Rattle.fields.proofs.DigitField.{digitField-accepted, digitField-sized}
+use Rattle.fields.proofs.DigitField.{digitField-accepted, digitField-no-digits}
 
 -- the day that six digits name, read as one number
 abbrev pub dayFrom : ℕ → Day
@@ -66,7 +65,4 @@ module _ (bs : List ℕ) (six : length bs ≡ 6) where
   -- no digits
   pub dateField-refused : (n : ℕ) → digitField bs ≡ refused n → dateField bs ≡ refused notDigits
   unfolding dateField
-  dateField-refused n e =
-      let some : 1 ≤ length bs = omega arith in
-      let few : length bs ≤ 15 = omega arith in
-      rw (eq-eqb (length bs) 6 six, failed (isDigits bs) (number bs) notDigits n (sym (digitField-sized bs some few) ∙ e))
+  dateField-refused n e = rw (eq-eqb (length bs) 6 six, digitField-no-digits bs n (omega arith) (omega arith) e)

@@ -1,20 +1,19 @@
--- The digit rule, and the amount rule over it: laws of `digitField` and `amountField`. Assumes nothing.
+-- The digit rule: laws of `digitField`. Assumes nothing.
 use Prim.Native.Nat.{ℕ, _+_, _-_, _*_, _^_, _≤_, _<_}
 use mathlib.Core.Path.{_≡_, refl, sym, _∙_}
 use mathlib.Core.Bool.{Bool, true, false, cond, _&&_, and-eq-true-iff}
 use mathlib.Core.List.{List}
 use mathlib.Core.Logic.{_⊎_, inl, inr}
 use native.Mathlib.Omega.{arith}
-use lib.Dec.{leb, eqb}
+use lib.Dec.{leb}
 use lib.ListN.{length, drop, getD, drop-of-length-le}
-use borrow.Author.Tests.{leb-true, le-leb, lt-leb, eq-eqb, eqb-true}
+use borrow.Author.Tests.{leb-true, le-leb, lt-leb}
 use Rattle.sequences.specs.Every.{every}
 use Rattle.sequences.proofs.Drop.{drop-next}
-use Rattle.fields.specs.Amount.{amountField}
 use Rattle.fields.specs.FieldVerdict.{FieldVerdict, accepted, refused, notDigits}
 use Rattle.fields.specs.Digits.{isDigit, isDigits, numberFrom, number, digits, digitsFrom, digitField}
-use Rattle.fields.specs.Laws.{FieldExact, AmountExact, FieldRefused, AmountRefused}
-use Rattle.fields.proofs.Answers.{passed, accepted-same, refused-exactly}
+use Rattle.fields.specs.Laws.{FieldExact, FieldRefused}
+use Rattle.fields.proofs.Answers.{passed, failed, accepted-same, refused-exactly}
 use Rattle.fields.proofs.Decimal.{number-below, written-length, written-digits, written-read-fits, read-written}
 
 -- which bytes are digits
@@ -68,19 +67,9 @@ field-written n v some few fits =
 pub field-exact : FieldExact
 field-exact bs v = (field-read bs v, λ h. rw (h .3) (field-written (length bs) v (h .0) (h .1) (h .2)))
 
-pub amount-exact : AmountExact
-unfolding amountField
-amount-exact bs v = (read, write)
-  where
-    read : amountField bs ≡ accepted v → (v < 10 ^ 13) × (bs ≡ digits 13 v)
-    read e =
-        let sized = passed (eqb (length bs) 13) (digitField bs) notDigits e in
-        let thirteen = eqb-true (length bs) 13 (sized .0) in
-        let h = field-read bs v (sized .1) in
-        (rw thirteen at (h .2), rw thirteen at (h .3))
-
-    write : (v < 10 ^ 13) × (bs ≡ digits 13 v) → amountField bs ≡ accepted v
-    write h = rw (h .1, written-length 13 v) (field-written 13 v (omega arith) (omega arith) (h .0))
+-- what is refused at a right length is no digits
+pub digitField-no-digits : (bs : List ℕ) (n : ℕ) → 1 ≤ length bs → length bs ≤ 15 → digitField bs ≡ refused n → isDigits bs ≡ false
+digitField-no-digits bs n some few e = failed (isDigits bs) (number bs) notDigits n (sym (digitField-sized bs some few) ∙ e)
 
 -- digits of a right length give their number
 digitField-value : (bs : List ℕ) → 1 ≤ length bs → length bs ≤ 15 → isDigits bs ≡ true → digitField bs ≡ accepted (number bs)
@@ -101,22 +90,6 @@ field-refused bs =
     decided true true sized all =
         let ends = and-eq-true-iff (leb 1 (length bs)) (leb (length bs) 15) .0 sized in
         inl (leb-true 1 (length bs) (ends .0), leb-true (length bs) 15 (ends .1), all)
-
-pub amount-refused : AmountRefused
-unfolding amountField
-amount-refused bs =
-    refused-exactly (amountField bs) notDigits (λ h. (number bs, rw (eq-eqb (length bs) 13 (h .0)) (value h)))
-    (decided (eqb (length bs) 13) (isDigits bs) refl refl)
-  where
-    value : (length bs ≡ 13) × (isDigits bs ≡ true) → digitField bs ≡ accepted (number bs)
-    value h = digitField-value bs (omega arith) (omega arith) (h .1)
-
-    decided : (a b : Bool) → eqb (length bs) 13 ≡ a → isDigits bs ≡ b → ((length bs ≡ 13) × (isDigits bs ≡ true)) ⊎ (amountField bs ≡ refused notDigits)
-    decided false b sized all = inr (rw sized)
-    decided true false sized all =
-        let thirteen = eqb-true (length bs) 13 sized in
-        inr (rw sized (digitField-sized bs (omega arith) (omega arith) ∙ rw all))
-    decided true true sized all = inl (eqb-true (length bs) 13 sized, all)
 
 -- for a loop over i: the digit at i, then the rest; and past the end the number is read
 pub digitsFrom-next :

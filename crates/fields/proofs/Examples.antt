@@ -23,4 +23,8 @@ examples =
       too-long = refl;
       rent = refl;
       short-amount = refl;
+      zero-amount = refl;
+      least-amount = refl;
+      short-zero = refl;
+      blank-amount = refl;
     }

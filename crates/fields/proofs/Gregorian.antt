@@ -14,14 +14,14 @@ use borrow.Author.Tests.{leb-true, le-leb, eqb-true, eqb-false, eq-eqb, ne-eqb, 
 use Rattle.sequences.specs.Part.{part}
 use Rattle.sequences.proofs.Below.{below}
 use Rattle.sequences.proofs.Every.{every-append}
-use Rattle.fields.specs.FieldVerdict.{accepted, refused, notDigits, noSuchDay}
+use Rattle.fields.specs.FieldVerdict.{accepted, noSuchDay}
 use Rattle.fields.specs.Calendar.{Day, commonYear, isLeap, daysIn, isDay, Leap, Gregorian}
 use Rattle.fields.specs.Date.{dayOf, onCalendar, dateField, dateDigits}
 use Rattle.fields.specs.Digits.{isDigits, number, digits}
-use Rattle.fields.specs.Laws.{SixDigits, DateExact, DateRefused}
-use Rattle.fields.proofs.Answers.{accepted-same, refused-same, accepted-not-refused}
+use Rattle.fields.specs.Laws.{DateExact, DateRefused}
 use Rattle.fields.proofs.Dates.{two, three-parts, parts-digits, small}
 use Rattle.fields.proofs.Decimal.{written-length, written-digits, written-read-fits, read-written}
+use Rattle.fields.proofs.FixedSize.{fixed-accepted, fixed-refused}
 
 -- the leap rule as a test and as it is said
 leap-said : (y : ℕ) → isLeap y ≡ true → Leap y
@@ -114,51 +114,24 @@ module _ (bs : List ℕ) (six : length bs ≡ 6) (all : isDigits bs ≡ true) wh
       ap₃ : {a b c d e f : List ℕ} → a ≡ b → c ≡ d → e ≡ f → a ++ (c ++ e) ≡ b ++ (d ++ f)
       ap₃ p q r = cc
 
--- the three ways that the rule can go
-data Outcome (bs : List ℕ) : Type 0 where
-  no-digits : ¬ SixDigits bs → dateField bs ≡ refused notDigits → Outcome bs
-  no-day : SixDigits bs → ¬ Gregorian (dayOf bs) → dateField bs ≡ refused noSuchDay → Outcome bs
-  a-day : SixDigits bs → Gregorian (dayOf bs) → dateField bs ≡ accepted (dayOf bs) → Outcome bs
+-- the calendar's part of the rule, as the law of fields of a fixed size asks for it
+module _ (bs : List ℕ) where
+  abbrev own-day : Bool
+  own-day = isDay (dayOf bs .day) (dayOf bs .month) (dayOf bs .year)
 
-outcome : (bs : List ℕ) → Outcome bs
-unfolding dateField
-outcome bs = go (eqb (length bs) 6 && isDigits bs) (isDay (dayOf bs .day) (dayOf bs .month) (dayOf bs .year)) refl refl
-  where
-    six : (eqb (length bs) 6 && isDigits bs) ≡ true → SixDigits bs
-    six e =
-        let both = and-eq-true-iff (eqb (length bs) 6) (isDigits bs) .0 e in
-        (eqb-true (length bs) 6 (both .0), both .1)
+  no-day : own-day ≡ false → ¬ Gregorian (dayOf bs)
+  no-day f g = true≢false (sym (day-tested (dayOf bs) g) ∙ f)
 
-    go : (a b : Bool) → (eqb (length bs) 6 && isDigits bs) ≡ a → isDay (dayOf bs .day) (dayOf bs .month) (dayOf bs .year) ≡ b → Outcome bs
-    go false b e f = no-digits (λ s. true≢false (sym (rw (eq-eqb (length bs) 6 (s .0), s .1)) ∙ e)) (rw e)
-    go true false e f = no-day (six e) (λ g. true≢false (sym (day-tested (dayOf bs) g) ∙ f)) (rw (e, f))
-    go true true e f = a-day (six e) (day-said (dayOf bs) f) (rw (e, f))
-
-date-read : (bs : List ℕ) (t : Day) → dateField bs ≡ accepted t → Gregorian t × (2000 ≤ t .year) × (t .year ≤ 2099) × (bs ≡ dateDigits t)
-date-read bs t f = go (outcome bs)
-  where
-    go : Outcome bs → Gregorian t × (2000 ≤ t .year) × (t .year ≤ 2099) × (bs ≡ dateDigits t)
-    go (no-digits s e) = absurd (accepted-not-refused (sym f ∙ e))
-    go (no-day s g e) = absurd (accepted-not-refused (sym f ∙ e))
-    go (a-day s g e) =
-        let n = named bs (s .0) (s .1) in
-        subst (λ (u : Day). Gregorian u × (2000 ≤ u .year) × (u .year ≤ 2099) × (bs ≡ dateDigits u)) (accepted-same (sym e ∙ f)) (g, n .0, n .1, n .2)
+  date-read : (t : Day) → dateField bs ≡ accepted t → Gregorian t × (2000 ≤ t .year) × (t .year ≤ 2099) × (bs ≡ dateDigits t)
+  unfolding dateField
+  date-read t f =
+      let (d, g, same) = fixed-accepted 6 bs own-day (dayOf bs) noSuchDay (day-said (dayOf bs)) no-day (λ g f. f g) t f in
+      let n = named bs (d .0) (d .1) in
+      subst (λ (u : Day). Gregorian u × (2000 ≤ u .year) × (u .year ≤ 2099) × (bs ≡ dateDigits u)) same (g, n .0, n .1, n .2)
 
 pub date-exact : DateExact
 date-exact bs t = (date-read bs t, λ h. rw (h .3) (date-written t (h .0) (h .1) (h .2)))
 
 pub date-refused : DateRefused
-date-refused bs n = (by (outcome bs), back (outcome bs))
-  where
-    by : Outcome bs → dateField bs ≡ refused n → ((n ≡ 5) × ¬ SixDigits bs) ⊎ ((n ≡ 8) × SixDigits bs × ¬ Gregorian (dayOf bs))
-    by (no-digits s e) f = inl (refused-same (sym f ∙ e), s)
-    by (no-day s g e) f = inr (refused-same (sym f ∙ e), s, g)
-    by (a-day s g e) f = absurd (accepted-not-refused (sym e ∙ f))
-
-    back : Outcome bs → ((n ≡ 5) × ¬ SixDigits bs) ⊎ ((n ≡ 8) × SixDigits bs × ¬ Gregorian (dayOf bs)) → dateField bs ≡ refused n
-    back (no-digits s e) (inl h) = e ∙ ap refused (sym (h .0))
-    back (no-digits s e) (inr h) = absurd (s (h .1))
-    back (no-day s g e) (inl h) = absurd (h .1 s)
-    back (no-day s g e) (inr h) = e ∙ ap refused (sym (h .0))
-    back (a-day s g e) (inl h) = absurd (h .1 s)
-    back (a-day s g e) (inr h) = absurd (h .2 g)
+unfolding dateField
+date-refused bs = fixed-refused 6 bs (own-day bs) (dayOf bs) noSuchDay (day-said (dayOf bs)) (no-day bs) (λ g f. f g)

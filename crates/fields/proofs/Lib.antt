@@ -1,7 +1,9 @@
+pub mod Amounts
 pub mod Answers
 pub mod Bytes
 pub mod Dates
 pub mod Decimal
 pub mod DigitField
 pub mod Examples
+pub mod FixedSize
 pub mod Gregorian

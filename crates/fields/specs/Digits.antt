@@ -1,8 +1,8 @@
 -- Digit fields (document 01, "The flow as bytes": "digits" means every byte is 0 to 9). Assumes nothing.
 use Prim.Native.Nat.{ℕ, zero, suc, _+_, _-_, _*_, _/_, _%_}
-use mathlib.Core.Bool.{Bool, cond, _&&_}
+use mathlib.Core.Bool.{Bool, cond, not, _&&_}
 use mathlib.Core.List.{List, [], _∷_, _++_}
-use lib.Dec.{leb}
+use lib.Dec.{leb, eqb}
 use lib.ListN.{length}
 use Rattle.sequences.specs.Every.{every}
 use Rattle.fields.specs.FieldVerdict.{FieldVerdict, accepted, refused, notDigits}
@@ -20,6 +20,10 @@ numberFrom v (b ∷ bs) = numberFrom (v * 10 + (b - 48)) bs
 
 abbrev pub number : List ℕ → ℕ
 number bs = numberFrom 0 bs
+
+-- "above zero"
+abbrev pub isAboveZero : ℕ → Bool
+isAboveZero v = not (eqb v 0)
 
 -- the n low decimal digits of v, zeros in front
 unfoldable pub digits : ℕ → ℕ → List ℕ

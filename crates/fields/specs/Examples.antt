@@ -34,3 +34,8 @@ pub record FieldExamples : Type 0 where
   pub too-long : digitField (text "0000000000083050") ≡ refused 5
   pub rent : amountField (text "0000000045000") ≡ accepted 45000
   pub short-amount : amountField (text "000000045000") ≡ refused 5
+  -- document 02, E5: nothing is asked for; the least that is; and 5 comes before 25
+  pub zero-amount : amountField (text "0000000000000") ≡ refused 25
+  pub least-amount : amountField (text "0000000000001") ≡ accepted 1
+  pub short-zero : amountField (text "000000000000") ≡ refused 5
+  pub blank-amount : amountField (text "             ") ≡ refused 5

@@ -13,12 +13,15 @@ pub data FieldVerdict (A : Type 0) : Type 0 where
   accepted : A → FieldVerdict A
   refused : ℕ → FieldVerdict A
 
--- document 01, "Numbers a clerk may see": the two that a field alone can give
+-- document 01, "Numbers a clerk may see", and document 02, E5: the three that a field alone can give
 abbrev pub notDigits : ℕ
 notDigits = 5
 
 abbrev pub noSuchDay : ℕ
 noSuchDay = 8
+
+abbrev pub zeroAmount : ℕ
+zeroAmount = 25
 
 -- the paper's number and value for each case of `fields::Number`
 abbrev pub numberVerdict : Number → FieldVerdict ℕ

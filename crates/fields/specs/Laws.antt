@@ -6,7 +6,7 @@ use mathlib.Core.Bool.{true}
 use mathlib.Core.List.{List}
 use mathlib.Core.Logic.{_↔_, _⊎_}
 use lib.ListN.{length, replicate}
-use Rattle.fields.specs.Amount.{amountField}
+use Rattle.fields.specs.Amount.{isAmount, amountField}
 use Rattle.fields.specs.FieldVerdict.{accepted, refused, numberVerdict, dateVerdict}
 use Rattle.fields.specs.Bytes.{isBlank, isEqual}
 use Rattle.fields.specs.Calendar.{Day, Gregorian}
@@ -40,9 +40,13 @@ abbrev pub FieldExact : Type 0
 FieldExact =
     (bs : List ℕ) (v : ℕ) → (digitField bs ≡ accepted v) ↔ ((1 ≤ length bs) × (length bs ≤ 15) × (v < 10 ^ length bs) × (bs ≡ digits (length bs) v))
 
--- an amount gives v exactly where it is v written in thirteen bytes
+-- an amount gives v exactly where v is above zero and the bytes are v written in thirteen
 abbrev pub AmountExact : Type 0
-AmountExact = (bs : List ℕ) (v : ℕ) → (amountField bs ≡ accepted v) ↔ ((v < 10 ^ 13) × (bs ≡ digits 13 v))
+AmountExact = (bs : List ℕ) (v : ℕ) → (amountField bs ≡ accepted v) ↔ ((0 < v) × (v < 10 ^ 13) × (bs ≡ digits 13 v))
+
+-- the test of a number of cents, for who has no field yet, takes exactly those that the field's rule gives
+abbrev pub AmountTested : Type 0
+AmountTested = (v : ℕ) → (isAmount v ≡ true) ↔ ((bs : List ℕ) × (amountField bs ≡ accepted v))
 
 -- a date gives t exactly where t is a day of the Gregorian calendar from 1 January 2000 to 31 December 2099, written as GGMMAA
 abbrev pub DateExact : Type 0
@@ -54,17 +58,17 @@ abbrev pub FieldRefused : Type 0
 FieldRefused =
     (bs : List ℕ) (n : ℕ) → (digitField bs ≡ refused n) ↔ ((n ≡ 5) × ¬ ((1 ≤ length bs) × (length bs ≤ 15) × (isDigits bs ≡ true)))
 
--- an amount: 5, where it is not thirteen digits
+abbrev pub DigitsOf : ℕ → List ℕ → Type 0
+DigitsOf size bs = (length bs ≡ size) × (isDigits bs ≡ true)
+
+-- an amount: 5, where it is not thirteen digits; else 25, where they say zero
 abbrev pub AmountRefused : Type 0
-AmountRefused = (bs : List ℕ) (n : ℕ) → (amountField bs ≡ refused n) ↔ ((n ≡ 5) × ¬ ((length bs ≡ 13) × (isDigits bs ≡ true)))
+AmountRefused = (bs : List ℕ) (n : ℕ) → (amountField bs ≡ refused n) ↔ (((n ≡ 5) × ¬ DigitsOf 13 bs) ⊎ ((n ≡ 25) × DigitsOf 13 bs × (number bs ≡ 0)))
 
 -- a date: 5, where it is not six digits; else 8, where the day that they name is none of the calendar
-abbrev pub SixDigits : List ℕ → Type 0
-SixDigits bs = (length bs ≡ 6) × (isDigits bs ≡ true)
-
 abbrev pub DateRefused : Type 0
 DateRefused =
-    (bs : List ℕ) (n : ℕ) → (dateField bs ≡ refused n) ↔ (((n ≡ 5) × ¬ SixDigits bs) ⊎ ((n ≡ 8) × SixDigits bs × ¬ Gregorian (dayOf bs)))
+    (bs : List ℕ) (n : ℕ) → (dateField bs ≡ refused n) ↔ (((n ≡ 5) × ¬ DigitsOf 6 bs) ⊎ ((n ≡ 8) × DigitsOf 6 bs × ¬ Gregorian (dayOf bs)))
 
 -- equal slices are equal lists
 abbrev pub EqualExact : Type 0

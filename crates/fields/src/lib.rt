@@ -1,5 +1,5 @@
-// The field rules of document 01, for callers with and without a flow: digit fields, amounts, dates,
-// the one digit writer, and two tests on bytes.
+// The field rules of documents 01 and 02, for callers with and without a flow: digit fields, amounts,
+// dates, the one digit writer, two tests on bytes and one on cents.
 //
 // No public function has a `requires`: whatever bytes it is given, it ends with an answer, and its
 // contract says which. Only `write_digits` changes a byte. A refusal is its number alone.
@@ -11,6 +11,7 @@ mod digits;
 mod limits;
 mod refusals;
 
+pub use amount::is_amount;
 pub use amount::read_amount;
 pub use compare::all_blank;
 pub use compare::equal;
@@ -19,6 +20,6 @@ pub use date::read_date;
 pub use digits::Number;
 pub use digits::read_digits;
 pub use digits::write_digits;
-pub use limits::MOST_AMOUNT;
 pub use refusals::NO_SUCH_DAY;
 pub use refusals::NOT_DIGITS;
+pub use refusals::ZERO_AMOUNT;

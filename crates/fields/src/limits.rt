@@ -4,4 +4,4 @@
 pub(crate) const MOST_DIGITS: usize = 15;
 
 // The cents of an amount: thirteen digits.
-pub const MOST_AMOUNT: u64 = 9999999999999;
+pub(crate) const MOST_AMOUNT: u64 = 9999999999999;

@@ -1,21 +1,25 @@
 -- The dispositions of an accepted flow: the header stands before them and the trailer after, they are as many as is answered, and the
 -- record that opens one has its amount. Assumes nothing.
-use Prim.Native.Nat.{ℕ, zero, suc, _+_, _-_, _*_, _/_, _%_, _≤_, _<_}
+use Prim.Native.Nat.{ℕ, suc, _+_, _-_, _*_, _/_, _%_, _≤_, _<_}
 use mathlib.Core.Bool.{Bool, true, false, cond, _&&_, and-eq-true-iff, true≢false}
 use mathlib.Core.List.{List, [], _∷_, dropLast}
 use mathlib.Core.Logic.{_⊎_, inl, inr}
 use mathlib.Core.Path.{_≡_, refl, sym, _∙_, ap, subst}
-use native.Mathlib.Nat.{le-of-suc-le-suc, not-suc-le-zero}
 use native.Mathlib.Numerals.{add-one}
 use native.Mathlib.Omega.{arith}
 use lib.Dec.{leb}
 use lib.ListN.{length, take, drop, getD}
 use borrow.Author.Tests.{leb-true, le-leb}
+use Rattle.sequences.specs.All.{All}
 use Rattle.sequences.specs.Groups.{lead, groups}
 use Rattle.sequences.specs.Part.{part}
+use Rattle.sequences.proofs.All.{all-getD, all-map}
 use Rattle.sequences.proofs.DropLast.{dropLast-length, dropLast-getD}
 use Rattle.sequences.proofs.Groups.{lead-next, lead-end, groupStart, Group, group-at, start-next, start-within}
-use Rattle.records.specs.Amount.{HasAmount}
+use Rattle.fields.specs.Amount.{IsAmount}
+use Rattle.fields.specs.Digits.{number}
+use Rattle.fields.proofs.Amounts.{amount-given}
+use Rattle.records.specs.Amount.{amountIn, HasAmount}
 use Rattle.records.specs.Context.{Header, headerOf}
 use Rattle.records.specs.RecordVerdict.{RecordVerdict, right}
 use Rattle.records.specs.RecordVerdict.{refused as RecordVerdict·refused}
@@ -27,7 +31,7 @@ use Rattle.records.proofs.ByKind.{opens-type}
 use Rattle.flow.specs.Find.{dispositionsIn, startOf, IsNumber, locationOf, find, bytesAt, partOf, offsetAt, offsetOf, HasDisposition, openingFrom}
 use Rattle.flow.specs.Judge.{unlessFault, ended, walkFrom, judge}
 use Rattle.flow.specs.Records.{isLength, recordAt, recordsOf, mostBytes}
-use Rattle.flow.specs.Laws.{FoundDetermined, FindRefused, PartPlaced}
+use Rattle.flow.specs.Laws.{EachAsks, FoundDetermined, FindRefused, PartPlaced}
 use Rattle.flow.specs.Order.{In, permitted, isDue}
 use Rattle.flow.specs.Walking.{start, step, latest, judgeRecord}
 use Rattle.flow.specs.ExactTotals.{openingCount}
@@ -122,18 +126,18 @@ header-leads-all header (rec ∷ recs) {t} e = by recs (subst (λ (l : RecordKin
         let first : isOpening next ≡ true = sym (opens-type (q .kind) next (typed .0)) ∙ ap opens (only-kind (typed .2)) in
         rw (other, first)
 
--- each record of an accepted flow that opens a disposition has an amount
-amounts-all :
+-- each record that was walked over and opens a disposition has an amount
+abbrev OpensWithAmount : List ℕ → Type 0
+OpensWithAmount rec = isOpening rec ≡ true → HasAmount rec
+
+amounts-from :
     (header : Header) (w : Walk) (company : List ℕ) (i : ℕ) (recs : List (List ℕ)) {t : Totals} → walkFrom ended header w company i recs ≡ accepted t
-    → (j : ℕ) → j < length recs → isOpening (getD recs j []) ≡ true → HasAmount (getD recs j [])
-amounts-all header w company i [] e j h t = absurd (not-suc-le-zero h)
-amounts-all header w company i (rec ∷ recs) e zero h t =
+    → All OpensWithAmount recs
+amounts-from header w company i [] e = tt
+amounts-from header w company i (rec ∷ recs) e =
     let p = passed header w company i rec recs e in
     let typed = right-typed header w company (suc i) rec (p .kind) (p .cents) (p .found) in
-    right-amount (p .kind) (p .kind) _ rec (p .cents) (opens-type (p .kind) rec (typed .0) ∙ t) (typed .1)
-amounts-all header w company i (rec ∷ recs) e (suc j) h t =
-    let p = passed header w company i rec recs e in
-    amounts-all header (step w (p .kind) (p .cents) rec) (latest (p .kind) company rec) (suc i) recs (p .rest) j (le-of-suc-le-suc h) t
+    (λ opened. right-amount (p .kind) (p .kind) _ rec (p .cents) (opens-type (p .kind) rec (typed .0) ∙ opened) (typed .1), amounts-from header (step w (p .kind) (p .cents) rec) (latest (p .kind) company rec) (suc i) recs (p .rest))
 
 -- every record but the last
 abbrev pub untilTrailer : List ℕ → List (List ℕ)
@@ -169,6 +173,17 @@ accepted-records f {t} = by (isLength (length f))
     by : (b : Bool) → cond b (walkFrom ended (headerOf (take 120 f)) start [] 0 (recordsOf f)) (refused (ofCall 1)) ≡ accepted t → (b ≡ true) × (walkFrom ended (headerOf (take 120 f)) start [] 0 (recordsOf f) ≡ accepted t)
     by true e = (refl, e)
     by false e = absurd (accepted-not-refused e)
+
+-- so each of an accepted flow
+amounts-all : (f : List ℕ) {t : Totals} → judge f ≡ accepted t → All OpensWithAmount (recordsOf f)
+amounts-all f e = amounts-from (headerOf (take 120 f)) start [] 0 (recordsOf f) (accepted-records f e .1)
+
+-- and asks for it
+pub each-asks : EachAsks
+each-asks f t e = all-map asks (recordsOf f) (amounts-all f e)
+  where
+    asks : (rec : List ℕ) → OpensWithAmount rec → isOpening rec ≡ true → IsAmount (number (amountIn rec))
+    asks rec has opened = amount-given (amountIn rec) _ (has opened)
 
 module _ (f : List ℕ) {t : Totals} (e : judge f ≡ accepted t) where
   pub accepted-length : (120 ≤ length f) × (length f % 120 ≡ 0) × (length f ≤ mostBytes)
@@ -234,7 +249,7 @@ module _ (f : List ℕ) (k : ℕ) (s : HasDisposition f k) where
         within = omega arith;
         opening = ap (λ (l : List (List ℕ)). getD l 0 []) (group .all) ∙ here;
         type = type;
-        amount = rw cut-here at (amounts-all (headerOf (take 120 f)) start [] 0 (recordsOf f) (accepted-records f (s .read) .1) at (rw cut-count (omega arith)) (rw cut-here type));
+        amount = rw cut-here at (all-getD OpensWithAmount (recordsOf f) at [] (rw cut-count (omega arith)) (amounts-all f (s .read)) (rw cut-here type));
       }
 
 -- a number from 1 up to the count stands in the flow

@@ -48,4 +48,11 @@ examples =
       recall-twice = refl;
       request-recalled = refl;
       recall-no-digits = refl;
+      nothing-asked = refl;
+      nothing-first = refl;
+      nothing-signed = refl;
+      nothing-recalled = refl;
+      one-cent = refl;
+      nothing-no-kind = refl;
+      nothing-no-digits = refl;
     }

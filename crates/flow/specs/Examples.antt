@@ -76,6 +76,20 @@ twoRecalls = totalledBy "000000000000000000000000083050" (recalledAt 1 (recalled
 abbrev pub twoRecallTotals : Totals
 twoRecallTotals = record { kind = Recalls; dispositions = 2; cents = 83050; records = 16 }
 
+-- the flow with other bytes for the amount in its record at index i
+abbrev pub askingAt : ℕ → String → List ℕ → List ℕ
+askingAt i amount f = put (120 * i + 33) (text amount) f
+
+-- the two rents with nothing asked for the second, and with one cent, each with the total that this makes
+abbrev pub nothingAsked : List ℕ
+nothingAsked = askingAt 8 "0000000000000" (totalledBy "000000000045000000000000000000" twoRents)
+
+abbrev pub oneCentAsked : List ℕ
+oneCentAsked = askingAt 8 "0000000000001" (totalledBy "000000000045001000000000000000" twoRents)
+
+abbrev pub oneCentTotals : Totals
+oneCentTotals = record { kind = Requests; dispositions = 2; cents = 45001; records = 16 }
+
 -- the header and the first records of a disposition, then the records given
 abbrev pub withFurther : List String → List ℕ
 withFurther furthers = flowOf ((headerIm ∷ firstOpened) ++ furthers)
@@ -117,3 +131,12 @@ pub record FlowExamples : Type 0 where
   pub recall-twice : judge (totalledBy "000000000083050000000000083050" twoRecalls) ≡ refused (refusal 13 16 53)
   pub request-recalled : judge (totalledBy "000000000000000000000000083050" twoRents) ≡ refused (refusal 13 16 53)
   pub recall-no-digits : judge (totalledBy "              0000000000083050" twoRecalls) ≡ refused (refusal 5 16 53)
+  -- document 02, E5: a request of zero, in the second 14 and in the first, with a wrong sign after it, and in a recall; the least amount
+  pub nothing-asked : judge nothingAsked ≡ refused (refusal 25 9 34)
+  pub nothing-first : judge (askingAt 1 "0000000000000" nothingAsked) ≡ refused (refusal 25 2 34)
+  pub nothing-signed : judge (put 1006 (text "+") nothingAsked) ≡ refused (refusal 25 9 34)
+  pub nothing-recalled : judge (askingAt 8 "0000000000000" twoRecalls) ≡ refused (refusal 25 9 34)
+  pub one-cent : judge oneCentAsked ≡ accepted oneCentTotals
+  -- a causale of no kind comes before it, and so do bytes that are no digits
+  pub nothing-no-kind : judge (put 988 (text "07200") nothingAsked) ≡ refused (refusal 6 9 29)
+  pub nothing-no-digits : judge (askingAt 8 "000000000000 " nothingAsked) ≡ refused (refusal 5 9 34)

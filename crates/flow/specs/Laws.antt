@@ -1,11 +1,17 @@
 -- What is proved of reading a flow and of asking where a disposition is. `proofs/` has its proof under the law's name in small letters.
 -- Assumes nothing.
 use Prim.Native.Nat.{ℕ, _+_, _-_, _*_, _≤_, _<_}
+use mathlib.Core.Bool.{true}
 use mathlib.Core.List.{List}
 use mathlib.Core.Logic.{_↔_, _⊎_}
 use mathlib.Core.Path.{_≡_}
 use lib.ListN.{length}
+use Rattle.sequences.specs.All.{All}
 use Rattle.sequences.specs.Part.{part}
+use Rattle.fields.specs.Amount.{IsAmount}
+use Rattle.fields.specs.Digits.{number}
+use Rattle.records.specs.Amount.{amountIn}
+use Rattle.records.specs.Kinds.{isOpening}
 use Rattle.flow.specs.Find.{foundVerdict, IsNumber, find, partOf, offsetOf, foundWithTotalsVerdict, findWithTotals}
 use Rattle.flow.specs.Judge.{judge}
 use Rattle.flow.specs.Output.{output, withRoom, FilledWith, LeftAlone}
@@ -36,6 +42,10 @@ abbrev pub AcceptedExact : Type 0
 AcceptedExact =
     (f : List ℕ) (t : Totals) → judge f ≡ accepted t
     → (t .dispositions ≡ openingCount (recordsOf f)) × (t .cents ≡ amountSum (recordsOf f)) × (t .records * 120 ≡ length f) × (t .kind ≡ kindOf (recordsOf f))
+
+-- and each of its records 14 asks for something (document 02, E5)
+abbrev pub EachAsks : Type 0
+EachAsks = (f : List ℕ) (t : Totals) → judge f ≡ accepted t → All (λ (rec : List ℕ). isOpening rec ≡ true → IsAmount (number (amountIn rec))) (recordsOf f)
 
 -- a call that fills an output answers what was judged; accepted, it leaves exactly the bytes where they fit, and refused nothing
 abbrev pub OutputLeaves : Type 1

@@ -262,7 +262,7 @@ opening-says abi n d r = go d (opened-so d (r .order)) (r .records)
     go : (d : List Typed) → Opened d → All (Member abi n) d → (field 2 3 (opening d) ≡ typeOf R14) × Says n (field 4 10 (opening d)) × Digits (amountIn (opening d))
     go d (opened-by x xs e details) members =
         let rules = subst (λ (k : RecordKind). MemberRules k abi n (x .bytes)) e (members .0 .1) in
-        (members .0 .0 .type ∙ ap typeOf e, rules .number-said, rules .others .amount)
+        (members .0 .0 .type ∙ ap typeOf e, rules .number-said, rules .others .amount .0)
 
 pub opening-exact : OpeningExact
 opening-exact f k place e =

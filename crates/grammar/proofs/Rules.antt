@@ -17,6 +17,7 @@ use Rattle.fields.specs.Bytes.{isBlankByte, isBlank}
 use Rattle.fields.specs.Calendar.{Gregorian}
 use Rattle.fields.specs.Date.{dayOf}
 use Rattle.fields.specs.Digits.{isDigit, isDigits, number, digits}
+use Rattle.fields.proofs.Amounts.{above-zero}
 use Rattle.fields.proofs.Bytes.{equal-exact}
 use Rattle.fields.proofs.Decimal.{number-below, written-digits, written-read-fits, read-written}
 use Rattle.fields.proofs.Gregorian.{day-said, day-tested}
@@ -56,11 +57,6 @@ within low high b =
 -- a number
 pub number-exact : (a b : ℕ) → (eqb a b ≡ true) ↔ (a ≡ b)
 number-exact a b = (eqb-true a b, eq-eqb a b)
-
-above-zero : (v : ℕ) → (not (eqb v 0) ≡ true) ↔ (1 ≤ v)
-above-zero v =
-    let not-zero = fails (number-exact v 0) in
-    (λ t. let n = not-zero .0 t in omega arith, λ h. not-zero .1 (λ e. omega arith))
 
 -- bytes
 pub digits-exact : (bs : List ℕ) → (isDigits bs ≡ true) ↔ Digits bs
@@ -198,6 +194,7 @@ disposition-rules abi company q rec =
     then Iff·rfl
     then Iff·rfl
     then digits-exact (amountIn rec)
+    then above-zero (number (amountIn rec))
     then Iff·rfl
     then digits-exact (field 48 52 rec)
     then equal-exact (field 48 52 rec) abi
@@ -206,10 +203,10 @@ disposition-rules abi company q rec =
     then listed-exact (byteAt 97 rec) (text " 1234569")
     then equal-exact (field 120 120 rec) currency
     then none) (
-      λ (d, (t, (k, (o, (a, (s, (b, (e, (f, (g, (l, (v, u)))))))))))). (record { payable = (d, t); amount = a; bank = (b, e); branch = f; code-type = l; currency-code = v }, (g, some-kind q rec .0 (k, o, s))),
+      λ (d, (t, (k, (o, (a, (z, (s, (b, (e, (f, (g, (l, (v, u))))))))))))). (record { payable = (d, t); amount = (a, z); bank = (b, e); branch = f; code-type = l; currency-code = v }, (g, some-kind q rec .0 (k, o, s))),
       λ (h, (g, kind)).
           let row = some-kind q rec .1 kind in
-          (h .payable .0, (h .payable .1, (row .0, (row .1, (h .amount, (row .2, (h .bank .0, (h .bank .1, (h .branch, (g, (h .code-type, (h .currency-code, tt)))))))))))),
+          (h .payable .0, (h .payable .1, (row .0, (row .1, (h .amount .0, (h .amount .1, (row .2, (h .bank .0, (h .bank .1, (h .branch, (g, (h .code-type, (h .currency-code, tt))))))))))))),
     )
 
 coordinates-rules : (abi rec : List ℕ) → Hold (coordinatesChecks abi rec) ↔ (CoordinatesRules abi rec × Unit {0})

@@ -1,5 +1,5 @@
--- Document 01's table of checks, with the kinds of flow of document 02, E1, as what is true of a right record: for each row a statement,
--- field by field, with no order, no number and no test. Assumes nothing.
+-- Document 01's table of checks, with the kinds of flow of document 02, E1, and its E5, an amount above zero, as what is true of a right record:
+-- for each row a statement, field by field, with no order, no number and no test. Assumes nothing.
 use Prim.Native.Nat.{ℕ, _≤_}
 use mathlib.Core.List.{List, List·Memᴰ}
 use mathlib.Core.Logic.{_⊎_}
@@ -61,7 +61,7 @@ pub record HeaderRules (rec : List ℕ) : Type 0 where
 -- row 14 but for its number, its company code and what goes by the kind of flow
 pub record DispositionRules (abi rec : List ℕ) : Type 0 where
   pub payable : CalendarDay (field 23 28 rec)
-  pub amount : Digits (amountIn rec)
+  pub amount : Digits (amountIn rec) × (1 ≤ number (amountIn rec))
   pub bank : Digits (field 48 52 rec) × (field 48 52 rec ≡ abi)
   pub branch : Blank (field 53 57 rec) ⊎ Digits (field 53 57 rec)
   pub code-type : List·Memᴰ (byteAt 97 rec) (text " 1234569")

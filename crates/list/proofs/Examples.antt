@@ -52,4 +52,5 @@ examples =
       recalls-canonical = refl;
       other-header = refl;
       no-14 = refl;
+      nothing-written = refl;
     }

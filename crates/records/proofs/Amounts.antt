@@ -7,9 +7,9 @@ use native.Mathlib.Omega.{arith}
 use lib.Dec.{eqb}
 use lib.ListN.{length}
 use borrow.Author.Tests.{eq-eqb, eqb-true}
-use Rattle.fields.specs.Amount.{amountField}
-use Rattle.fields.specs.FieldVerdict.{FieldVerdict, accepted, refused, notDigits}
-use Rattle.fields.specs.Digits.{isDigits, number, digitsFrom}
+use Rattle.fields.specs.Amount.{askedFor, amountField}
+use Rattle.fields.specs.FieldVerdict.{FieldVerdict, accepted, refused, notDigits, zeroAmount}
+use Rattle.fields.specs.Digits.{isDigits, number, isAboveZero}
 use Rattle.records.specs.Amount.{amountSpan, amountIn, HasAmount}
 use Rattle.records.specs.Checks.{amountChecks, checks}
 use Rattle.records.specs.Context.{Context}
@@ -25,7 +25,7 @@ use Rattle.records.specs.declared.kind.RecordKind.the-variants.{R14}
 use Rattle.records.proofs.EachKind.{opens-14}
 use Rattle.records.proofs.FirstFault.{held, broken-front, right-not-refused, kept-all, kept-front, after}
 use Rattle.records.proofs.RightOrBroken.{broken}
-use Rattle.records.proofs.FieldTests.{fits, field-length, field-digits}
+use Rattle.records.proofs.FieldTests.{fits, field-length}
 
 -- what a field's answer is of the record, at the amount's place
 abbrev asFinding : FieldVerdict ℕ → RecordVerdict
@@ -40,10 +40,10 @@ found-refusal : (x : FieldVerdict ℕ) (n : ℕ) → asFinding x ≡ RecordVerdi
 found-refusal (accepted v) n e = absurd (right-not-refused (sym e))
 found-refusal (refused m) n e = cc
 
--- thirteen bytes are an amount by their digits alone, and so by their rows
+-- thirteen bytes are an amount by their digits and what these say, and so by their rows
 amount-found : (rec : List ℕ) → length rec ≡ 120 → asFinding (amountField (amountIn rec)) ≡ firstFault (amountChecks rec) (right R14 (number (amountIn rec)))
 unfolding amountField firstFault
-amount-found rec whole = ap asFinding read ∙ by (isDigits bs)
+amount-found rec whole = ap asFinding read ∙ by (isDigits bs) (isAboveZero (number bs))
   where
     bs : List ℕ
     bs = amountIn rec
@@ -54,12 +54,16 @@ amount-found rec whole = ap asFinding read ∙ by (isDigits bs)
     thirteen : length bs ≡ 13
     thirteen = field-length 34 46 rec (omega arith) (omega arith) (placed .within)
 
-    read : amountField bs ≡ digitsFrom 0 bs
-    read = rw (eq-eqb (length bs) 13 thirteen) (field-digits 34 46 rec placed)
+    read : amountField bs ≡ cond (isDigits bs) (askedFor (number bs)) (refused notDigits)
+    read = rw (eq-eqb (length bs) 13 thirteen)
 
-    by : (b : Bool) → asFinding (cond b (accepted (number bs)) (refused notDigits)) ≡ cond b (right R14 (number bs)) (RecordVerdict·refused notDigits 34)
-    by true = refl
-    by false = refl
+    by :
+        (b c : Bool)
+        → asFinding (cond b (cond c (accepted (number bs)) (refused zeroAmount)) (refused notDigits))
+        ≡ cond b (cond c (right R14 (number bs)) (RecordVerdict·refused zeroAmount 34)) (RecordVerdict·refused notDigits 34)
+    by true true = refl
+    by true false = refl
+    by false c = refl
 
 pub amount-by : (rec : List ℕ) → length rec ≡ 120 → AmountBy (amountChecks rec) rec
 unfolding firstFault

@@ -1,5 +1,5 @@
 -- The place of a disposition's amount, in the record that opens it (document 01, table of checks, row 14: 34-46 digits, the amount in
--- cents). Assumes nothing.
+-- cents; above zero by document 02, E5). Assumes nothing.
 use Prim.Native.Nat.{ℕ}
 use mathlib.Core.List.{List}
 use mathlib.Core.Path.{_≡_}

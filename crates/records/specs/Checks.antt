@@ -1,6 +1,6 @@
--- Document 01's table of checks, with the kinds of flow of document 02, E1: for each record type one list, by rising position, of what must
--- hold, the number of the refusal and the field's first position. For one field 5 stands before what compares its digits, and 6 before 22.
--- Assumes nothing.
+-- Document 01's table of checks, with the kinds of flow of document 02, E1, and its E5, no amount of zero: for each record type one list, by
+-- rising position, of what must hold, the number of the refusal and the field's first position. For one field 5 stands before what compares
+-- its digits, and 6 before 22. Assumes nothing.
 use Prim.Native.Nat.{ℕ}
 use mathlib.Core.Bool.{Bool, false, not, _||_}
 use mathlib.Core.List.{List, [], _∷_, _++_}
@@ -9,7 +9,7 @@ use Rattle.sequences.specs.Text.{text}
 use Rattle.fields.specs.Bytes.{isBlank, isEqual}
 use Rattle.fields.specs.Calendar.{isDay}
 use Rattle.fields.specs.Date.{dayOf}
-use Rattle.fields.specs.Digits.{isDigits, number}
+use Rattle.fields.specs.Digits.{isDigits, number, isAboveZero}
 use Rattle.records.specs.Constants.{currency}
 use Rattle.records.specs.Context.{Header, Context}
 use Rattle.records.specs.Field.{field, byteAt}
@@ -61,7 +61,10 @@ numberChecks n rec =
 
 -- 34-46 of row 14, the amount. `AmountRows` holds what the table says at 34 against the rule of the field alone
 abbrev pub amountChecks : List ℕ → List Check
-amountChecks rec = check (isDigits (field 34 46 rec)) 5 34 ∷ []
+amountChecks rec =
+    check (isDigits (field 34 46 rec)) 5 34
+    ∷ check (isAboveZero (number (field 34 46 rec))) 25 34
+    ∷ []
 
 -- row 14, after its number, up to 47: what is to be paid. 29-33: the causale of a kind, and where the flow's kind is known already, of that
 -- one; 47: that kind's sign
@@ -97,7 +100,7 @@ coordinatesChecks abi rec =
     ∷ check (isDigits (field 16 20 rec)) 5 16
     ∷ check (isEqual (field 16 20 rec) abi) 10 16
     ∷ check (isDigits (field 21 25 rec)) 5 21
-    ∷ check (not (eqb (number (field 21 25 rec)) 0)) 6 21
+    ∷ check (isAboveZero (number (field 21 25 rec))) 6 21
     ∷ check (isPresent (field 26 37 rec)) 7 26
     ∷ []
 

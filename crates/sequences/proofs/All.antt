@@ -27,3 +27,8 @@ module _ {A : Type 0} (P : A → Type 0) where
   all-getD [] k d h all = absurd (not-suc-le-zero h)
   all-getD (x ∷ xs) zero d h all = all .0
   all-getD (x ∷ xs) (suc k) d h all = all-getD xs k d (le-of-suc-le-suc h) (all .1)
+
+-- what holds of every element, and what follows from it
+pub all-map : {A : Type 0} {P Q : A → Type 0} → ((x : A) → P x → Q x) → (xs : List A) → All P xs → All Q xs
+all-map f [] all = tt
+all-map f (x ∷ xs) all = (f x (all .0), all-map f xs (all .1))

@@ -146,11 +146,12 @@ impl Entry {
     /// itself, so that 4, 9, 12 to 14 and 22 cannot come.
     fn refuses_by(self, number: u8) -> bool {
         match self {
-            Entry::Digits | Entry::Amount => number == 5,
+            Entry::Digits => number == 5,
+            Entry::Amount => matches!(number, 5 | 25),
             Entry::Date => matches!(number, 5 | 8),
             Entry::Read => of_reading(number),
             Entry::Find { .. } => of_reading(number) || number == 15,
-            Entry::Write => matches!(number, 2 | 3 | 5..=8 | 10 | 11 | 17 | 20 | 21),
+            Entry::Write => matches!(number, 2 | 3 | 5..=8 | 10 | 11 | 17 | 20 | 21 | 25),
             Entry::List => of_reading(number) || number == 21,
             Entry::Change { .. } => of_reading(number) || matches!(number, 15..=17),
             Entry::Withdraw { .. } => of_reading(number) || matches!(number, 15 | 18),
@@ -162,7 +163,7 @@ impl Entry {
 
 /// Whether reading a flow can refuse it by this number.
 pub fn of_reading(number: u8) -> bool {
-    matches!(number, 1..=14 | 22)
+    matches!(number, 1..=14 | 22 | 25)
 }
 
 /// How a call is answered, as far as calls are counted by it.

@@ -100,11 +100,11 @@ const PLACES: [(&[u8; 2], usize); 8] = [
 ];
 
 /// Puts a number at its place, and makes the sum of many amounts one of 15
-/// digits.
+/// digits. Each stays above zero, whatever its last three digits become.
 fn mark(record: &mut Record, (kind, first): (&[u8; 2], usize), number: u64) {
     if record_type(record) == *b"14" {
         let cents = amount(field(record, 34, 46)).unwrap_or(0) % 1_000_000_000;
-        write_digits(field_mut(record, 34, 46), cents);
+        write_digits(field_mut(record, 34, 46), cents.max(1_000));
     }
     if record_type(record) == *kind {
         write_digits(field_mut(record, first, first + 2), number);

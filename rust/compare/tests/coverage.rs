@@ -37,10 +37,10 @@ fn a_number_missed_is_named() {
     let refused = |(_, answered): &&(_, Answered)| matches!(answered, Answered::Refused(_));
     assert_eq!(
         missed.iter().filter(refused).count(),
-        1 + 1 + 2 + 15 + 16 + 11 + 16 + 18 + 17 + 19 + 19
+        1 + 2 + 2 + 16 + 17 + 12 + 17 + 19 + 18 + 20 + 20
     );
     let of_new = |(_, answered): &&(_, Answered)| matches!(answered, Answered::RefusedNew(_));
-    assert_eq!(missed.iter().filter(of_new).count(), 15 + 15);
+    assert_eq!(missed.iter().filter(of_new).count(), 16 + 16);
     let tally = run(&Sides::REAL, 1, 200).expect("the two agree");
     let change = Entry::Change { k: 0, cents: 0 };
     assert!(tally.missed().contains(&(change, Answered::Refused(17))));

@@ -269,7 +269,7 @@ fn a_request_list_is_printed_by_its_items() {
     check(
         &report,
         12,
-        &["list of ", "differs at mav_write()", "\n   1  48"],
+        &["list of ", "differs at mav_write()", "\n   2  44"],
     );
     assert!(
         report.contains("proved library: refused 7 record "),
@@ -367,7 +367,7 @@ fn a_recall_is_changed_at_the_total_of_requests_by_both() {
     assert!(!report.contains("call 2"), "{report}");
 }
 
-/// Reads every disposition as one of the first one's kind.
+/// Reads every disposition as one of the first one's kind, where that makes the flow right.
 fn accepts_both(entry: Entry, memory: &mut Memory) -> u8 {
     let status = second(entry, memory);
     if (entry, status, memory.answer[0]) != (Entry::Read, 0, 22) {
@@ -381,7 +381,10 @@ fn accepts_both(entry: Entry, memory: &mut Memory) -> u8 {
         field_mut(opening, 29, 33).copy_from_slice(field(&first, 29, 33));
         field_mut(opening, 47, 47).copy_from_slice(field(&first, 47, 47));
     }
-    second(entry, &mut memory.with_input(&mut flow))
+    match second(entry, &mut memory.with_input(&mut flow)) {
+        0 => second(entry, memory),
+        accepted => accepted,
+    }
 }
 
 #[test]

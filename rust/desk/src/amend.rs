@@ -4,7 +4,7 @@ use std::fs;
 use std::io::{ErrorKind, Write};
 use std::path::Path;
 
-use mav::{Accepted, Dispositions, Refusal};
+use mav::{Accepted, Dispositions, Reason, Refusal};
 
 use crate::euro::{grouped, shown as euro};
 use crate::failure::{Failure, Outcome};
@@ -29,7 +29,8 @@ pub fn amount(named: &Path, k: u64, cents: u64, yes: bool, out: &mut impl Write)
     let (target, flow) = locked(named)?;
     let open = Open::new(named, &target, &flow)?;
     let mut amended = copy(&flow)?;
-    let left = mav::change(&mut amended, k, cents).map_err(|refusal| open.refused(&refusal, k))?;
+    let left = mav::change(&mut amended, k, cents)
+        .map_err(|refusal| open.refused_amount(&refusal, k, cents))?;
     let found = mav::find(&flow, k).map_err(|refusal| open.refused(&refusal, k))?;
     let request = Request::of(found);
     let kind = open.numbers().kind;
@@ -107,8 +108,24 @@ impl<'a> Open<'a> {
 
     /// What the clerk is told where the library refuses the amendment of request `k`.
     fn refused(&self, refusal: &Refusal, k: u64) -> Failure {
-        let also = "; nothing was changed";
-        refusal::of_request(refusal, self.named, k, self.numbers(), also)
+        self.advised(refusal, k, "")
+    }
+
+    /// The same of a new amount. Who gives zero wants the request out, and a flow has at least one.
+    fn refused_amount(&self, refusal: &Refusal, k: u64, cents: u64) -> Failure {
+        let numbers = self.numbers();
+        let advice = match (refusal.reason, cents, numbers.dispositions) {
+            (Reason::NotAnAmount, 0, 1) => "; keep the flow back instead".to_owned(),
+            (Reason::NotAnAmount, 0, _) => format!("; withdraw the {} instead", one(numbers.kind)),
+            _ => String::new(),
+        };
+        self.advised(refusal, k, &advice)
+    }
+
+    /// The same with what to do.
+    fn advised(&self, refusal: &Refusal, k: u64, advice: &str) -> Failure {
+        let also = format!("{advice}; nothing was changed");
+        refusal::of_request(refusal, self.named, k, self.numbers(), &also)
     }
 
     /// Shows what will change, asks, and saves.

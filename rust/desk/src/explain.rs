@@ -19,7 +19,7 @@ pub fn number(number: u64, out: &mut impl Write) -> Outcome {
     }
 }
 
-/// The numbers that there are, in runs, as `1 to 18, 20 to 22, 27, 28 and 34`.
+/// The numbers that there are, in runs, as `1 to 18, 20 to 22, 25, 27, 28 and 34`.
 fn all_numbers() -> String {
     let numbers: Vec<u64> = Reason::ALL.iter().map(|reason| reason.number()).collect();
     let runs = numbers.chunk_by(|a, b| a + 1 == *b);
@@ -75,9 +75,10 @@ fn place(reason: Reason) -> Option<&'static str> {
         Reason::RecordCount => "the trailer, position 83",
         Reason::Item => "the item of the list, counted from 1",
         Reason::OtherKind => "the record, position 29",
+        Reason::ZeroAmount => "the record, position 34",
         Reason::Length
         | Reason::NoSuchDisposition
-        | Reason::AmountTooLarge
+        | Reason::NotAnAmount
         | Reason::TotalTooLarge
         | Reason::OnlyDisposition
         | Reason::Room
@@ -105,12 +106,17 @@ fn remedy(reason: Reason) -> Option<&'static str> {
         Reason::Total => "The amounts do not add up to the total.",
         Reason::RecordCount => "Records are missing, or there are too many.",
         Reason::NoSuchDisposition => "mavdesk show FILE has the numbers that there are.",
-        Reason::AmountTooLarge => "The largest amount is 99.999.999.999,99 euro.",
+        Reason::NotAnAmount => {
+            "An amount is 0,01 to 99.999.999.999,99 euro. For nothing at all, withdraw the request."
+        }
         Reason::TotalTooLarge => "The largest total is 9.999.999.999.999,99 euro.",
         Reason::OnlyDisposition => "A flow has at least one request. Keep the flow back instead.",
         Reason::Item => "The list was cut short or is no list. Make it again from its flow.",
         Reason::Room => "Programs that use the library see it. mavdesk makes the room.",
         Reason::OtherKind => "The flow has new requests and recalls. Have it sent as two.",
+        Reason::ZeroAmount => {
+            "Have the house correct it or leave the request out, and send the flow again."
+        }
         Reason::TooManyRequests => "Compare smaller flows, such as those of single houses.",
         Reason::KindsDiffer => "Compare requests with requests, and recalls with recalls.",
         Reason::WorkingMemory => "Programs that use the library see it. mavdesk has enough of it.",

@@ -140,7 +140,8 @@ SYNOPSIS
 
 DESCRIPTION
     Shows the amount of request K and the trailer before and after, asks, and
-    saves. EUROS is written as 450 or 450,00 or 450.00, and in no other way.
+    saves. EUROS is written as 450 or 450,00 or 450.00, and in no other way. It
+    is above zero: to ask for nothing, take the request out by mavdesk withdraw.
 
     While this runs, nobody else can amend the flow with mavdesk: they are told
     who does, and since when. The flow as it was is kept as FILE.before.

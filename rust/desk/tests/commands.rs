@@ -641,23 +641,23 @@ two-rents.flow: requests of AB123, 15/03/2026, RENT-MARCH
             "{found}"
         );
     }
-    let zero = amended(&new, &[change(1, 0)]);
-    let ended = folder.run(&["amount", "--yes", "two-rents.flow", "001", "0"]);
+    let cent = amended(&new, &[change(1, 1)]);
+    let ended = folder.run(&["amount", "--yes", "two-rents.flow", "001", "0,01"]);
     ended.printed(
         "\
 two-rents.flow: Request 1, due 31/03/2026, ROSSI GIULIA, reference 0000000017
 
                                           BEFORE                   AFTER
-request 1, amount              99.999.999.999,99                    0,00
+request 1, amount              99.999.999.999,99                    0,01
 trailer, requests                              2                       2
-trailer, total                100.000.000.380,49                  380,50
+trailer, total                100.000.000.380,49                  380,51
 trailer, records                              16                      16
 
 Saved. The flow as it was is kept as two-rents.flow.before.
 ",
     );
     // The version before the last amendment is kept, and no older one.
-    replaced(&folder, "two-rents.flow", &new, &zero);
+    replaced(&folder, "two-rents.flow", &new, &cent);
 }
 
 #[test]
@@ -991,6 +991,25 @@ fn a_number_is_explained_in_full() {
 }
 
 #[test]
+fn amounts_of_zero_are_explained() {
+    let folder = Folder::new();
+    folder.run(&["explain", "16"]).printed(
+        "\
+16  the new amount must be above zero and have at most 13 digits in cents
+    Place: none.
+    An amount is 0,01 to 99.999.999.999,99 euro. For nothing at all, withdraw the request.
+",
+    );
+    folder.run(&["explain", "25"]).printed(
+        "\
+25  this amount is zero, and every amount must be above zero
+    Place: the record, position 34.
+    Have the house correct it or leave the request out, and send the flow again.
+",
+    );
+}
+
+#[test]
 fn all_numbers_are_explained_once_with_the_place_that_documents_01_and_02_give() {
     const FIELD: &str = "the record, and the field's first position";
     let places = [
@@ -1015,6 +1034,7 @@ fn all_numbers_are_explained_once_with_the_place_that_documents_01_and_02_give()
         (20, "the item of the list, counted from 1"),
         (21, "none"),
         (22, "the record, position 29"),
+        (25, "the record, position 34"),
         (27, "none"),
         (28, "none"),
         (34, "none"),
@@ -1051,7 +1071,7 @@ fn a_number_outside_the_table_is_not_explained() {
         folder.run(&["explain", number]).failed(
             2,
             &format!(
-                "mavdesk: there is no number {number}; the numbers are 1 to 18, 20 to 22, 27, 28 and 34.\n"
+                "mavdesk: there is no number {number}; the numbers are 1 to 18, 20 to 22, 25, 27, 28 and 34.\n"
             ),
         );
     }

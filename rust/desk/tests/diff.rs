@@ -316,9 +316,9 @@ fn a_changed_amount_is_told_before_and_after() {
         "                830,49                 -0,01",
     );
     changed(
-        rossi().cents(0),
-        "                          0,00",
-        "                380,50               -450,00",
+        rossi().cents(1),
+        "                          0,01",
+        "                380,51               -449,99",
     );
     changed(
         rossi().cents(9_999_999_999_999),

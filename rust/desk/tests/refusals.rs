@@ -42,7 +42,7 @@ const fn refused(
 }
 
 /// The samples whose refusal marks a position.
-const MARKED: [Refused; 13] = [
+const MARKED: [Refused; 14] = [
     refused(
         "refused-02-byte.flow",
         2,
@@ -133,6 +133,13 @@ const MARKED: [Refused; 13] = [
         (9, 29),
         "a request and a recall may not share a flow, and the first one was of the other kind",
         "07100",
+    ),
+    refused(
+        "refused-25-nothing.flow",
+        25,
+        (9, 34),
+        "this amount is zero, and every amount must be above zero",
+        "0000000000000-",
     ),
 ];
 
@@ -284,7 +291,7 @@ const ACCEPTED: [(&str, &str); 5] = [
 ];
 
 #[test]
-fn every_one_of_forty_flows_in_a_folder_is_judged_once() {
+fn every_flow_of_a_folder_is_judged_once() {
     let folder = Folder::new();
     fs::create_dir(folder.path("night")).unwrap();
     let mut samples: Vec<(&str, String, String)> = Vec::new();
@@ -292,29 +299,29 @@ fn every_one_of_forty_flows_in_a_folder_is_judged_once() {
     for (file, place, told) in flows() {
         samples.push((file, format!("   {place}"), told));
     }
-    assert_eq!(samples.len(), 20);
-    let flow = |index: usize| (format!("night/house-{index:02}.flow"), &samples[index % 20]);
+    assert_eq!(samples.len(), 21);
+    let flow = |index: usize| (format!("night/house-{index:02}.flow"), &samples[index % 21]);
     // The files are not made in the order of their names.
-    for index in (0..40).map(|index| index * 7 % 40) {
+    for index in (0..42).map(|index| index * 5 % 42) {
         let (name, (from, ..)) = flow(index);
         fs::write(folder.path(&name), sample(from)).unwrap();
     }
     let mut rows = String::new();
     let mut pictures = String::new();
-    for (name, (_, verdict, told)) in (0..40).map(flow) {
+    for (name, (_, verdict, told)) in (0..42).map(flow) {
         rows += &format!("{name}{verdict}\n");
         if !told.is_empty() {
             pictures += &format!("\n{name}: {told}");
         }
     }
-    // 40 flows are the 20 samples twice: twice 45 requests and 24.361,00 euro, and twice the two rents
+    // 42 flows are the 21 samples twice: twice 45 requests and 24.361,00 euro, and twice the two rents
     // recalled.
     let ended = folder.run(&["check", "night"]);
     assert_eq!(
         ended.out,
         format!(
             "FLOW                  KIND         COUNT                 TOTAL    RECORDS\n{rows}\n\
-             10 flows accepted: 90 requests, 48.722,00 euro; 4 recalls, 1.661,00 euro. 30 refused.\n\
+             10 flows accepted: 90 requests, 48.722,00 euro; 4 recalls, 1.661,00 euro. 32 refused.\n\
              {pictures}"
         )
     );
@@ -568,11 +575,54 @@ fn number_16_is_given_above_the_largest_amount() {
     ] {
         folder.answer(&["amount", "two-rents.flow", "1", euros], "y\n").failed(
             1,
-            "mavdesk: request 1 of two-rents.flow: refused 16: the new amount has more than 13 digits in \
-             cents; nothing was changed.\n",
+            "mavdesk: request 1 of two-rents.flow: refused 16: the new amount must be above zero and \
+             have at most 13 digits in cents; nothing was changed.\n",
         );
         untouched(&folder, "two-rents.flow", &sample("two-rents.flow"));
     }
+}
+
+#[test]
+fn number_16_is_given_for_an_amount_of_zero_and_15_before_it() {
+    for (name, one) in [
+        ("two-rents.flow", "request"),
+        ("two-rents-recall.flow", "recall"),
+    ] {
+        let folder = Folder::with(&[name]);
+        for (k, euros) in [("1", "0"), ("2", "0,00"), ("2", "0.00")] {
+            for words in [&["amount"][..], &["amount", "--yes"]] {
+                let words = [words, &[name, k, euros]].concat();
+                folder.answer(&words, "y\n").failed(
+                    1,
+                    &format!(
+                        "mavdesk: {one} {k} of {name}: refused 16: the new amount must be above zero and \
+                         have at most 13 digits in cents; withdraw the {one} instead; nothing was \
+                         changed.\n"
+                    ),
+                );
+                untouched(&folder, name, &sample(name));
+            }
+        }
+        folder.run(&["amount", "--yes", name, "3", "0"]).failed(
+            1,
+            &format!(
+                "mavdesk: {one} 3 of {name}: refused 15: the flow has no disposition of that number; it \
+                 has the {one}s 1 to 2; nothing was changed.\n"
+            ),
+        );
+        untouched(&folder, name, &sample(name));
+    }
+}
+
+#[test]
+fn an_amount_of_zero_for_the_only_request_is_not_told_to_be_withdrawn() {
+    let folder = Folder::with(&["one-rent.flow"]);
+    folder.run(&["amount", "--yes", "one-rent.flow", "1", "0"]).failed(
+        1,
+        "mavdesk: request 1 of one-rent.flow: refused 16: the new amount must be above zero and have at \
+         most 13 digits in cents; keep the flow back instead; nothing was changed.\n",
+    );
+    untouched(&folder, "one-rent.flow", &sample("one-rent.flow"));
 }
 
 #[test]
@@ -860,7 +910,7 @@ fn every_number_but_21_and_34_is_reached_with_the_sentence_that_explains_it() {
     }
     cases.sort();
     let numbers: Vec<u64> = cases.iter().map(|(number, _)| *number).collect();
-    let due: Vec<u64> = (1..=18).chain([20, 22, 27, 28]).collect();
+    let due: Vec<u64> = (1..=18).chain([20, 22, 25, 27, 28]).collect();
     assert_eq!(numbers, due);
     for (number, words) in cases {
         let folder = folder_of("full.flow", &full);

@@ -8,7 +8,7 @@ use crate::raw;
 ///
 /// Refused as by [`read`](crate::read), then by
 /// [`NoSuchDisposition`](crate::Reason::NoSuchDisposition),
-/// [`AmountTooLarge`](crate::Reason::AmountTooLarge) and [`TotalTooLarge`](crate::Reason::TotalTooLarge).
+/// [`NotAnAmount`](crate::Reason::NotAnAmount) and [`TotalTooLarge`](crate::Reason::TotalTooLarge).
 /// It writes positions 34-46 of that disposition's record 14 and the total of the trailer, at 53-67 of
 /// requests and at 68-82 of recalls, and no other byte; a refused call leaves every byte as it was.
 ///
@@ -18,10 +18,12 @@ use crate::raw;
 /// let sample = include_bytes!(concat!(env!("CARGO_MANIFEST_DIR"), "/../../samples/two-rents.flow"));
 /// let mut flow = *sample;
 ///
-/// // An amount of fourteen digits is refused, and the flow is as before.
-/// let refusal = mav::change(&mut flow, 2, 10_000_000_000_000).unwrap_err();
-/// assert_eq!(refusal.reason, Reason::AmountTooLarge);
-/// assert_eq!(&flow, sample);
+/// // An amount of zero or of fourteen digits is refused, and the flow is as before.
+/// for cents in [0, 10_000_000_000_000] {
+///     let refusal = mav::change(&mut flow, 2, cents).unwrap_err();
+///     assert_eq!(refusal.reason, Reason::NotAnAmount);
+///     assert_eq!(&flow, sample);
+/// }
 ///
 /// // Example 2 of document 01: the total becomes 85000.
 /// let accepted = mav::change(&mut flow, 2, 40_000)?;

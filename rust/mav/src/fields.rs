@@ -7,7 +7,7 @@ use crate::answer::{ask, foreign};
 use crate::raw;
 use crate::reason::Reason;
 
-/// Why a field is refused. A field rule's refusal is its number alone, 5 or 8. Later versions add numbers.
+/// Why a field is refused. A field rule's refusal is its number alone, 5, 8 or 25. Later versions add numbers.
 ///
 /// ```
 /// use mav::{FieldRefusal, Reason};
@@ -22,10 +22,12 @@ pub enum FieldRefusal {
     NotDigits,
     /// 8: six digits are no date of the calendar. Only [`date`] gives it.
     NotADate,
+    /// 25: thirteen digits are zero, and an amount is above it. Only [`amount`] gives it.
+    ZeroAmount,
 }
 
 impl FieldRefusal {
-    /// The number in document 01's table.
+    /// The number in the documents.
     ///
     /// ```
     /// assert_eq!(mav::FieldRefusal::NotADate.number(), 8);
@@ -43,6 +45,7 @@ impl FieldRefusal {
         match self {
             FieldRefusal::NotDigits => Reason::NotDigits,
             FieldRefusal::NotADate => Reason::NotADate,
+            FieldRefusal::ZeroAmount => Reason::ZeroAmount,
         }
     }
 }
@@ -59,6 +62,7 @@ impl fmt::Display for FieldRefusal {
         let sentence = match self {
             FieldRefusal::NotDigits => "the field is not digits, or is not of the length due",
             FieldRefusal::NotADate => "the digits of the field are not a date of the calendar",
+            FieldRefusal::ZeroAmount => "the amount is zero, and every amount must be above zero",
         };
         write!(f, "refused {number}: {sentence}")
     }
@@ -82,15 +86,18 @@ pub fn digits(field: &[u8]) -> Result<u64, FieldRefusal> {
     ask_field(|answer| raw::digits(field, answer))
 }
 
-/// The cents that an amount of 13 digits holds.
+/// The cents that an amount of 13 digits holds, which is above zero.
 ///
-/// Refused by [`FieldRefusal::NotDigits`] where a byte is no digit or the length is another.
+/// Refused by [`FieldRefusal::NotDigits`] where a byte is no digit or the length is another, then by
+/// [`FieldRefusal::ZeroAmount`].
 ///
 /// ```
 /// use mav::FieldRefusal;
 ///
 /// assert_eq!(mav::amount(b"0000000045000"), Ok(45_000));
 /// assert_eq!(mav::amount(b"45000"), Err(FieldRefusal::NotDigits));
+/// assert_eq!(mav::amount(b"0000000000000"), Err(FieldRefusal::ZeroAmount));
+/// assert_eq!(mav::amount(b"0000000000001"), Ok(1));
 /// ```
 pub fn amount(field: &[u8]) -> Result<u64, FieldRefusal> {
     ask_field(|answer| raw::amount(field, answer))
@@ -119,7 +126,8 @@ fn ask_field(call: impl FnOnce(&mut raw::Entries) -> u8) -> Result<u64, FieldRef
         Ok(entries) => Ok(entries[0]),
         Err((Reason::NotDigits, ..)) => Err(FieldRefusal::NotDigits),
         Err((Reason::NotADate, ..)) => Err(FieldRefusal::NotADate),
-        // `Demand1` gives the field rules 5 and 8 alone.
+        Err((Reason::ZeroAmount, ..)) => Err(FieldRefusal::ZeroAmount),
+        // `Demand1` gives the field rules 5, 8 and 25 alone.
         Err((reason, ..)) => foreign("refusal number of a field", reason.number()),
     }
 }

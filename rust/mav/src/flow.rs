@@ -8,7 +8,7 @@ use crate::raw;
 
 /// Judges a flow and gives its three numbers and its kind.
 ///
-/// Refused by its first fault, with the numbers 1 to 14 and 22. The bytes are read in place and never copied.
+/// Refused by its first fault, with the numbers 1 to 14, 22 and 25. The bytes are read in place and never copied.
 ///
 /// ```
 /// use mav::{Accepted, FlowKind, Reason, Refusal};

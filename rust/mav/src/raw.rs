@@ -71,7 +71,7 @@ pub fn digits(field: &[u8], answer: &mut Entries) -> u8 {
     unsafe { mav_digits(field.as_ptr(), field.len(), answer) }
 }
 
-/// The cents of a field of 13 digits: entry 0.
+/// The cents of a field of 13 digits, above zero: entry 0.
 #[must_use = "0 says that the call is refused"]
 pub fn amount(field: &[u8], answer: &mut Entries) -> u8 {
     // SAFETY: as for `digits`.

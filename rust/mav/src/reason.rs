@@ -62,8 +62,8 @@ pub enum Reason {
     RecordCount = 14,
     /// 15: there is no disposition of that number, or no line of an account.
     NoSuchDisposition = 15,
-    /// 16: the new amount is above [`MAX_AMOUNT`](crate::MAX_AMOUNT).
-    AmountTooLarge = 16,
+    /// 16: the new amount is 0, or above [`MAX_AMOUNT`](crate::MAX_AMOUNT).
+    NotAnAmount = 16,
     /// 17: the total would be above [`MAX_TOTAL`](crate::MAX_TOTAL).
     TotalTooLarge = 17,
     /// 18: the only disposition is to be withdrawn.
@@ -75,6 +75,8 @@ pub enum Reason {
     Room = 21,
     /// 22: a disposition is of another [kind](crate::FlowKind) than the first one of its flow.
     OtherKind = 22,
+    /// 25: an amount is zero.
+    ZeroAmount = 25,
     /// 27: one of the two flows to be compared has more than [`MAX_COMPARED`](crate::MAX_COMPARED)
     /// dispositions.
     TooManyRequests = 27,
@@ -90,7 +92,7 @@ impl Reason {
     /// ```
     /// use mav::Reason;
     ///
-    /// assert_eq!(Reason::ALL.len(), 24);
+    /// assert_eq!(Reason::ALL.len(), 25);
     /// assert!(Reason::ALL.iter().all(|reason| reason.number() != 19));
     /// ```
     pub const ALL: &'static [Reason] = &[
@@ -109,12 +111,13 @@ impl Reason {
         Reason::Total,
         Reason::RecordCount,
         Reason::NoSuchDisposition,
-        Reason::AmountTooLarge,
+        Reason::NotAnAmount,
         Reason::TotalTooLarge,
         Reason::OnlyDisposition,
         Reason::Item,
         Reason::Room,
         Reason::OtherKind,
+        Reason::ZeroAmount,
         Reason::TooManyRequests,
         Reason::KindsDiffer,
         Reason::WorkingMemory,
@@ -164,7 +167,9 @@ impl Reason {
             Reason::Total => "this total of the trailer is wrong",
             Reason::RecordCount => "the trailer's count of records is wrong",
             Reason::NoSuchDisposition => "the flow has no disposition of that number",
-            Reason::AmountTooLarge => "the new amount has more than 13 digits in cents",
+            Reason::NotAnAmount => {
+                "the new amount must be above zero and have at most 13 digits in cents"
+            }
             Reason::TotalTooLarge => "the total would have more than 15 digits in cents",
             Reason::OnlyDisposition => "the only disposition of a flow cannot be withdrawn",
             Reason::Item => "the list's item of that number is of an unknown kind or is cut short",
@@ -172,6 +177,7 @@ impl Reason {
             Reason::OtherKind => {
                 "a request and a recall may not share a flow, and the first one was of the other kind"
             }
+            Reason::ZeroAmount => "this amount is zero, and every amount must be above zero",
             Reason::TooManyRequests => "flows of more than 256 dispositions cannot be compared",
             Reason::KindsDiffer => "a flow of requests and one of recalls cannot be compared",
             Reason::WorkingMemory => "there is not enough working memory for a comparison",

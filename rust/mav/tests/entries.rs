@@ -109,16 +109,24 @@ fn a_withdrawal_tells_the_length_left() {
 }
 
 #[test]
-fn a_flow_of_both_kinds_tells_none() {
-    let mut flow = sample("refused-22-kind.flow");
-    let mut out = [0; 2_000];
-    let refused = due(0, [22, 9, 29, 0]);
-    assert_eq!(reply(|answer| raw::read(&flow, answer)), refused);
-    assert_eq!(reply(|answer| raw::find(&flow, 1, answer)), refused);
-    assert_eq!(reply(|answer| raw::list(&flow, &mut out, answer)), refused);
-    let told = reply(|answer| raw::change(&mut flow, 1, 0, answer));
-    assert_eq!(told, refused);
-    // Beside it stands the length of what was lent.
-    let told = reply(|answer| raw::withdraw(&mut flow, 1, answer));
-    assert_eq!(told, due(0, [22, 9, 29, 1_920]));
+fn every_call_on_a_refused_flow_tells_its_fault() {
+    for (file, number, position) in [
+        ("refused-22-kind.flow", 22, 29),
+        ("refused-25-nothing.flow", 25, 34),
+    ] {
+        let mut flow = sample(file);
+        let mut out = [0; 2_000];
+        let refused = due(0, [number, 9, position, 0]);
+        assert_eq!(reply(|answer| raw::read(&flow, answer)), refused);
+        assert_eq!(reply(|answer| raw::find(&flow, 2, answer)), refused);
+        assert_eq!(reply(|answer| raw::list(&flow, &mut out, answer)), refused);
+        // Also before 16, and where the new amount would mend it.
+        for cents in [0, 38_050] {
+            let told = reply(|answer| raw::change(&mut flow, 2, cents, answer));
+            assert_eq!(told, refused);
+        }
+        // Beside it stands the length of what was lent.
+        let told = reply(|answer| raw::withdraw(&mut flow, 2, answer));
+        assert_eq!(told, due(0, [number, 9, position, 1_920]));
+    }
 }

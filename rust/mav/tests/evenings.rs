@@ -481,7 +481,8 @@ fn a_refused_call_leaves_every_byte_and_every_number() {
     let right = sample("two-rents.flow");
     let recalls = sample("two-rents-recall.flow");
     let many = rents(257, 45_000);
-    for reason in Reason::ALL.iter().take(14).chain(&[Reason::OtherKind]) {
+    let of_record_14 = [Reason::OtherKind, Reason::ZeroAmount];
+    for reason in Reason::ALL.iter().take(14).chain(&of_record_14) {
         let file = refused_flow(reason.number());
         let wrong = sample(&file);
         for (old, new) in [(&wrong, &right), (&right, &wrong), (&wrong, &wrong)] {

@@ -76,7 +76,9 @@ fn no_disposition_has_the_number_0_or_one_above_the_count() {
         assert_eq!(mav::find(&flow, k), Err(refusal), "{k}");
         assert_eq!(mav::withdraw(&mut flow, k), Err(refusal), "{k}");
         // Before the amount is looked at.
-        assert_eq!(mav::change(&mut flow, k, u64::MAX), Err(refusal), "{k}");
+        for cents in [0, u64::MAX] {
+            assert_eq!(mav::change(&mut flow, k, cents), Err(refusal), "{k}");
+        }
     }
     assert_eq!(flow, sample("two-rents.flow"));
 }
@@ -84,14 +86,15 @@ fn no_disposition_has_the_number_0_or_one_above_the_count() {
 #[test]
 fn amounts_at_the_limit() {
     let mut flow = sample("two-rents.flow");
-    let refusal = of_call(Reason::AmountTooLarge);
-    assert_eq!(mav::change(&mut flow, 1, MAX_AMOUNT + 1), Err(refusal));
-    assert_eq!(mav::change(&mut flow, 1, u64::MAX), Err(refusal));
+    let refusal = of_call(Reason::NotAnAmount);
+    for cents in [0, MAX_AMOUNT + 1, u64::MAX] {
+        assert_eq!(mav::change(&mut flow, 1, cents), Err(refusal), "{cents}");
+    }
     assert_eq!(flow, sample("two-rents.flow"));
     // 9999999999999 + 38050.
     let told = mav::change(&mut flow, 1, MAX_AMOUNT);
     assert_eq!(told, Ok(accepted(2, 10_000_000_038_049, 16)));
-    assert_eq!(mav::change(&mut flow, 1, 0), Ok(accepted(2, 38_050, 16)));
+    assert_eq!(mav::change(&mut flow, 1, 1), Ok(accepted(2, 38_051, 16)));
 }
 
 #[test]

@@ -143,6 +143,10 @@ fn the_example_writes_one_line() {
             "refused 9 record 9 position 4\n",
         ),
         ("refused-22-kind.flow", "refused 22 record 9 position 29\n"),
+        (
+            "refused-25-nothing.flow",
+            "refused 25 record 9 position 34\n",
+        ),
         ("refused-03-empty.list", "refused 1 record 0 position 0\n"),
     ] {
         let told = run(&program, file);

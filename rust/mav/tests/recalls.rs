@@ -173,8 +173,10 @@ fn refused_calls_leave_every_byte() {
         assert_eq!(mav::withdraw(&mut flow, k), Err(refusal));
         assert_eq!(mav::withdraw_in_place(&mut flow, k), Err(refusal));
     }
-    let told = mav::change(&mut flow, 1, MAX_AMOUNT + 1);
-    assert_eq!(told, Err(of_call(Reason::AmountTooLarge)));
+    for cents in [0, MAX_AMOUNT + 1] {
+        let told = mav::change(&mut flow, 1, cents);
+        assert_eq!(told, Err(of_call(Reason::NotAnAmount)));
+    }
     assert_eq!(flow, before);
     let mut out = [b'#'; 1_920];
     let refusal = of_call(Reason::Room);

@@ -79,7 +79,7 @@ const ACCEPTED: [Row; 10] = [
     ),
 ];
 
-const REFUSED: [Row; 25] = [
+const REFUSED: [Row; 26] = [
     (
         "refused-01-length.flow",
         Read,
@@ -191,6 +191,11 @@ const REFUSED: [Row; 25] = [
         "refused 22 record 9 position 29",
     ),
     (
+        "refused-25-nothing.flow",
+        Read,
+        "refused 25 record 9 position 34",
+    ),
+    (
         "two-rents.flow",
         CompareRents(257),
         "refused 27 record 0 position 0",
@@ -267,7 +272,7 @@ fn every_number_of_the_documents_is_reached() {
 #[test]
 fn the_numbers_are_those_of_the_documents() {
     let due = [
-        1, 2, 3, 4, 5, 6, 7, 8, 9, 10, 11, 12, 13, 14, 15, 16, 17, 18, 20, 21, 22, 27, 28, 34,
+        1, 2, 3, 4, 5, 6, 7, 8, 9, 10, 11, 12, 13, 14, 15, 16, 17, 18, 20, 21, 22, 25, 27, 28, 34,
     ];
     let numbers: Vec<u64> = Reason::ALL.iter().map(|reason| reason.number()).collect();
     assert_eq!(numbers, due);

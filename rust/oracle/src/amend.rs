@@ -5,11 +5,12 @@
 //! read, never by summing the records that were moved.
 
 use crate::answer::{number, Accepted, Answer, Refusal};
-use crate::fields::{write_digits, MAX_AMOUNT, MAX_TOTAL};
+use crate::fields::{is_amount, write_digits, MAX_TOTAL};
 use crate::find::locate;
 use crate::record::{field_mut, record_type, Record, RECORD_LEN};
 
 /// Changes the amount of disposition `k`: the reader's refusals, 15, 16, 17.
+/// 16 is given for an amount of 0 too (document 02, E5).
 ///
 /// Only 34-46 of its record 14 and the kind's total of EF may differ
 /// afterwards: 53-67, of recalls 68-82 (document 02, E1).
@@ -30,8 +31,8 @@ pub fn withdraw(flow: &mut [u8], k: u64) -> (Answer, usize) {
 
 fn try_change(flow: &mut [u8], k: u64, cents: u64) -> Result<Accepted, Refusal> {
     let (accepted, disposition) = locate(flow, k)?;
-    if cents > MAX_AMOUNT {
-        return Err(Refusal::of_call(number::AMOUNT_LIMIT));
+    if !is_amount(cents) {
+        return Err(Refusal::of_call(number::NOT_AN_AMOUNT));
     }
     let total = accepted.cents - disposition.cents + cents;
     if total > MAX_TOTAL {

@@ -1,6 +1,6 @@
 //! Named cases for amount change and withdrawal (document 01, "Questions and
-//! changes"; document 02, E1): a flow, and the calls on it, each lent what the
-//! one before left.
+//! changes"; document 02, E1 and E5): a flow, and the calls on it, each lent
+//! what the one before left.
 //!
 //! Where records move, every record of a disposition is tagged
 //! (`Flow::tagged`), so that one which is lost, comes twice or stands at
@@ -282,25 +282,26 @@ const LAST_OF_TWO: [Asked; 5] = [
 ];
 
 #[rustfmt::skip]
-const ONE_RENT: [Asked; 10] = [
-    withdraw(1), withdraw(0), withdraw(2), withdraw(u64::MAX), change(1, 0), withdraw(1),
-    change(1, MAX_AMOUNT), change(0, 5), change(2, 5), withdraw(1),
+const ONE_RENT: [Asked; 11] = [
+    withdraw(1), withdraw(0), withdraw(2), withdraw(u64::MAX), change(1, 0), change(1, 1),
+    withdraw(1), change(1, MAX_AMOUNT), change(0, 5), change(2, 5), withdraw(1),
 ];
 
 #[rustfmt::skip]
-const AMOUNTS: [Asked; 18] = [
-    change(1, 45_000), change(1, 0), change(1, 0), change(2, 0), change(1, 1),
-    change(2, MAX_AMOUNT), change(1, MAX_AMOUNT), change(1, MAX_AMOUNT + 1),
+const AMOUNTS: [Asked; 20] = [
+    change(1, 45_000), change(1, 0), show(2), change(2, 1), change(2, 0), change(1, 1),
+    change(1, 0), change(2, MAX_AMOUNT), change(1, MAX_AMOUNT), change(1, MAX_AMOUNT + 1),
     change(1, 10_000_000_045_000), change(2, 1 << 32), change(2, 1 << 44), change(2, 1 << 63),
     change(1, u64::MAX), change(1, u64::MAX - MAX_AMOUNT + 1), change(1, 1_234_567_890_123),
     show(2), show(9), show(16),
 ];
 
 #[rustfmt::skip]
-const PRECEDENCE: [Asked; 12] = [
+const PRECEDENCE: [Asked; 18] = [
     change(0, MAX_AMOUNT + 1), change(3, MAX_AMOUNT + 1), change(3, u64::MAX),
-    change(2, MAX_AMOUNT + 1), withdraw(0), withdraw(3), withdraw(1), withdraw(2), withdraw(0),
-    withdraw(1), change(2, MAX_AMOUNT + 1), change(1, MAX_AMOUNT + 1),
+    change(2, MAX_AMOUNT + 1), change(0, 0), change(3, 0), change(u64::MAX, 0), change(2, 0),
+    withdraw(0), withdraw(3), withdraw(1), withdraw(2), withdraw(0), withdraw(1),
+    change(2, MAX_AMOUNT + 1), change(1, MAX_AMOUNT + 1), change(2, 0), change(1, 0),
 ];
 
 const RISING: &[Variant] = ORDERS[0].1;
@@ -321,7 +322,7 @@ const WITHDRAWN: [(&str, &[Variant], &[u64]); 8] = [
 
 #[rustfmt::skip]
 const EVERY_VARIANT: [Asked; 22] = [
-    change(5, 0), withdraw(4), change(4, 5_005), withdraw(11), change(11, 1), withdraw(1),
+    change(5, 1), withdraw(4), change(4, 5_005), withdraw(11), change(11, 1), withdraw(1),
     change(9, 1), withdraw(5), withdraw(5), change(5, MAX_AMOUNT), withdraw(8), withdraw(7),
     withdraw(1), withdraw(4), withdraw(2), withdraw(3), change(2, 9_009), withdraw(1), withdraw(1),
     change(1, MAX_AMOUNT + 1), change(1, 6_006), show(12),
@@ -363,8 +364,8 @@ const FIRST_FILLED: [Asked; 13] = [
 ];
 
 #[rustfmt::skip]
-const LAST_FILLED: [Asked; 6] = [
-    withdraw(2), change(1, 0), show(1), show(2), show(3), show(10),
+const LAST_FILLED: [Asked; 7] = [
+    withdraw(2), change(1, 0), change(1, 1), show(1), show(2), show(3), show(10),
 ];
 
 /// Bytes put into `TWO`, and what is asked.
@@ -378,11 +379,12 @@ const NOT_CANONICAL: [(&str, &[Change], &[Asked]); 3] = [
 ];
 
 /// What is asked of a refused flow. The second change would set right a total
-/// that is one cent too high.
+/// that is one cent too high; the first two and the withdrawals would take an
+/// amount of zero away.
 #[rustfmt::skip]
-const OF_REFUSED: [Asked; 7] = [
-    change(1, 45_000), change(2, 38_051), change(0, u64::MAX), withdraw(1), withdraw(2),
-    withdraw(0), withdraw(u64::MAX),
+const OF_REFUSED: [Asked; 8] = [
+    change(1, 45_000), change(2, 38_051), change(1, 0), change(0, u64::MAX), withdraw(1),
+    withdraw(2), withdraw(0), withdraw(u64::MAX),
 ];
 
 /// Bytes put into `TWO` of recalls: totals that a change of one kind's place
@@ -397,19 +399,19 @@ const RECALL_TOTALS: [(&str, &[Change]); 3] = [
 /// Dispositions of 12 to 7 records.
 #[rustfmt::skip]
 const FROM_THE_MIDDLE: [Asked; 10] = [
-    withdraw(3), change(3, 0), withdraw(3), withdraw(4), change(3, MAX_AMOUNT), withdraw(2),
+    withdraw(3), change(3, 1), withdraw(3), withdraw(4), change(3, MAX_AMOUNT), withdraw(2),
     change(1, 7_007), withdraw(1), withdraw(1), show(9),
 ];
 
 /// 101 dispositions of 7 records: a hundred of the largest amount and one of
 /// 99 cents.
 #[rustfmt::skip]
-const LIMIT: [Asked; 22] = [
+const LIMIT: [Asked; 23] = [
     change(101, 100), change(101, 99), change(1, MAX_AMOUNT), change(101, MAX_AMOUNT),
     change(101, MAX_AMOUNT + 1), change(101, u64::MAX), change(102, MAX_AMOUNT + 1),
     change(102, 100), change(0, 100), change(50, MAX_AMOUNT - 1), change(101, 101),
     change(101, 100), change(50, MAX_AMOUNT), change(50, MAX_AMOUNT - 1), change(101, 0),
-    change(50, MAX_AMOUNT), change(101, 99), withdraw(1), change(100, MAX_AMOUNT), withdraw(100),
+    change(101, 1), change(50, MAX_AMOUNT), change(101, 99), withdraw(1), change(100, MAX_AMOUNT), withdraw(100),
     change(100, 1), withdraw(99),
 ];
 

@@ -4,8 +4,8 @@ use std::fmt;
 
 use crate::kind::FlowKind;
 
-/// The refusal numbers of document 01's table and of document 02, E1 and E7.
-/// Number 19 is not used.
+/// The refusal numbers of document 01's table and of document 02, E1, E5
+/// and E7. Number 19 is not used.
 pub mod number {
     pub const LENGTH: u8 = 1;
     pub const BYTE: u8 = 2;
@@ -22,12 +22,13 @@ pub mod number {
     pub const TOTAL: u8 = 13;
     pub const RECORD_COUNT: u8 = 14;
     pub const NO_SUCH_DISPOSITION: u8 = 15;
-    pub const AMOUNT_LIMIT: u8 = 16;
+    pub const NOT_AN_AMOUNT: u8 = 16;
     pub const TOTAL_LIMIT: u8 = 17;
     pub const ONLY_DISPOSITION: u8 = 18;
     pub const ITEM: u8 = 20;
     pub const OUTPUT: u8 = 21;
     pub const OTHER_KIND: u8 = 22;
+    pub const ZERO_AMOUNT: u8 = crate::fields::ZERO_AMOUNT;
     pub const REQUESTS_LIMIT: u8 = 27;
     pub const KINDS_DIFFER: u8 = 28;
     pub const WORKING_MEMORY: u8 = 34;

@@ -1,10 +1,13 @@
 //! Damage to flows and request lists, in every way a rule can be broken.
 
-use crate::fields::{amount, digits, write_digits};
-use crate::generate::kind_of;
+use std::ops::Range;
+
+use crate::fields::{digits, write_digits};
+use crate::generate::{cents_of, kind_of, unused};
 use crate::kind::FlowKind;
-use crate::list::items;
-use crate::record::{field, field_mut, put, record_type, Record, RECORD_LEN};
+use crate::ledger::CENTS;
+use crate::list::{items, Item};
+use crate::record::{field_mut, put, record_type, Record, RECORD_LEN};
 use crate::rng::Rng;
 
 /// First and last position of a field.
@@ -55,7 +58,7 @@ const OUTSIDE: [u8; 6] = [0, 31, 127, 128, 255, b'\n'];
 
 /// Damages a flow once. At times nothing that is checked has changed.
 pub fn damage_flow(rng: &mut Rng, flow: &mut Vec<u8>) {
-    match rng.below(38) {
+    match rng.below(41) {
         0..=13 => damage_record(rng, flow, 1),
         14..=17 => damage_record(rng, flow, 2),
         18 => change_type(rng, flow),
@@ -73,6 +76,7 @@ pub fn damage_flow(rng: &mut Rng, flow: &mut Vec<u8>) {
         31..=33 => damage_kind(rng, flow),
         34 => turn_kind(rng, flow),
         35..=36 => damage_totals(rng, flow),
+        37..=39 => zero_amount(rng, flow),
         _ => put_anywhere(rng, flow),
     }
 }
@@ -235,7 +239,7 @@ fn copy_block(rng: &mut Rng, flow: &mut Vec<u8>) {
     let renumber = rng.one_in(4);
     let records = records_of(flow);
     let kind = kind_of(records);
-    let cents = amount(field(&records[start], 34, 46)).unwrap_or(0);
+    let cents = cents_of(&records[start]);
     if renumber && place == kinds.len() - 1 {
         for record in &mut records[place..place + end - start] {
             write_digits(field_mut(record, 4, 10), starts.len() as u64 + 1);
@@ -329,13 +333,53 @@ const NO_CAUSALES: [&[u8; 5]; 12] = [
     b"     ", b"0710O", b"7100 ",
 ];
 
-/// A record 14 of the flow; the first comes more often than others.
+/// A record 14 of the flow; the first and the last come more often than others.
 fn any_opening<'a>(rng: &mut Rng, flow: &'a mut [u8]) -> Option<&'a mut Record> {
     let kind = |record: &&mut Record| record_type(record) == *b"14";
     let mut openings: Vec<&mut Record> = records_of(flow).iter_mut().filter(kind).collect();
-    let inside = rng.index(openings.len());
-    let index = rng.pick(&[0, inside, inside]);
+    let index = any_index(rng, openings.len());
     (index < openings.len()).then(|| openings.swap_remove(index))
+}
+
+/// An index of so many; the first and the last come more often than others.
+fn any_index(rng: &mut Rng, len: usize) -> usize {
+    let inside = rng.index(len);
+    rng.pick(&[0, len.saturating_sub(1), inside, inside])
+}
+
+/// Makes the amount of a record 14 zero. Mostly the trailer's total agrees, and
+/// mostly nothing else is wrong; at times the same record or any record is
+/// spoiled besides.
+pub(crate) fn zero_amount(rng: &mut Rng, flow: &mut [u8]) {
+    let kind = kind_of(records_of(flow));
+    let Some(opening) = any_opening(rng, flow) else {
+        return;
+    };
+    let cents = cents_of(opening);
+    field_mut(opening, 34, 46).fill(b'0');
+    let besides = rng.below(5);
+    if besides == 0 {
+        spoil_beside(rng, opening);
+    }
+    if !rng.one_in(3) {
+        if let Some(trailer) = records_of(flow).last_mut() {
+            add_to(kind.total_mut(trailer), -(cents as i64));
+        }
+    }
+    if besides == 1 {
+        damage_record(rng, flow, 1);
+    }
+}
+
+/// Spoils a record 14 once more: its amount, another checked field, or where
+/// nothing is checked.
+fn spoil_beside(rng: &mut Rng, opening: &mut Record) {
+    let (first, last) = match rng.below(6) {
+        0 => (34, 46),
+        1 => rng.pick(unused(opening)),
+        _ => rng.pick(checked(*b"14")),
+    };
+    spoil_anyhow(rng, field_mut(opening, first, last));
 }
 
 /// Gives a record 14 the causale or the sign of the other kind, both, or the
@@ -420,11 +464,10 @@ fn crowd_details(rng: &mut Rng, flow: &mut Vec<u8>) {
 
 /// Damages a request list once.
 pub fn damage_list(rng: &mut Rng, list: &mut Vec<u8>) {
-    let starts = item_starts(list);
-    let item = rng.index(starts.len());
-    let start = starts.get(item).copied().unwrap_or(0);
-    let end = starts.get(item + 1).copied().unwrap_or(list.len());
-    match rng.below(17) {
+    let spans = item_spans(list);
+    let item = rng.index(spans.len());
+    let Range { start, end } = spans.get(item).cloned().unwrap_or(0..list.len());
+    match rng.below(19) {
         0 => list.truncate(rng.index(list.len() + 1)),
         1 => list.truncate(start + 1),
         2 => list.clear(),
@@ -439,6 +482,7 @@ pub fn damage_list(rng: &mut Rng, list: &mut Vec<u8>) {
         11 => turn_header(list),
         12 => add_header(rng, list, start),
         13 => move_header(list, end),
+        14..=15 => zero_item(rng, list),
         _ => spoil_body(rng, list, start + 1, end),
     }
 }
@@ -491,6 +535,19 @@ fn move_header(list: &mut [u8], end: usize) {
     }
 }
 
+/// Makes the amount of an item D zero; at times its body is spoiled besides.
+fn zero_item(rng: &mut Rng, list: &mut [u8]) {
+    let mut openings = item_spans(list);
+    openings.retain(|span| list[span.start] == b'D');
+    let index = any_index(rng, openings.len());
+    if let Some(Range { start, end }) = openings.get(index).cloned() {
+        list[start..end][CENTS].fill(b'0');
+        if rng.one_in(3) {
+            spoil_body(rng, list, start + 1, end);
+        }
+    }
+}
+
 /// Spoils some bytes of an item's body.
 fn spoil_body(rng: &mut Rng, list: &mut [u8], start: usize, end: usize) {
     if let Some(body) = list.get_mut(start..end).filter(|body| !body.is_empty()) {
@@ -500,15 +557,15 @@ fn spoil_body(rng: &mut Rng, list: &mut [u8], start: usize, end: usize) {
     }
 }
 
-/// Where the items of a list start, as far as they are whole.
-fn item_starts(list: &[u8]) -> Vec<usize> {
-    let mut start = 0;
-    let mut starts = Vec::new();
-    for item in items(list).flatten() {
-        starts.push(start);
-        start += 1 + item.body.len();
-    }
-    starts
+/// Where the items of a list stand, as far as they are whole.
+fn item_spans(list: &[u8]) -> Vec<Range<usize>> {
+    let mut end = 0;
+    let span = |item: Item| {
+        let start = end;
+        end += 1 + item.body.len();
+        start..end
+    };
+    items(list).flatten().map(span).collect()
 }
 
 fn set(bytes: &mut [u8], index: usize, byte: u8) {

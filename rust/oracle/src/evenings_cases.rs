@@ -1,20 +1,20 @@
-//! Cases for what differs between two evenings (document 02, E7): named ones,
-//! and generated pairs of flows.
+//! Cases for what differs between two evenings (document 02, E7; amounts of zero
+//! by E5): named ones, and generated pairs of flows.
 //!
 //! Most named flows are set down by letters, one for each request, the same
 //! letter for the same request. The letters b and c have more records than the
 //! others, so that the number of a record 14 tells which request it opens.
 //! The others differ in a single byte, far from the record 14.
 
-use crate::damage::damage_flow;
+use crate::damage::{damage_flow, zero_amount};
 use crate::evenings::{account, MIN_WORK};
-use crate::fields::{amount, write_digits};
+use crate::fields::{write_digits, MIN_AMOUNT};
 use crate::find_cases::{LARGE, LOOK_ALIKES};
-use crate::generate::{self, kind_of, unused, Draft, Size};
+use crate::generate::{self, cents_of, kind_of, unused, Draft, Size};
 use crate::kind::FlowKind;
 use crate::list::layout_of_record;
-use crate::reader_cases::{Change, Flow, EVERY, ONE};
-use crate::record::{field, field_mut, put, record_type, Record, BLANK_RECORD, RECORD_LEN};
+use crate::reader_cases::{Change, Flow, EVERY, ONE, ZERO};
+use crate::record::{field_mut, put, record_type, Record, BLANK_RECORD, RECORD_LEN};
 use crate::rng::Rng;
 use crate::samples;
 
@@ -226,8 +226,14 @@ impl Cases {
         let first = Flow::of(ONE).with_all(&[NINE]).bytes();
         let second = Flow::of(ONE).with_all(&[THIRTEEN]).bytes();
         let third = Flow::of(ONE).recalled().with_all(&[TEN]).bytes();
+        let zero = flow_with(ONE, &[ZERO_CENTS]);
+        let zero_recall = turned(zero.clone(), FlowKind::Recalls);
         for (name, old, new) in [
             ("both right", &right[..], &right[..]),
+            ("a zero in old", &zero, &right),
+            ("a zero in new", &right, &zero),
+            ("old refused, a zero in new", &first, &zero),
+            ("a zero in old, new refused", &zero, &first),
             ("old refused", &first, &right),
             ("new refused", &right, &first),
             ("both refused", &second, &first),
@@ -235,6 +241,8 @@ impl Cases {
             ("old refused, of recalls", &third, &right),
             ("new refused, of recalls", &right, &third),
             ("both of recalls", &recalls, &recalls),
+            ("a zero in new, both of recalls", &recalls, &zero_recall),
+            ("a zero in old, both of recalls", &zero_recall, &recalls),
             ("new of recalls", &right, &recalls),
             ("old of recalls", &recalls, &right),
             ("no byte and recalls", &[], &recalls),
@@ -247,11 +255,12 @@ impl Cases {
         }
     }
 
-    /// 257 requests and 256, on either side.
+    /// 257 requests and 256, on either side. The refused flow has an amount of
+    /// zero.
     fn many(&mut self) {
         let right = flow_of_letters("a");
         let recalls = recalls_of_letters("a");
-        let wrong = Flow::of(ONE).with_all(&[NINE]).bytes();
+        let wrong = flow_with(ONE, &[ZERO_CENTS]);
         let most: String = "ade".chars().cycle().take(256).collect();
         let too_many = flow_of_letters(&format!("{most}d"));
         let most = flow_of_letters(&most);
@@ -341,9 +350,8 @@ const DETAIL: &[u8] = b"RETTA MARZO 2026                                       \
 
 /// Pairs of one request each.
 #[rustfmt::skip]
-const SAME: [(&str, Of, Of); 16] = [
+const SAME: [(&str, Of, Of); 15] = [
     ("company code and none", (ONE, &[]), (ONE, &[(2, 92, b"     ")])),
-    ("another amount", (ONE, &[]), (ONE, &[(2, 34, b"0000000045001")])),
     ("a byte up, a byte down", (ONE, &[]), (ONE, &[(4, 11, b"S"), (4, 15, b"H")])),
     ("upper and lower case", (ONE, &[]), (ONE, &[(4, 11, b"r")])),
     ("the header's fields", (ONE, &[]),
@@ -367,10 +375,11 @@ const SAME: [(&str, Of, Of); 16] = [
 /// Those of `find_cases::LOOK_ALIKES` that are compared.
 const SHOWN_ALIKE: [&str; 2] = ["14 across two records", "position 1 not blank"];
 
-/// Faults of `ONE`, with 9, 10 and 13.
+/// Faults of `ONE`, with 9, 10, 13 and 25.
 const NINE: Change = (3, 4, b"0000002");
 const TEN: Change = (9, 114, b"L");
 const THIRTEEN: Change = (9, 53, b"000000000045001");
+const ZERO_CENTS: Change = (2, 34, ZERO);
 
 /// With too short a working memory and none of the rest, with enough of it,
 /// and with enough of both.
@@ -488,16 +497,29 @@ fn flows(rng: &mut Rng, most: usize) -> (Vec<u8>, Vec<u8>) {
         turn(&mut new);
     }
     let (mut old, mut new) = (old.flow(), new.flow());
-    match rng.below(24) {
-        0 => damage_flow(rng, &mut old),
-        1 => damage_flow(rng, &mut new),
-        2 => {
-            damage_flow(rng, &mut old);
-            damage_flow(rng, &mut new);
-        }
-        _ => {}
-    }
+    damage(rng, &mut old, &mut new);
     (old, new)
+}
+
+/// Damages one of two flows or both at times; at times an amount of one or of
+/// both is zero.
+fn damage(rng: &mut Rng, old: &mut Vec<u8>, new: &mut Vec<u8>) {
+    let (of_old, of_new, zero) = match rng.below(48) {
+        0 | 1 => (true, false, false),
+        2 | 3 => (false, true, false),
+        4 | 5 => (true, true, false),
+        6 => (true, false, true),
+        7 => (false, true, true),
+        8 => (true, true, true),
+        _ => return,
+    };
+    for (flow, damaged) in [(old, of_old), (new, of_new)] {
+        match (damaged, zero) {
+            (true, true) => zero_amount(rng, flow),
+            (true, false) => damage_flow(rng, flow),
+            _ => {}
+        }
+    }
 }
 
 /// How many requests an evening has.
@@ -516,8 +538,8 @@ fn size(rng: &mut Rng, most: usize) -> usize {
 /// Makes the sum of many amounts one of 15 digits.
 fn lower_amounts(stock: &mut [Vec<Record>]) {
     for opening in stock.iter_mut().filter_map(|block| block.first_mut()) {
-        let cents = amount(field(opening, 34, 46)).unwrap_or(0) % 1_000_000;
-        write_digits(field_mut(opening, 34, 46), cents);
+        let cents = cents_of(opening) % 1_000_000;
+        write_digits(field_mut(opening, 34, 46), cents.max(MIN_AMOUNT));
     }
 }
 

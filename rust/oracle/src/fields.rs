@@ -8,6 +8,8 @@
 pub const NOT_DIGITS: u8 = 5;
 /// Refusal number of six digits that are no calendar date.
 pub const NO_DATE: u8 = 8;
+/// Refusal number of an amount of thirteen zeros (document 02, E5).
+pub const ZERO_AMOUNT: u8 = 25;
 
 /// The longest digit field.
 pub const MAX_DIGITS: usize = 15;
@@ -15,6 +17,8 @@ pub const MAX_DIGITS: usize = 15;
 pub const DATE_LEN: usize = 6;
 /// The length of an amount in cents.
 pub const AMOUNT_LEN: usize = 13;
+/// The least amount.
+pub const MIN_AMOUNT: u64 = 1;
 /// The largest amount, 13 nines.
 pub const MAX_AMOUNT: u64 = 9_999_999_999_999;
 /// The largest total, 15 nines.
@@ -45,13 +49,24 @@ pub fn digits(bytes: &[u8]) -> Result<u64, u8> {
     Ok(value)
 }
 
-/// The value of an amount of thirteen digits, or 5.
+/// The value of an amount: thirteen digits, or 5; above zero, or 25.
 #[inline]
 pub fn amount(bytes: &[u8]) -> Result<u64, u8> {
     if bytes.len() != AMOUNT_LEN {
         return Err(NOT_DIGITS);
     }
-    digits(bytes)
+    let cents = digits(bytes)?;
+    if !is_amount(cents) {
+        return Err(ZERO_AMOUNT);
+    }
+    Ok(cents)
+}
+
+/// Whether so many cents are an amount: above zero, and of at most thirteen
+/// digits.
+#[inline]
+pub fn is_amount(cents: u64) -> bool {
+    (MIN_AMOUNT..=MAX_AMOUNT).contains(&cents)
 }
 
 /// The day that six digits GGMMAA name, year 2000+AA. The wrong length or a

@@ -6,8 +6,8 @@
 //! hold a whole disposition before their fault, so that an answer from a flow
 //! that was not read to its end would be told.
 
-use crate::fields::{write_digits, MAX_AMOUNT};
-use crate::reader_cases::{Change, Flow, AND_14, EVERY, ONE, TWO};
+use crate::fields::{write_digits, MAX_AMOUNT, MIN_AMOUNT};
+use crate::reader_cases::{Change, Flow, AND_14, EVERY, ONE, TWO, ZERO};
 use crate::record::{field_mut, record_type};
 
 /// One flow and the numbers of the dispositions to be found in it.
@@ -82,12 +82,11 @@ pub(crate) const VARIANTS: [Variant; 12] = [
 
 /// Dispositions of different lengths, one after the other.
 #[rustfmt::skip]
-pub(crate) const ORDERS: [(&str, &[Variant]); 5] = [
+pub(crate) const ORDERS: [(&str, &[Variant]); 4] = [
     ("7 to 12 records", &["50", TWO_59, THREE_59, FOUR_59, FIVE_59, AND_FIVE_59]),
     ("12 to 7 records", &[AND_FIVE_59, AND_FOUR_59, AND_THREE_59, AND_TWO_59, "16 50", "59"]),
     ("16 in every other", &["16 50", "50", "16 50", "50", "16 50"]),
     ("8 records each", &["16 50", "16 59", TWO_59]),
-    ("every variant", &VARIANTS),
 ];
 
 /// The types of a disposition's records.
@@ -140,21 +139,25 @@ impl Cases {
         }
     }
 
-    /// Each disposition of flows of several lengths, and of many.
+    /// Each disposition of flows of several lengths, and of many: every variant
+    /// twice and more, and records beyond the 255th.
     fn orders(&mut self) {
         for (name, variants) in ORDERS {
             let flow = flow_of_variants(variants);
             self.push(name, flow.bytes(), all_up_to(variants.len()));
         }
-        let many = VARIANTS.repeat(3);
+        let many: Vec<Variant> = VARIANTS.into_iter().cycle().take(30).collect();
         let flow = flow_of_variants(&many);
-        self.push("36 dispositions", flow.bytes(), all_up_to(many.len()));
+        self.push("30 dispositions", flow.bytes(), all_up_to(many.len()));
     }
 
-    /// The least and the largest amount, and one of thirteen digits.
+    /// The least and the largest amount, and one of thirteen digits; their total
+    /// has fifteen.
     fn amounts(&mut self) {
-        let amounts = [0, MAX_AMOUNT, 1, 1_234_567_890_123];
-        let flow = flow_of(&amounts.map(|cents| ("50", cents)));
+        let largest = [MAX_AMOUNT; 11];
+        let amounts = [&[MIN_AMOUNT], &largest[..], &[10, 1_234_567_890_123]].concat();
+        let dispositions: Vec<(Variant, u64)> = amounts.iter().map(|&c| ("50", c)).collect();
+        let flow = flow_of(&dispositions);
         self.push("amounts", flow.bytes(), all_up_to(amounts.len()));
     }
 
@@ -260,7 +263,7 @@ pub(crate) const CUT: [(&str, &str); 4] = [
 /// Bytes put into `TWO`, whose second 14 is record 9 and whose EF is
 /// record 16.
 #[rustfmt::skip]
-pub(crate) const FAULTS: [(&str, &[Change]); 16] = [
+pub(crate) const FAULTS: [(&str, &[Change]); 17] = [
     ("6 in IM", &[(1, 114, b"L")]),
     ("2 in the last byte", &[(16, 120, b"\x7f")]),
     ("3 in the second 70", &[(15, 2, b"14")]),
@@ -269,7 +272,6 @@ pub(crate) const FAULTS: [(&str, &[Change]); 16] = [
     ("7 in the second 30", &[(11, 11, &[b' '; 30])]),
     ("8 in the second 14", &[(9, 23, b"290227")]),
     ("9 in the second 14", &[(9, 4, b"0000003")]),
-    ("9 in the second 20", &[(10, 4, b"0000001")]),
     ("10 in EF", &[(16, 114, b"L")]),
     ("11 in the second 14", &[(9, 92, b"AB124")]),
     ("12 in EF", &[(16, 46, b"0000003")]),
@@ -277,11 +279,14 @@ pub(crate) const FAULTS: [(&str, &[Change]); 16] = [
     ("13 in EF at 68", &[(16, 68, b"000000000000001")]),
     ("14 in EF", &[(16, 83, b"0000023")]),
     ("22 in the second 14", &[(9, 29, b"07100"), (9, 47, b"+")]),
+    ("25 in the first 14", &[(2, 34, ZERO), (16, 53, b"000000000038050")]),
+    ("25 in the second 14", &[(9, 34, ZERO), (16, 53, b"000000000045000")]),
 ];
 
 /// Bytes put into `TWO` of recalls.
 #[rustfmt::skip]
-pub(crate) const RECALL_FAULTS: [(&str, &[Change]); 2] = [
+pub(crate) const RECALL_FAULTS: [(&str, &[Change]); 3] = [
     ("recalls: 22 in the second 14", &[(9, 29, b"07000"), (9, 47, b"-")]),
     ("recalls: EF as of requests", &[(16, 53, b"000000000083050000000000000000")]),
+    ("recalls: 25 in the second 14", &[(9, 34, ZERO), (16, 68, b"000000000045000")]),
 ];

@@ -2,7 +2,7 @@
 //! often as of recalls. The same seed gives the same cases.
 
 use crate::damage::{damage_flow, damage_in_turn, damage_list};
-use crate::fields::{amount, write_digits, MAX_AMOUNT, MAX_TOTAL};
+use crate::fields::{amount, write_digits, MAX_AMOUNT, MAX_TOTAL, MIN_AMOUNT};
 use crate::kind::FlowKind;
 use crate::ledger::Call;
 use crate::list::layout_in;
@@ -89,8 +89,8 @@ pub(crate) fn kind_of(records: &[Record]) -> FlowKind {
         .unwrap_or_default()
 }
 
-/// The amount of a record 14.
-fn cents_of(record: &Record) -> u64 {
+/// The amount of a record 14; 0 if what stands there is none.
+pub(crate) fn cents_of(record: &Record) -> u64 {
     amount(field(record, 34, 46)).unwrap_or(0)
 }
 
@@ -213,19 +213,21 @@ fn sizes_of_544(rng: &mut Rng) -> Vec<usize> {
 
 /// Amounts whose sum is at the limit, a little below, or above it: a hundred
 /// of the largest, which make 99 less than the largest total, one that fills
-/// up, and zeros.
+/// up, and the least for all others.
 fn fill_to_limit(rng: &mut Rng, draft: &mut Draft, size: Size) {
-    let last = match size {
-        Size::AboveLimit => rng.pick(&[100, 101, MAX_AMOUNT]),
-        _ => rng.pick(&[99, 99, 98, 0]),
-    };
     let count = draft.dispositions.len();
+    let others = (count as u64 - 101) * MIN_AMOUNT;
+    let left = MAX_TOTAL - 100 * MAX_AMOUNT - others;
+    let last = match size {
+        Size::AboveLimit => rng.pick(&[left + 1, left + 2, MAX_AMOUNT]),
+        _ => rng.pick(&[left, left, left - 1, MIN_AMOUNT]),
+    };
     let start = rng.index(count);
     for step in 0..count {
         let cents = match step {
             0..100 => MAX_AMOUNT,
             100 => last,
-            _ => 0,
+            _ => MIN_AMOUNT,
         };
         draft.set_cents((start + step) % count, cents);
     }
@@ -369,10 +371,9 @@ fn date(rng: &mut Rng) -> Vec<u8> {
 /// A right amount, often at a limit.
 fn cents(rng: &mut Rng) -> u64 {
     match rng.below(10) {
-        0 => 0,
-        1 => 1,
+        0 | 1 => MIN_AMOUNT,
         2 => MAX_AMOUNT,
-        3 => rng.below(MAX_AMOUNT),
+        3 => rng.within(MIN_AMOUNT, MAX_AMOUNT),
         4 => 10_u64.pow(rng.below(13) as u32),
         _ => rng.within(10_000, 120_000),
     }
@@ -510,15 +511,18 @@ pub fn disposition_number(rng: &mut Rng, count: u64) -> u64 {
     }
 }
 
-/// A new amount: also at the limit, above it, or as large as can be.
+/// A new amount: also 0 and the least, at the limit, above it, or as large as
+/// can be.
 pub fn new_amount(rng: &mut Rng) -> u64 {
-    match rng.below(16) {
+    match rng.below(20) {
         0 => MAX_AMOUNT + 1,
         1 => u64::MAX,
         2 => rng.bits(),
         3 => MAX_TOTAL,
         4 | 5 => MAX_AMOUNT,
         6 => rng.below(200),
+        7..=9 => 0,
+        10 => MIN_AMOUNT,
         _ => cents(rng),
     }
 }

@@ -1,12 +1,12 @@
 //! The ledger: a request list kept from the calls alone (document 01,
 //! "Questions and changes", from "The sheet of demand 3" on; its kind by
-//! document 02, E1).
+//! document 02, E1, and no amount of 0 by E5).
 //!
 //! It is defined on items and calls only. No flow is read or amended here,
 //! so that it can be held against the amendments.
 
 use crate::answer::{number, Accepted, Answer, Refusal};
-use crate::fields::{amount, write_digits, MAX_AMOUNT, MAX_TOTAL};
+use crate::fields::{amount, is_amount, write_digits, MAX_TOTAL};
 use crate::kind::FlowKind;
 use crate::list::items;
 use crate::record::RECORD_LEN;
@@ -25,11 +25,11 @@ pub struct Ledger {
 }
 
 /// Where 34-46 stand in an item D: after the kind and the six bytes of 23-28.
-const CENTS: std::ops::Range<usize> = 7..20;
+pub(crate) const CENTS: std::ops::Range<usize> = 7..20;
 
 impl Ledger {
     /// The ledger that starts as this list. There is none if an item is of
-    /// unknown kind or cut short, or an amount is not digits.
+    /// unknown kind or cut short, or an amount is not digits or zero.
     pub fn new(list: &[u8]) -> Option<Ledger> {
         let mut rows = Vec::new();
         for item in items(list) {
@@ -61,11 +61,12 @@ impl Ledger {
         }
     }
 
-    /// Refused by 15, 16, 17; else the k-th D gets the new amount.
+    /// Refused by 15, 16 (an amount of 0 too), 17; else the k-th D gets the new
+    /// amount.
     fn change(&mut self, k: u64, cents: u64) -> Result<Accepted, Refusal> {
         let (start, _) = self.disposition(k)?;
-        if cents > MAX_AMOUNT {
-            return Err(Refusal::of_call(number::AMOUNT_LIMIT));
+        if !is_amount(cents) {
+            return Err(Refusal::of_call(number::NOT_AN_AMOUNT));
         }
         let old = cents_of(&self.items[start]).unwrap_or(0);
         if self.total() - u128::from(old) + u128::from(cents) > u128::from(MAX_TOTAL) {

@@ -1,8 +1,9 @@
 //! M.Av. flows of 120-byte records, requests and recalls, by the rules of
-//! document 01 and of requests E1 and E7 of document 02: the field rules, the
-//! reader, where a disposition is, request lists, amount change and withdrawal,
-//! the ledger that says what a list of calls leaves, and what differs between
-//! two evenings. Beside them stand generated cases and sample files.
+//! document 01 and of requests E1, E5 and E7 of document 02: the field rules,
+//! the reader, where a disposition is, request lists, amount change and
+//! withdrawal, the ledger that says what a list of calls leaves, and what
+//! differs between two evenings. Beside them stand generated cases and sample
+//! files.
 //!
 //! The rules of one flow read in place and do not allocate per record. No call
 //! asks anything of its input first, or panics.

@@ -1,6 +1,6 @@
 //! Named cases for request lists (document 01, "Our request list"; document
-//! 02, E1): a list to be written or a flow to be read back, and the room of
-//! each output.
+//! 02, E1 and E5): a list to be written or a flow to be read back, and the room
+//! of each output.
 //!
 //! A list is set down by the kinds of its items, each of them right
 //! (`List::of`), and by the bytes then put into their bodies, by the position
@@ -11,7 +11,7 @@
 use crate::damage::checked;
 use crate::fields::MAX_AMOUNT;
 use crate::find_cases;
-use crate::reader_cases::{Change, Flow, AND_14, EVERY, ONE, TWO};
+use crate::reader_cases::{Change, Flow, AND_14, EVERY, ONE, TWO, ZERO};
 use crate::record::{field, field_mut, record_type, Record, BLANK_RECORD, RECORD_LEN};
 
 /// A list or a flow, and what is asked of it.
@@ -52,6 +52,7 @@ pub fn cases() -> Vec<Case> {
     cases.values();
     cases.bytes_outside();
     cases.changes();
+    cases.zeros();
     cases.many();
     cases.limit();
     cases.back();
@@ -397,6 +398,9 @@ impl Cases {
         let many = List::of(&format!("H {}", [RENT; 12].join(" ")));
         let behind = [&many.bytes()[..], b"W"].concat();
         self.push("20 behind 85 items", behind, &[Write(many.room())]);
+        let zero = List::of(ONE_RENT).with(2, 34, ZERO).bytes();
+        let cut = zero[..zero.len() - 1].to_vec();
+        self.push("20 at the end, 25 in D", cut, &[Write(0), Write(1_080)]);
     }
 
     /// 21 comes before the reader's refusals and before 3.
@@ -406,6 +410,8 @@ impl Cases {
         self.push("7 in H, at several rooms", wrong.bytes(), &rooms);
         let byte = List::of(ONE_RENT).with(8, 120, b"\x7f");
         self.push("2 in Z, at several rooms", byte.bytes(), &rooms);
+        let zero = List::of(ONE_RENT).with(2, 34, ZERO);
+        self.push("25 in D, at several rooms", zero.bytes(), &rooms);
         let alone = List::of("H");
         let rooms = [0, 120, 239, 240, 241].map(Write);
         self.push("H alone, at several rooms", alone.bytes(), &rooms);
@@ -530,6 +536,38 @@ impl Cases {
     }
 }
 
+/// Amounts of zero (document 02, E5).
+impl Cases {
+    /// A D with an amount of zero, alone and with other faults.
+    fn zeros(&mut self) {
+        for (name, kinds, changes) in ZEROS {
+            self.list(name, &List::of(kinds).with_all(changes));
+        }
+    }
+}
+
+/// Lists with a D whose amount is zero.
+#[rustfmt::skip]
+const ZEROS: [(&str, &str, &[Change]); 17] = [
+    ("25 in the first D", TWO_RENTS, &[(2, 34, ZERO)]),
+    ("25 in the last D", TWO_RENTS, &[(9, 34, ZERO)]),
+    ("25 in the middle D", THREE_RENTS, &[(9, 34, ZERO)]),
+    ("25 in both D", TWO_RENTS, &[(2, 34, ZERO), (9, 34, ZERO)]),
+    ("8 and 25 in D", "H D", &[(2, 23, b"290227"), (2, 34, ZERO)]),
+    ("25 and 5 in D", "H D", &[(2, 34, ZERO), (2, 53, b":")]),
+    ("25 and 6 in D", "H D", &[(2, 34, ZERO), (2, 97, b"0")]),
+    ("25 and 11 in the second D", "H D C B A R K Z D", &[(9, 34, ZERO), (9, 92, b"AB124")]),
+    ("25 and a byte outside in D", "H D", &[(2, 34, ZERO), (2, 113, b"\0")]),
+    ("a byte outside in an amount of zero", "H D", &[(2, 34, ZERO), (2, 46, b"\x1f")]),
+    ("7 in H then 25 in D", "H D", &[(1, 20, &[b' '; 20]), (2, 34, ZERO)]),
+    ("25 in D then 2 in C", "H D C", &[(2, 34, ZERO), (3, 11, b"\0")]),
+    ("25 in D then 3 in B", "H D B", &[(2, 34, ZERO)]),
+    ("an amount of zero before H", "D H", &[(1, 34, ZERO)]),
+    ("an amount of zero behind D", "H D D", &[(3, 34, ZERO)]),
+    ("recalls: 25 in the last D", TWO_RECALLS, &[(9, 34, ZERO)]),
+    ("recalls: 8 and 25 in D", "Q D", &[(2, 23, b"290227"), (2, 34, ZERO)]),
+];
+
 /// Values of one field: name, kinds, item, position, values.
 type Values = (
     &'static str,
@@ -550,12 +588,15 @@ const VALUES: [Values; 21] = [
     ("H 105-111", "H", 1, 105, &["2$05678", "1E05678", "1$0567:", "      1"]),
     ("H 105-111 in a right list", ONE_RENT, 1, 105, &["1$05678"]),
     ("H date in a right list", ONE_RENT, 1, 14, &["290228"]),
-    ("D date", ONE_RENT, 2, 23, &["290227", "310426", "29022:", "      "]),
+    ("D date", "H D", 2, 23, &["290227", "310426", "29022:", "      "]),
     ("D date in a right list", ONE_RENT, 2, 23, &["290228"]),
-    ("D amount", ONE_RENT, 2, 34, &["0000000450.00", "/000000045000", "000000004500:", "             "]),
-    ("D 53-57", ONE_RENT, 2, 53, &["024  ", "    0", "0240:"]),
+    ("D amount", "H D", 2, 34, &[
+        "0000000450.00", "/000000045000", "000000004500:", "             ", "0000000000000",
+        " 000000000000", "000000000000:", "000000O000000",
+    ]),
+    ("D 53-57", "H D", 2, 53, &["024  ", "    0", "0240:"]),
     ("D 53-57 in a right list", ONE_RENT, 2, 53, &["     ", "99999"]),
-    ("D at 97", ONE_RENT, 2, 97, &["0", "7", "A"]),
+    ("D at 97", "H D", 2, 97, &["0", "7", "A"]),
     ("D at 97 in a right list", ONE_RENT, 2, 97, &[" ", "9"]),
     ("S 11-12", FULL, 3, 11, &["DE", "  "]),
     ("S 13-14", FULL, 3, 13, &["6:", "  "]),
@@ -570,8 +611,8 @@ const VALUES: [Values; 21] = [
 #[rustfmt::skip]
 const CARRIED_ENDS: [(&str, &str, usize, &[usize]); 12] = [
     ("H", ONE_RENT, 1, &[4, 45, 105, 111]),
-    ("Q", ONE_RECALL, 1, &[4, 45, 105, 111]),
-    ("D", ONE_RENT, 2, &[23, 28, 34, 46, 53, 69, 92, 113]),
+    ("Q", "Q", 1, &[4, 45, 105, 111]),
+    ("D", "H D", 2, &[23, 28, 34, 46, 53, 69, 92, 113]),
     ("S", FULL, 3, &[11, 37]),
     ("C", ONE_RENT, 3, &[11, 106]),
     ("B", ONE_RENT, 4, &[11, 86]),
@@ -589,7 +630,7 @@ const THREE_RENTS: &str = "H D C B A R K Z D C B A R K Z D C B A R K Z";
 /// Right lists with bytes put into them.
 #[rustfmt::skip]
 const RIGHT: [(&str, &str, &[Change]); 13] = [
-    ("amount 0", ONE_RENT, &[(2, 34, b"0000000000000")]),
+    ("amount 1", ONE_RENT, &[(2, 34, b"0000000000001")]),
     ("amount 9999999999999", ONE_RENT, &[(2, 34, b"9999999999999")]),
     ("amount 1234567890123", ONE_RENT, &[(2, 34, b"1234567890123")]),
     ("amounts that carry", TWO_RENTS, &[(2, 34, b"9999999999999"), (9, 34, b"0000000000001")]),
@@ -878,7 +919,7 @@ impl Cases {
 /// Right lists of recalls with bytes put into them.
 #[rustfmt::skip]
 const RIGHT_RECALLS: [(&str, &str, &[Change]); 6] = [
-    ("amount 0", ONE_RECALL, &[(2, 34, b"0000000000000")]),
+    ("amount 1", ONE_RECALL, &[(2, 34, b"0000000000001")]),
     ("amounts that carry", TWO_RECALLS, &[(2, 34, b"9999999999999"), (9, 34, b"0000000000001")]),
     ("Q 40-45 and 105-111 used", ONE_RECALL, &[(1, 40, b"CASE40"), (1, 105, b"1$05678")]),
     ("company code absent then present", TWO_RECALLS, &[(2, 92, ABSENT)]),
@@ -910,7 +951,7 @@ const ORDERS_WITH_Q: [(&str, &str); 17] = [
 
 /// Lists with Q and wrong values.
 #[rustfmt::skip]
-const FAULTS_WITH_Q: [(&str, &str, &[Change]); 18] = [
+const FAULTS_WITH_Q: [(&str, &str, &[Change]); 19] = [
     ("Q 4-8 is ''", "Q", &[(1, 4, b"     ")]),
     ("Q 9-13 is '0123:'", "Q", &[(1, 9, b"0123:")]),
     ("Q date is '290227'", "Q", &[(1, 14, b"290227")]),
@@ -919,9 +960,10 @@ const FAULTS_WITH_Q: [(&str, &str, &[Change]); 18] = [
     ("Q 105-111 is '2$05678'", "Q", &[(1, 105, b"2$05678")]),
     ("Q 105-111 is '1E05678'", "Q", &[(1, 105, b"1E05678")]),
     ("Q 105-111 is '1$0567:'", "Q", &[(1, 105, b"1$0567:")]),
-    ("recalls: D date is '290227'", ONE_RECALL, &[(2, 23, b"290227")]),
-    ("recalls: D amount is '0000000450.00'", ONE_RECALL, &[(2, 34, b"0000000450.00")]),
-    ("recalls: D at 97 is '0'", ONE_RECALL, &[(2, 97, b"0")]),
+    ("recalls: D date is '290227'", "Q D", &[(2, 23, b"290227")]),
+    ("recalls: D amount is '0000000450.00'", "Q D", &[(2, 34, b"0000000450.00")]),
+    ("recalls: D amount is '0000000000000'", "Q D", &[(2, 34, ZERO)]),
+    ("recalls: D at 97 is '0'", "Q D", &[(2, 97, b"0")]),
     ("recalls: Z at 94 is 'A'", ONE_RECALL, &[(8, 94, b"A")]),
     ("recalls: company code different", TWO_RECALLS, &[(9, 92, b"AB124")]),
     ("recalls: S with the ABI of another Q", FULL_RECALL, &[(1, 9, b"98765")]),

@@ -200,7 +200,8 @@ impl Walk {
         Ok(())
     }
 
-    /// Document 01, table of checks, row 14.
+    /// Document 01, table of checks, row 14; the amount above zero by document
+    /// 02, E5.
     #[inline]
     fn check_14(&mut self, header: &Record, record: &Record) -> Result<(), Fault> {
         check_date(record, 23, 28)?;

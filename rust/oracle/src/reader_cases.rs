@@ -1,5 +1,5 @@
 //! Named cases for the reader: right flows, and flows that break the rules of
-//! document 01, or of document 02, E1, one at a time or two together.
+//! document 01, or of document 02, E1 and E5, one at a time or two together.
 //!
 //! A flow is set down by the types of its records, each of them right for its
 //! place in a flow of requests (`Flow::of`) or of recalls (`Flow::recalled`),
@@ -33,8 +33,9 @@ pub fn cases() -> Vec<Case> {
     cases.neighbours();
     cases.second_numbers();
     cases.unchecked();
-    cases.large_totals();
+    cases.large_total();
     cases.recalls();
+    cases.zeros();
     cases.0
 }
 
@@ -326,19 +327,15 @@ impl Cases {
         self.push("unchecked positions all ~", flow.bytes());
     }
 
-    /// A total of 15 digits, and one above them.
-    fn large_totals(&mut self) {
-        for (name, count, total) in [
-            ("11 largest amounts", 11, b"109999999999989"),
-            ("101 largest amounts", 101, b"999999999999999"),
-        ] {
-            let mut flow = Flow::of(&format!("IM{} EF", " 14 20 30 40 50 51 70".repeat(count)));
-            for opening in (0..count).map(|index| 2 + 7 * index) {
-                flow = flow.with(opening, 34, b"9999999999999");
-            }
-            let last = 2 + 7 * count;
-            self.push(name, flow.with(last, 53, total).bytes());
+    /// A total above 15 digits; one of 15 is among the cases of where a
+    /// disposition is.
+    fn large_total(&mut self) {
+        let mut flow = Flow::of(&format!("IM{} EF", " 14 20 30 40 50 51 70".repeat(101)));
+        for opening in (0..101).map(|index| 2 + 7 * index) {
+            flow = flow.with(opening, 34, b"9999999999999");
         }
+        let flow = flow.with(709, 53, b"999999999999999");
+        self.push("101 largest amounts", flow.bytes());
     }
 
     /// Flows of recalls, right and with bytes put into them.
@@ -346,6 +343,19 @@ impl Cases {
         for (name, types, changes) in RECALLS {
             let flow = Flow::of(types).recalled().with_all(changes);
             self.push(format!("recall: {name}"), flow.bytes());
+        }
+    }
+}
+
+/// Amounts of zero (document 02, E5).
+impl Cases {
+    /// A first 14 with an amount of zero, of a request and of a recall.
+    fn zeros(&mut self) {
+        for (name, types, changes) in ZEROS {
+            let flow = Flow::of(types).with_all(changes);
+            self.push(format!("zero: {name}"), flow.bytes());
+            let flow = Flow::of(types).recalled().with_all(changes);
+            self.push(format!("zero recall: {name}"), flow.bytes());
         }
     }
 }
@@ -361,7 +371,7 @@ fn fill(record: &mut Record, byte: u8) {
 
 /// Flows in which at most the order of the records is wrong.
 #[rustfmt::skip]
-const SEQUENCES: [(&str, &str); 39] = [
+const SEQUENCES: [(&str, &str); 34] = [
     ("one disposition", ONE),
     ("two dispositions", TWO),
     ("two 59s", "IM 14 20 30 40 59 59 51 70 EF"),
@@ -371,13 +381,8 @@ const SEQUENCES: [(&str, &str); 39] = [
     ("59 after 50", "IM 14 20 30 40 50 59 51 70 EF"),
     ("50 after 59", "IM 14 20 30 40 59 50 51 70 EF"),
     ("50 twice", "IM 14 20 30 40 50 50 51 70 EF"),
-    ("16 twice", "IM 14 16 16 20 30 40 50 51 70 EF"),
-    ("16 after 20", "IM 14 20 16 30 40 50 51 70 EF"),
-    ("16 before 14", "IM 16 14 20 30 40 50 51 70 EF"),
     ("no 50 and no 59", "IM 14 20 30 40 51 70 EF"),
-    ("51 before 50", "IM 14 20 30 40 51 50 70 EF"),
     ("59 before and after 51", "IM 14 20 30 40 59 51 59 70 EF"),
-    ("IM twice", "IM IM 14 20 30 40 50 51 70 EF"),
     ("no IM", "14 20 30 40 50 51 70 EF"),
     ("EF without a disposition", "IM EF"),
     ("EF alone", "EF"),
@@ -408,10 +413,10 @@ const SEQUENCES: [(&str, &str); 39] = [
 #[rustfmt::skip]
 const MISPLACED: [(&str, &str, &str); 11] = [
     ("at the start", "", "14 16 20 30 40 50 59 51 70 XX"),
-    ("after IM", "IM", "16 20 30 40 50 59 51 70 XX"),
+    ("after IM", "IM", "IM 16 20 30 40 50 59 51 70 XX"),
     ("after 14", "IM 14", "IM 14 30 40 50 59 51 70 EF XX"),
-    ("after 16", "IM 14 16", "14 30 EF"),
-    ("after 20", "IM 14 20", "14 20 40 EF"),
+    ("after 16", "IM 14 16", "14 16 30 EF"),
+    ("after 20", "IM 14 20", "14 16 20 40 EF"),
     ("after 30", "IM 14 20 30", "20 30 50 59 51"),
     ("after 40", "IM 14 20 30 40", "30 40 70"),
     ("after 50", "IM 14 20 30 40 50", "70 14"),
@@ -467,8 +472,8 @@ const fn values(
 #[rustfmt::skip]
 static VALUES: [Values; 30] = [
     values("IM 9-13", ONE, 1, 9, &["0123:"], &["/1234", "     ", "0123 ", " 1234"]),
-    values("IM date", ONE, 1, 14, &["290228", "29022:", "290227"], &[
-        "290200", "311299", "300228", "310426", "320126", "000126", "010026", "011326",
+    values("IM date", ONE, 1, 14, &["29022:", "290227"], &[
+        "290228", "290200", "311299", "300228", "310426", "320126", "000126", "010026", "011326",
         "290299", "/90228", "      ", "2902 7",
     ]),
     values("IM 105-111", ONE, 1, 105, &["1$05678", "2$05678", "1E05678", "1$0567:"], &[
@@ -477,8 +482,8 @@ static VALUES: [Values; 30] = [
     ]),
     values("IM at 114", ONE, 1, 114, &["L"], &[" ", "e", "D", "F"]),
     values("14 number", ONE, 2, 4, &[], &["       ", "/000001", "000001 ", "9999999", "00000001"]),
-    values("14 date", ONE, 2, 23, &["290228", "29022:", "290227"], &[
-        "290200", "010100", "311299", "300426", "300228", "310426", "310626", "310926", "311126",
+    values("14 date", ONE, 2, 23, &["29022:", "290227"], &[
+        "290228", "290200", "010100", "311299", "300426", "300228", "310426", "310626", "310926", "311126",
         "320126", "000126", "010026", "011326", "290299", "/90228", "      ", "2902 7",
     ]),
     values("14 29-33", ONE, 2, 29, &["07100", "07200"], &[
@@ -486,7 +491,7 @@ static VALUES: [Values; 30] = [
     ]),
     values("14 amount", ONE, 2, 34, &["0000000450.00"], &[
         "000000004500:", "/000000045000", "             ", "        45000", "45000        ",
-        "+000000045000",
+        "+000000045000", "0000000000001", "0000001000000", "1000000000000",
     ]),
     values("14 at 47", ONE, 2, 47, &["+"], &[" ", ",", ".", "0"]),
     values("14 48-52", ONE, 2, 48, &["0123:", "01235"], &[
@@ -495,20 +500,20 @@ static VALUES: [Values; 30] = [
     values("14 53-57", ONE, 2, 53, &["     ", "024  "], &[
         "00000", "99999", "0240 ", " 2400", "    0", "0    ", "0240:", "/2400", "ABCDE",
     ]),
-    values("14 at 97", ONE, 2, 97, &[" ", "1", "2", "3", "4", "5", "6", "9", "0"], &[
-        "7", "8", "A", "/", ":", "!",
+    values("14 at 97", ONE, 2, 97, &[" ", "9", "0"], &[
+        "1", "2", "3", "4", "5", "6", "7", "8", "A", "/", ":", "!",
     ]),
     values("14 at 120", ONE, 2, 120, &["L"], &[" ", "e", "D", "F"]),
-    values("16 11-12", FULL, 3, 11, &["IT", "SM", "DE"], &["IM", "ST", "it", "sm", "  ", "TI"]),
+    values("16 11-12", FULL, 3, 11, &["SM", "DE"], &["IT", "IM", "ST", "it", "sm", "  ", "TI"]),
     values("16 13-14", FULL, 3, 13, &["6:"], &["00", "/0", "  ", " 0", "0 "]),
     values("16 at 15", FULL, 3, 15, &[], &["0", "~"]),
     values("16 16-20", FULL, 3, 16, &["0123:", "01235"], &[
         "/1234", "     ", "9999A", "11234", "00000",
     ]),
-    values("16 21-25", FULL, 3, 21, &["00001", "0240:", "00000"], &[
-        "99999", "10000", "/0000", "0000 ", "     ",
+    values("16 21-25", FULL, 3, 21, &["0240:", "00000"], &[
+        "00001", "99999", "10000", "/0000", "0000 ", "     ",
     ]),
-    values("70 at 94", ONE, 8, 94, &["P", "B", "A"], &[" ", "!", "p"]),
+    values("70 at 94", ONE, 8, 94, &["P", "A"], &["B", " ", "!", "p"]),
     values("EF 4-8", ONE, 9, 4, &[], &["AB124"]),
     values("EF 9-13", ONE, 9, 9, &[], &["11234", "0123A"]),
     values("EF date", ONE, 9, 14, &[], &["150327", "290227"]),
@@ -539,6 +544,8 @@ const NUMBERED: [(&str, &str, usize); 9] = [
     ("70 number", ONE, 8),
 ];
 
+/// An amount of zero.
+pub(crate) const ZERO: &[u8] = b"0000000000000";
 /// No company code.
 const ABSENT: &[u8] = b"     ";
 /// The fields of a 40, 50 or 51 blank.
@@ -546,12 +553,18 @@ const NO_TEXT: &[u8] = &[b' '; 110];
 
 /// Flows with bytes put into them.
 #[rustfmt::skip]
-const CHANGES: [(&str, &str, &[Change]); 83] = [
+const CHANGES: [(&str, &str, &[Change]); 90] = [
     // Right flows.
     ("40 50 51 blank", ONE, &[(5, 11, NO_TEXT), (6, 11, NO_TEXT), (7, 11, NO_TEXT)]),
-    ("amount 0", ONE, &[(2, 34, b"0000000000000"), (9, 53, b"000000000000000")]),
+    ("amount 1", ONE, &[(2, 34, b"0000000000001"), (9, 53, b"000000000000001")]),
     ("amount 9999999999999", ONE, &[(2, 34, b"9999999999999"), (9, 53, b"009999999999999")]),
-    ("amount 0 and the old total", ONE, &[(2, 34, b"0000000000000")]),
+    // Amounts of zero, with the total that agrees and with another.
+    ("amount 0", ONE, &[(2, 34, ZERO), (9, 53, b"000000000000000")]),
+    ("amount 0 and the old total", ONE, &[(2, 34, ZERO)]),
+    ("amount 0 in the first of two", TWO, &[(2, 34, ZERO), (16, 53, b"000000000038050")]),
+    ("amount 0 in the middle of three", THREE, &[(9, 34, ZERO), (23, 53, b"000000000090000")]),
+    ("amount 0 in the last of two", TWO, &[(9, 34, ZERO), (16, 53, b"000000000045000")]),
+    ("amount 0 in the second 14, wrong at 92", UP_TO_9, &[(9, 34, ZERO), (9, 92, b"AB124")]),
     // Types that are none.
     ("IM as im", "IM", &[(1, 2, b"im")]),
     ("IM as MI", "IM", &[(1, 2, b"MI")]),
@@ -641,6 +654,7 @@ const CHANGES: [(&str, &str, &[Change]); 83] = [
     // Causale and sign of the first 14.
     ("07200 and '+' in 14", "IM 14", &[(2, 29, b"07200"), (2, 47, b"+")]),
     ("07100, 5 at 34 and '-' in 14", "IM 14", &[(2, 29, b"07100"), (2, 34, b":")]),
+    ("07100, 25 at 34 and '-' in 14", "IM 14", &[(2, 29, b"07100"), (2, 34, ZERO)]),
     // Causale and sign of a later 14, under a first one of a request.
     ("a recall second", UP_TO_9, &[(9, 29, b"07100"), (9, 47, b"+")]),
     ("a recall second, each with its total", TWO, &[
@@ -648,6 +662,7 @@ const CHANGES: [(&str, &str, &[Change]); 83] = [
     ]),
     ("a recall second, signed as a request", UP_TO_9, &[(9, 29, b"07100")]),
     ("a recall second, 5 at 34", UP_TO_9, &[(9, 29, b"07100"), (9, 34, b":"), (9, 47, b"+")]),
+    ("a recall second, 25 at 34", UP_TO_9, &[(9, 29, b"07100"), (9, 34, ZERO), (9, 47, b"+")]),
     ("a recall second, signed as neither", UP_TO_9, &[(9, 29, b"07100"), (9, 47, b" ")]),
     ("a recall second, numbered 3", UP_TO_9, &[(9, 4, b"0000003"), (9, 29, b"07100"), (9, 47, b"+")]),
     ("a recall second, no date", UP_TO_9, &[(9, 23, b"290227"), (9, 29, b"07100"), (9, 47, b"+")]),
@@ -662,11 +677,14 @@ const CHANGES: [(&str, &str, &[Change]); 83] = [
 
 /// Flows of recalls with bytes put into them.
 #[rustfmt::skip]
-const RECALLS: [(&str, &str, &[Change]); 33] = [
+const RECALLS: [(&str, &str, &[Change]); 36] = [
     // Right flows. The keys at 101-120 of 70 may be others than the request's.
     ("one disposition", ONE, &[(8, 101, b"KEYS OF THE RECALL")]),
     ("two dispositions", TWO, &[]),
-    ("amount 0", ONE, &[(2, 34, b"0000000000000"), (9, 68, b"000000000000000")]),
+    ("amount 1", ONE, &[(2, 34, b"0000000000001"), (9, 68, b"000000000000001")]),
+    // Amounts of zero, with the total that agrees.
+    ("amount 0", ONE, &[(2, 34, ZERO), (9, 68, b"000000000000000")]),
+    ("amount 0 in the last of two", TWO, &[(9, 34, ZERO), (16, 68, b"000000000045000")]),
     // Causale and sign of the first 14.
     ("ends after 14", "IM 14", &[]),
     ("14 29-33 is '07000'", "IM 14", &[(2, 29, b"07000")]),
@@ -687,6 +705,7 @@ const RECALLS: [(&str, &str, &[Change]); 33] = [
     // Causale and sign of a later 14, under a first one of a recall.
     ("a request second", UP_TO_9, &[(9, 29, b"07000"), (9, 47, b"-")]),
     ("a request second, signed as a recall", UP_TO_9, &[(9, 29, b"07000")]),
+    ("a request second, 25 at 34", UP_TO_9, &[(9, 29, b"07000"), (9, 34, ZERO), (9, 47, b"-")]),
     ("07200 in the second 14", UP_TO_9, &[(9, 29, b"07200")]),
     ("a request's sign in the second 14", UP_TO_9, &[(9, 47, b"-")]),
     ("a request first", UP_TO_9, &[(2, 29, b"07000"), (2, 47, b"-")]),
@@ -700,6 +719,40 @@ const RECALLS: [(&str, &str, &[Change]); 33] = [
     ("EF 5 at 53, 13 at 68", ONE, &[(9, 53, b":"), (9, 68, b"000000000045001")]),
     ("EF 13 at 53, 5 at 68", ONE, &[(9, 53, b"000000000000001"), (9, 68, b":")]),
     ("EF 13 at 68, 14 at 83", ONE, &[(9, 68, b"000000000045001"), (9, 83, b"0000010")]),
+];
+
+/// A first 14 with an amount of zero and other faults, in flows that end with
+/// it or with the record after it.
+#[rustfmt::skip]
+const ZEROS: [(&str, &str, &[Change]); 25] = [
+    ("alone", "IM 14", &[(2, 34, ZERO)]),
+    // What comes before it in order.
+    ("2 at 1", "IM 14", &[(2, 34, ZERO), (2, 1, b"\0")]),
+    ("2 in the amount", "IM 14", &[(2, 34, ZERO), (2, 46, b"\x1f")]),
+    ("2 at 120", "IM 14", &[(2, 34, ZERO), (2, 120, b"\x7f")]),
+    ("3 at 2", "IM 14", &[(2, 34, ZERO), (2, 2, b"15")]),
+    ("5 at 4", "IM 14", &[(2, 34, ZERO), (2, 4, b"000000:")]),
+    ("9 at 4", "IM 14", &[(2, 34, ZERO), (2, 4, b"0000000")]),
+    ("5 at 23", "IM 14", &[(2, 34, ZERO), (2, 23, b"29022:")]),
+    ("8 at 23", "IM 14", &[(2, 34, ZERO), (2, 23, b"290227")]),
+    ("6 at 29", "IM 14", &[(2, 34, ZERO), (2, 29, b"07200")]),
+    ("6 in IM", "IM 14", &[(1, 114, b"L"), (2, 34, ZERO)]),
+    // No digits.
+    ("a blank first", "IM 14", &[(2, 34, b" 000000000000")]),
+    ("a blank last", "IM 14", &[(2, 34, b"000000000000 ")]),
+    ("a letter inside", "IM 14", &[(2, 34, b"000000O000000")]),
+    ("'-' first", "IM 14", &[(2, 34, b"-000000000000")]),
+    // What comes after it in order.
+    ("6 at 47", "IM 14", &[(2, 34, ZERO), (2, 47, b" ")]),
+    ("5 at 48", "IM 14", &[(2, 34, ZERO), (2, 48, b"0123:")]),
+    ("10 at 48", "IM 14", &[(2, 34, ZERO), (2, 48, b"01235")]),
+    ("5 at 53", "IM 14", &[(2, 34, ZERO), (2, 53, b":")]),
+    ("6 at 97", "IM 14", &[(2, 34, ZERO), (2, 97, b"0")]),
+    ("6 at 120", "IM 14", &[(2, 34, ZERO), (2, 120, b"L")]),
+    ("text beside it", "IM 14", &[(2, 11, b"TEXT"), (2, 34, ZERO), (2, 70, b"~"), (2, 119, b"~")]),
+    ("2 in 20", "IM 14 20", &[(2, 34, ZERO), (3, 1, b"\0")]),
+    ("3 in 20", "IM 14 20", &[(2, 34, ZERO), (3, 2, b"30")]),
+    ("9 in 20", "IM 14 20", &[(2, 34, ZERO), (3, 4, b"0000000")]),
 ];
 
 /// Bytes put into a record: position, bytes.

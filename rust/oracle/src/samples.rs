@@ -276,6 +276,14 @@ fn spoiled(record: usize, position: usize, bytes: &[u8]) -> Vec<u8> {
     records.concat()
 }
 
+/// The two rents, the second of zero cents, with a trailer that agrees.
+fn rent_of_nothing() -> Vec<u8> {
+    let mut records = two_rents().records();
+    put(&mut records[8], 34, b"0000000000000");
+    put(&mut records[15], 53, b"000000000045000");
+    records.concat()
+}
+
 /// The first rent twice, with a trailer that agrees.
 fn block_twice() -> Vec<u8> {
     let mut records = two_rents().records();
@@ -381,7 +389,7 @@ const RIGHT: [Row; 10] = [
 ];
 
 #[rustfmt::skip]
-const REFUSED_FLOWS: [Row; 15] = [
+const REFUSED_FLOWS: [Row; 16] = [
     ("refused-01-length.flow", Flow, || cut(1),
         "the last byte is missing", "refused 1 record 0 position 0"),
     ("refused-02-byte.flow", Flow, || spoiled(4, 16, b"\t"),
@@ -415,6 +423,9 @@ const REFUSED_FLOWS: [Row; 15] = [
     // 29-33, the amount as it was, and 47.
     ("refused-22-kind.flow", Flow, || spoiled(9, 29, b"071000000000038050+"),
         "a recall after a request", "refused 22 record 9 position 29"),
+    ("refused-25-nothing.flow", Flow, rent_of_nothing,
+        "the second rent is of zero cents, and the trailer agrees",
+        "refused 25 record 9 position 34"),
 ];
 
 #[rustfmt::skip]
@@ -430,12 +441,19 @@ const REFUSED_LISTS: [Row; 4] = [
 ];
 
 #[rustfmt::skip]
-const REFUSED_CALLS: [Row; 3] = [
+const REFUSED_CALLS: [Row; 6] = [
     ("two-rents.flow", Amended(Call::Withdraw { k: 3 }), || two_rents().flow(),
         "there are two dispositions", "refused 15 record 0 position 0"),
     ("two-rents.flow", Amended(Call::Change { k: 1, cents: 10_000_000_000_000 }),
         || two_rents().flow(),
         "an amount of fourteen digits", "refused 16 record 0 position 0"),
+    ("two-rents.flow", Amended(Call::Change { k: 2, cents: 0 }), || two_rents().flow(),
+        "an amount of nothing", "refused 16 record 0 position 0"),
+    ("refused-25-nothing.flow", Amended(Call::Change { k: 2, cents: 38_050 }), rent_of_nothing,
+        "a flow with an amount of zero is not amended, not even that amount",
+        "refused 25 record 9 position 34"),
+    ("refused-25-nothing.flow", Amended(Call::Withdraw { k: 2 }), rent_of_nothing,
+        "nor is the disposition with it withdrawn", "refused 25 record 9 position 34"),
     ("one-rent.flow", Amended(Call::Withdraw { k: 1 }), || one_rent().flow(),
         "the only disposition", "refused 18 record 0 position 0"),
 ];
@@ -550,7 +568,7 @@ pub fn table(samples: &[Sample]) -> String {
          Files ending in `.flow` are flows to be read, files ending in `.list` are request\n\
          lists to be written to an output of the length given. A row that names a call\n\
          is about that call on the flow. The rules are those of document 01 and of\n\
-         requests E1 and E7 of document 02. The files are written by `oracle sample`.\n\n\
+         requests E1, E5 and E7 of document 02. The files are written by `oracle sample`.\n\n\
          | file | what it shows | answer due |\n|---|---|---|\n",
     );
     for sample in samples {

@@ -1,10 +1,9 @@
 //! Smaller flows for readable failing cases.
 
 use crate::damage::add_to;
-use crate::fields::amount;
-use crate::generate::kind_of;
+use crate::generate::{cents_of, kind_of};
 use crate::kind::FlowKind;
-use crate::record::{field, field_mut, record_type, Record, RECORD_LEN};
+use crate::record::{field_mut, record_type, Record, RECORD_LEN};
 
 /// Drops dispositions while the predicate holds of what is left, and gives
 /// the smallest flow reached. The predicate must hold of `flow` itself.
@@ -69,7 +68,7 @@ fn lower(records: &mut [Record], start: usize, gone: &[Record], kind: FlowKind) 
     let cents: i64 = gone
         .iter()
         .filter(opening)
-        .map(|record| amount(field(record, 34, 46)).unwrap_or(0) as i64)
+        .map(|record| cents_of(record) as i64)
         .sum();
     for record in &mut records[start..] {
         if record_type(record) == *b"EF" {

@@ -13,8 +13,8 @@ use crate::record::{record_type, RECORD_LEN};
 use crate::rng::Rng;
 
 /// The numbers that can come of one flow or list.
-pub const NUMBERS: [u8; 21] = [
-    1, 2, 3, 4, 5, 6, 7, 8, 9, 10, 11, 12, 13, 14, 15, 16, 17, 18, 20, 21, 22,
+pub const NUMBERS: [u8; 22] = [
+    1, 2, 3, 4, 5, 6, 7, 8, 9, 10, 11, 12, 13, 14, 15, 16, 17, 18, 20, 21, 22, 25,
 ];
 
 /// Counts of answers.

@@ -772,6 +772,28 @@ impl Cases {
         self.push(b'a', b"45000        ");
         self.push(b'a', b"0000000450.00");
         self.push(b'a', b"00000000450,0");
+        self.zero_amounts();
+    }
+
+    /// Amounts of zero (document 02, E5), a byte away from it, and with bytes
+    /// that a lenient rule would take for zeros.
+    fn zero_amounts(&mut self) {
+        let zero = [b'0'; fields::AMOUNT_LEN];
+        self.intrude(b'a', &zero, &[0, 6, 12]);
+        for place in 0..zero.len() {
+            for byte in *b"19" {
+                let mut single = zero;
+                single[place] = byte;
+                self.push(b'a', &single);
+            }
+        }
+        for byte in [0, b'O', b'o', 0xb0] {
+            self.push(b'a', &[byte; fields::AMOUNT_LEN]);
+        }
+        self.push(b'a', b"000000000000O");
+        self.push(b'a', b"0000000000.00");
+        self.push(b'a', b"            0");
+        self.push(b'a', b"0            ");
     }
 
     fn dates(&mut self) {

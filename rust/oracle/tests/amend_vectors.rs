@@ -1,12 +1,14 @@
 //! The cases of `oracle vectors amend`, against literal answers from documents
-//! 01 and 02 (E1), against a flow amended disposition by disposition, and ledger against
-//! amendments.
+//! 01 and 02 (E1, E5), against a flow amended disposition by disposition, and
+//! ledger against amendments.
 //!
 //! What the lines would catch:
 //! - k counted from 0, cut to fewer bits or compared with the first count:
 //!   "numbers of ..", and every case that goes on after a withdrawal;
 //! - 16 before 15, 17 before 16, 18 before 15, a limit that is one off, a sum that
 //!   wraps: "15 before 16 and 18", "amounts", "a total of 999999999999999";
+//! - an amount changed to 0, or 16 for it before 15: "amounts", "15 before 16 and
+//!   18"; a flow with an amount of zero amended after all: the refused flows of 25;
 //! - a call that answers before the flow is read to its end: the refused flows;
 //! - a block moved twice, lost, or overwritten before it is read: the tagged
 //!   flows, whose lists tell each record, also where all totals agree;
@@ -65,7 +67,8 @@ const DUE: [Due; 40] = [
         ("-0", "refused 15 record 0 position 0 length 1080"),
         ("-2", "refused 15 record 0 position 0 length 1080"),
         ("-18446744073709551615", "refused 15 record 0 position 0 length 1080"),
-        ("!1 0", "accepted dispositions 1 cents 0 records 9 kind requests"),
+        ("!1 0", "refused 16 record 0 position 0"),
+        ("!1 1", "accepted dispositions 1 cents 1 records 9 kind requests"),
         ("-1", "refused 18 record 0 position 0 length 1080"),
         ("!1 9999999999999", "accepted dispositions 1 cents 9999999999999 records 9 kind requests"),
         ("!0 5", "refused 15 record 0 position 0"),
@@ -113,10 +116,11 @@ const DUE: [Due; 40] = [
     ]),
     ("amounts", "accepted dispositions 2 cents 83050 records 16 kind requests", &[
         ("!1 45000", "accepted dispositions 2 cents 83050 records 16 kind requests"),
-        ("!1 0", "accepted dispositions 2 cents 38050 records 16 kind requests"),
-        ("!1 0", "accepted dispositions 2 cents 38050 records 16 kind requests"),
-        ("!2 0", "accepted dispositions 2 cents 0 records 16 kind requests"),
-        ("!1 1", "accepted dispositions 2 cents 1 records 16 kind requests"),
+        ("!1 0", "refused 16 record 0 position 0"),
+        ("!2 1", "accepted dispositions 2 cents 45001 records 16 kind requests"),
+        ("!2 0", "refused 16 record 0 position 0"),
+        ("!1 1", "accepted dispositions 2 cents 2 records 16 kind requests"),
+        ("!1 0", "refused 16 record 0 position 0"),
         ("!2 9999999999999", "accepted dispositions 2 cents 10000000000000 records 16 kind requests"),
         ("!1 9999999999999", "accepted dispositions 2 cents 19999999999998 records 16 kind requests"),
         ("!1 10000000000000", "refused 16 record 0 position 0"),
@@ -133,6 +137,10 @@ const DUE: [Due; 40] = [
         ("!3 10000000000000", "refused 15 record 0 position 0"),
         ("!3 18446744073709551615", "refused 15 record 0 position 0"),
         ("!2 10000000000000", "refused 16 record 0 position 0"),
+        ("!0 0", "refused 15 record 0 position 0"),
+        ("!3 0", "refused 15 record 0 position 0"),
+        ("!18446744073709551615 0", "refused 15 record 0 position 0"),
+        ("!2 0", "refused 16 record 0 position 0"),
         ("-0", "refused 15 record 0 position 0 length 1920"),
         ("-3", "refused 15 record 0 position 0 length 1920"),
         ("-1", "accepted dispositions 1 cents 38050 records 9 kind requests length 1080"),
@@ -141,6 +149,8 @@ const DUE: [Due; 40] = [
         ("-1", "refused 18 record 0 position 0 length 1080"),
         ("!2 10000000000000", "refused 15 record 0 position 0"),
         ("!1 10000000000000", "refused 16 record 0 position 0"),
+        ("!2 0", "refused 15 record 0 position 0"),
+        ("!1 0", "refused 16 record 0 position 0"),
     ]),
     ("7 to 12 records: from the front", "accepted dispositions 6 cents 21021 records 59 kind requests", &[
         ("-1", "accepted dispositions 5 cents 20020 records 52 kind requests length 6240"),
@@ -190,8 +200,8 @@ const DUE: [Due; 40] = [
         ("-1", "accepted dispositions 1 cents 2002 records 9 kind requests length 1080"),
     ]),
     ("every variant", "accepted dispositions 12 cents 78078 records 112 kind requests", &[
-        ("!5 0", "accepted dispositions 12 cents 73073 records 112 kind requests"),
-        ("-4", "accepted dispositions 11 cents 69069 records 100 kind requests length 12000"),
+        ("!5 1", "accepted dispositions 12 cents 73074 records 112 kind requests"),
+        ("-4", "accepted dispositions 11 cents 69070 records 100 kind requests length 12000"),
         ("!4 5005", "accepted dispositions 11 cents 74074 records 100 kind requests"),
         ("-11", "accepted dispositions 10 cents 62062 records 90 kind requests length 10800"),
         ("!11 1", "refused 15 record 0 position 0"),
@@ -259,7 +269,8 @@ const DUE: [Due; 40] = [
     ]),
     ("unchecked bytes: 2 withdrawn", "accepted dispositions 2 cents 83050 records 17 kind requests", &[
         ("-2", "accepted dispositions 1 cents 45000 records 10 kind requests length 1200"),
-        ("!1 0", "accepted dispositions 1 cents 0 records 10 kind requests"),
+        ("!1 0", "refused 16 record 0 position 0"),
+        ("!1 1", "accepted dispositions 1 cents 1 records 10 kind requests"),
     ]),
     ("40-45 in IM alone", "accepted dispositions 2 cents 83050 records 16 kind requests", &[
         ("!1 1", "accepted dispositions 2 cents 38051 records 16 kind requests"),
@@ -288,8 +299,9 @@ const DUE: [Due; 40] = [
         ("!101 100", "accepted dispositions 101 cents 999999999999999 records 709 kind requests"),
         ("!50 9999999999999", "refused 17 record 0 position 0"),
         ("!50 9999999999998", "accepted dispositions 101 cents 999999999999999 records 709 kind requests"),
-        ("!101 0", "accepted dispositions 101 cents 999999999999899 records 709 kind requests"),
-        ("!50 9999999999999", "accepted dispositions 101 cents 999999999999900 records 709 kind requests"),
+        ("!101 0", "refused 16 record 0 position 0"),
+        ("!101 1", "accepted dispositions 101 cents 999999999999900 records 709 kind requests"),
+        ("!50 9999999999999", "accepted dispositions 101 cents 999999999999901 records 709 kind requests"),
         ("!101 99", "accepted dispositions 101 cents 999999999999999 records 709 kind requests"),
         ("-1", "accepted dispositions 100 cents 990000000000000 records 702 kind requests length 84240"),
         ("!100 9999999999999", "accepted dispositions 100 cents 999999999999900 records 702 kind requests"),
@@ -313,10 +325,11 @@ const DUE: [Due; 40] = [
     ]),
     ("recalls: amounts", "accepted dispositions 2 cents 83050 records 16 kind recalls", &[
         ("!1 45000", "accepted dispositions 2 cents 83050 records 16 kind recalls"),
-        ("!1 0", "accepted dispositions 2 cents 38050 records 16 kind recalls"),
-        ("!1 0", "accepted dispositions 2 cents 38050 records 16 kind recalls"),
-        ("!2 0", "accepted dispositions 2 cents 0 records 16 kind recalls"),
-        ("!1 1", "accepted dispositions 2 cents 1 records 16 kind recalls"),
+        ("!1 0", "refused 16 record 0 position 0"),
+        ("!2 1", "accepted dispositions 2 cents 45001 records 16 kind recalls"),
+        ("!2 0", "refused 16 record 0 position 0"),
+        ("!1 1", "accepted dispositions 2 cents 2 records 16 kind recalls"),
+        ("!1 0", "refused 16 record 0 position 0"),
         ("!2 9999999999999", "accepted dispositions 2 cents 10000000000000 records 16 kind recalls"),
         ("!1 9999999999999", "accepted dispositions 2 cents 19999999999998 records 16 kind recalls"),
         ("!1 10000000000000", "refused 16 record 0 position 0"),
@@ -333,6 +346,10 @@ const DUE: [Due; 40] = [
         ("!3 10000000000000", "refused 15 record 0 position 0"),
         ("!3 18446744073709551615", "refused 15 record 0 position 0"),
         ("!2 10000000000000", "refused 16 record 0 position 0"),
+        ("!0 0", "refused 15 record 0 position 0"),
+        ("!3 0", "refused 15 record 0 position 0"),
+        ("!18446744073709551615 0", "refused 15 record 0 position 0"),
+        ("!2 0", "refused 16 record 0 position 0"),
         ("-0", "refused 15 record 0 position 0 length 1920"),
         ("-3", "refused 15 record 0 position 0 length 1920"),
         ("-1", "accepted dispositions 1 cents 38050 records 9 kind recalls length 1080"),
@@ -341,13 +358,16 @@ const DUE: [Due; 40] = [
         ("-1", "refused 18 record 0 position 0 length 1080"),
         ("!2 10000000000000", "refused 15 record 0 position 0"),
         ("!1 10000000000000", "refused 16 record 0 position 0"),
+        ("!2 0", "refused 15 record 0 position 0"),
+        ("!1 0", "refused 16 record 0 position 0"),
     ]),
     ("recalls: one rent", "accepted dispositions 1 cents 45000 records 9 kind recalls", &[
         ("-1", "refused 18 record 0 position 0 length 1080"),
         ("-0", "refused 15 record 0 position 0 length 1080"),
         ("-2", "refused 15 record 0 position 0 length 1080"),
         ("-18446744073709551615", "refused 15 record 0 position 0 length 1080"),
-        ("!1 0", "accepted dispositions 1 cents 0 records 9 kind recalls"),
+        ("!1 0", "refused 16 record 0 position 0"),
+        ("!1 1", "accepted dispositions 1 cents 1 records 9 kind recalls"),
         ("-1", "refused 18 record 0 position 0 length 1080"),
         ("!1 9999999999999", "accepted dispositions 1 cents 9999999999999 records 9 kind recalls"),
         ("!0 5", "refused 15 record 0 position 0"),
@@ -362,7 +382,7 @@ const DUE: [Due; 40] = [
     ]),
     ("recalls: 12 to 7 records, from the middle", "accepted dispositions 6 cents 21021 records 59 kind recalls", &[
         ("-3", "accepted dispositions 5 cents 18018 records 49 kind recalls length 5880"),
-        ("!3 0", "accepted dispositions 5 cents 14014 records 49 kind recalls"),
+        ("!3 1", "accepted dispositions 5 cents 14015 records 49 kind recalls"),
         ("-3", "accepted dispositions 4 cents 14014 records 40 kind recalls length 4800"),
         ("-4", "accepted dispositions 3 cents 8008 records 33 kind recalls length 3960"),
         ("!3 9999999999999", "accepted dispositions 3 cents 10000000003002 records 33 kind recalls"),
@@ -411,7 +431,7 @@ const FOURTEENS_CHANGED: &str = "accepted dispositions 2 cents 14024 records 17 
 /// The flows that the reader refuses, and its answer: every call has that
 /// answer, and a withdrawal the length lent.
 #[rustfmt::skip]
-const REFUSED: [(&str, &str, usize); 31] = [
+const REFUSED: [(&str, &str, usize); 33] = [
     ("no byte", "refused 1 record 0 position 0", 0),
     ("a byte short", "refused 1 record 0 position 0", 1_919),
     ("a record short", "refused 4 record 16 position 0", 1_800),
@@ -430,7 +450,6 @@ const REFUSED: [(&str, &str, usize); 31] = [
     ("7 in the second 30", "refused 7 record 11 position 11", 1_920),
     ("8 in the second 14", "refused 8 record 9 position 23", 1_920),
     ("9 in the second 14", "refused 9 record 9 position 4", 1_920),
-    ("9 in the second 20", "refused 9 record 10 position 4", 1_920),
     ("10 in EF", "refused 10 record 16 position 114", 1_920),
     ("11 in the second 14", "refused 11 record 9 position 92", 1_920),
     ("12 in EF", "refused 12 record 16 position 46", 1_920),
@@ -438,15 +457,19 @@ const REFUSED: [(&str, &str, usize); 31] = [
     ("13 in EF at 68", "refused 13 record 16 position 68", 1_920),
     ("14 in EF", "refused 14 record 16 position 83", 1_920),
     ("22 in the second 14", "refused 22 record 9 position 29", 1_920),
+    ("25 in the first 14", "refused 25 record 2 position 34", 1_920),
+    ("25 in the second 14", "refused 25 record 9 position 34", 1_920),
     ("recalls: 22 in the second 14", "refused 22 record 9 position 29", 1_920),
     ("recalls: EF as of requests", "refused 13 record 16 position 53", 1_920),
+    ("recalls: 25 in the second 14", "refused 25 record 9 position 34", 1_920),
     ("recalls: the total at both", "refused 13 record 16 position 53", 1_920),
     ("recalls: zeros at both", "refused 13 record 16 position 68", 1_920),
     ("recalls: 13 in EF at 68", "refused 13 record 16 position 68", 1_920),
 ];
-const OF_REFUSED: [&str; 7] = [
+const OF_REFUSED: [&str; 8] = [
     "!1 45000",
     "!2 38051",
+    "!1 0",
     "!0 18446744073709551615",
     "-1",
     "-2",
@@ -796,6 +819,15 @@ fn every_answer_comes() {
     ] {
         assert!(of(&GENERATED, start, sign) >= least, "{start} {sign}");
     }
+    // Changes to 0: 16, and 15 before it.
+    let to_zero = |start: &str| {
+        let cases = given.iter().filter(|case| GENERATED.contains(&case.name));
+        let calls = cases.flat_map(|case| calls_of(case));
+        let wanted = |(call, line): &(&str, &str)| call.ends_with(" 0") && line.starts_with(start);
+        calls.filter(wanted).count()
+    };
+    assert!(to_zero("refused 16 ") >= 10 && to_zero("refused 15 ") >= 5);
+    assert_eq!(to_zero("accepted "), 0);
 }
 
 /// The input has the flows of the cases, and fits the program that reads it.

@@ -67,8 +67,8 @@ fn a_change_to_the_same_amount_changes_nothing() {
     let mut flow = two_rents().bytes();
     assert_eq!(change(&mut flow, 1, 45_000), accepted(2, 83_050, 16));
     assert_eq!(flow, two_rents().bytes());
-    assert_eq!(change(&mut flow, 1, 0), accepted(2, 38_050, 16));
-    assert_eq!(&flow[153..166], b"0000000000000");
+    assert_eq!(change(&mut flow, 1, 1), accepted(2, 38_051, 16));
+    assert_eq!(&flow[153..166], b"0000000000001");
 }
 
 /// Each accepted call touches only the positions document 01 names for it.
@@ -207,6 +207,7 @@ fn the_ledger_by_hand() {
         (change(0, 1), refused(15, 0, 0), None),
         (change(3, u64::MAX), refused(15, 0, 0), None),
         (change(1, 10_000_000_000_000), refused(16, 0, 0), None),
+        (change(1, 0), refused(16, 0, 0), None),
         (withdraw(u64::MAX), refused(15, 0, 0), None),
         (withdraw(1), accepted(1, 40_000, 9), Some(1_080)),
         (withdraw(2), refused(15, 0, 0), None),
@@ -244,13 +245,13 @@ fn the_ledger_of_recalls_by_hand() {
 fn the_kind_of_a_ledger_with_other_headers() {
     let rent = &two_rents_list()[50..];
     let header = |kind| item(kind, &[("", 49)]);
-    let change = Call::Change { k: 1, cents: 0 };
+    let change = Call::Change { k: 1, cents: 1 };
     let answer = |list: Vec<u8>| Ledger::new(&list).unwrap().call(change).0;
     let two = [header('H'), header('Q'), rent.to_vec()].concat();
-    assert_eq!(answer(two), recalled(2, 38_050, 17));
+    assert_eq!(answer(two), recalled(2, 38_051, 17));
     let behind = [rent, &header('Q'), &header('H')].concat();
-    assert_eq!(answer(behind), accepted(2, 38_050, 17));
-    assert_eq!(answer(rent.to_vec()), accepted(2, 38_050, 15));
+    assert_eq!(answer(behind), accepted(2, 38_051, 17));
+    assert_eq!(answer(rent.to_vec()), accepted(2, 38_051, 15));
 }
 
 /// A list that no flow has: its sum exceeds 64 bits.
@@ -258,8 +259,10 @@ fn the_kind_of_a_ledger_with_other_headers() {
 fn a_ledger_total_beyond_64_bits() {
     let opening = item('D', &[("310326", 6), ("9999999999999", 13), ("", 39)]);
     let mut ledger = Ledger::new(&opening.repeat(2_000_000)).unwrap();
-    let change = Call::Change { k: 1, cents: 0 };
-    assert_eq!(ledger.call(change), (refused(17, 0, 0), None));
+    let change = |cents| Call::Change { k: 1, cents };
+    assert_eq!(ledger.call(change(1)), (refused(17, 0, 0), None));
+    // 16 comes before 17.
+    assert_eq!(ledger.call(change(0)), (refused(16, 0, 0), None));
     let due = accepted(1_999_999, u64::MAX, 2_000_000);
     let withdraw = Call::Withdraw { k: 2_000_000 };
     assert_eq!(ledger.call(withdraw), (due, Some(240_000_000)));
@@ -270,8 +273,10 @@ fn a_list_that_is_none_has_no_ledger() {
     assert_eq!(Ledger::new(b"Y"), None);
     assert_eq!(Ledger::new(b"Q"), None);
     assert_eq!(Ledger::new(b"D123"), None);
-    let opening = item('D', &[("310326", 6), ("          450", 13), ("", 39)]);
-    assert_eq!(Ledger::new(&opening), None);
+    for cents in ["          450", "0000000000000", "000000000000 "] {
+        let opening = item('D', &[("310326", 6), (cents, 13), ("", 39)]);
+        assert_eq!(Ledger::new(&opening), None);
+    }
 }
 
 #[test]

@@ -42,6 +42,8 @@ fn judge_prints_one_line() {
     assert_eq!(judged(&mixed), "refused 22 record 9 position 29\n");
     let wrong = two_rents().with(10, 4, b"0000001").bytes();
     assert_eq!(judged(&wrong), "refused 9 record 10 position 4\n");
+    let zero = two_rents().with(9, 34, b"0000000000000").bytes();
+    assert_eq!(judged(&zero), "refused 25 record 9 position 34\n");
     let none = "refused 1 record 0 position 0\n";
     assert_eq!(judged(b""), none);
     assert_eq!(judged(&[&flow[..], b"\n"].concat()), none);
@@ -108,6 +110,11 @@ fn samples_are_written() {
     let mixed = fs::read(dir.join("refused-22-kind.flow")).unwrap();
     let second = two_rents().with(9, 29, b"07100").with(9, 47, b"+");
     assert_eq!(mixed, second.bytes());
+    let nothing = fs::read(dir.join("refused-25-nothing.flow")).unwrap();
+    let second = two_rents()
+        .with(9, 34, b"0000000000000")
+        .with(16, 53, b"000000000045000");
+    assert_eq!(nothing, second.bytes());
     let old = fs::read(dir.join("last-night.flow")).unwrap();
     let new = fs::read(dir.join("tonight.flow")).unwrap();
     assert_eq!(evenings::account(&old, &new).unwrap(), b"KKDKDAAKKK");
@@ -120,6 +127,10 @@ fn samples_are_written() {
     for number in NUMBERS {
         assert!(table.contains(&format!("`refused {number} record")));
     }
+    assert!(table.contains("requests E1, E5 and E7 of document 02"));
+    let row = "| `two-rents.flow`, change of 2 to 0 cents | an amount of nothing | \
+        `refused 16 record 0 position 0` |";
+    assert!(table.contains(row));
 }
 
 #[test]

@@ -1,6 +1,6 @@
-//! The field rules, from document 01.
+//! The field rules, from document 01 and document 02, E5.
 
-use oracle::fields::{amount, date, digits, is_blank, is_equal, write_digits, Date};
+use oracle::fields::{amount, date, digits, is_amount, is_blank, is_equal, write_digits, Date};
 use oracle::vectors::{field_cases, field_files};
 
 #[test]
@@ -30,7 +30,7 @@ fn digits_are_the_bytes_48_to_57_alone() {
 #[test]
 fn amounts_take_thirteen() {
     assert_eq!(amount(b"0000000045000"), Ok(45_000));
-    assert_eq!(amount(b"0000000000000"), Ok(0));
+    assert_eq!(amount(b"0000000000001"), Ok(1));
     assert_eq!(amount(b"9999999999999"), Ok(9_999_999_999_999));
     for wrong in [
         &b""[..],
@@ -44,6 +44,46 @@ fn amounts_take_thirteen() {
         b"             ",
     ] {
         assert_eq!(amount(wrong), Err(5));
+    }
+}
+
+/// Document 02, E5: thirteen zeros are 25, and any other fault is 5 first.
+#[test]
+fn an_amount_is_above_zero() {
+    assert_eq!(amount(b"0000000000000"), Err(25));
+    for place in 0..13 {
+        let mut single = *b"0000000000000";
+        single[place] = b'1';
+        assert_eq!(amount(&single), Ok(10_u64.pow(12 - place as u32)));
+        for byte in 0..=255 {
+            single[place] = byte;
+            let due = match byte {
+                b'0' => Err(25),
+                b'1'..=b'9' => Ok(u64::from(byte - b'0') * 10_u64.pow(12 - place as u32)),
+                _ => Err(5),
+            };
+            assert_eq!(amount(&single), due, "byte {byte} at {place}");
+        }
+    }
+    for len in (0..=12).chain(14..=30) {
+        assert_eq!(amount(&vec![b'0'; len]), Err(5), "{len} zeros");
+    }
+    assert_eq!(amount(&[0; 13]), Err(5));
+    assert_eq!(amount(b"OOOOOOOOOOOOO"), Err(5));
+    assert_eq!(amount(b"0000000000.00"), Err(5));
+    // Other digits may be zero.
+    assert_eq!(digits(b"0000000000000"), Ok(0));
+    assert_eq!(digits(b"000000000000000"), Ok(0));
+    assert_eq!(digits(b"0000000"), Ok(0));
+}
+
+#[test]
+fn so_many_cents_are_an_amount() {
+    for cents in [1, 2, 45_000, 9_999_999_999_998, 9_999_999_999_999] {
+        assert!(is_amount(cents));
+    }
+    for cents in [0, 10_000_000_000_000, 1 << 63, u64::MAX] {
+        assert!(!is_amount(cents));
     }
 }
 
@@ -120,6 +160,32 @@ fn blank_and_equal() {
     assert!(!is_equal(b"AB123", b"AB123 "));
 }
 
+/// Amounts of the vectors about zero.
+const AMOUNTS: [(&str, &str); 22] = [
+    ("0000000000000", "refused 25"),
+    ("0000000000001", "value 1"),
+    ("0000000000009", "value 9"),
+    ("0000000000010", "value 10"),
+    ("0000001000000", "value 1000000"),
+    ("1000000000000", "value 1000000000000"),
+    ("9000000000000", "value 9000000000000"),
+    ("9999999999999", "value 9999999999999"),
+    ("0", "refused 5"),
+    ("000000000000", "refused 5"),
+    ("00000000000000", "refused 5"),
+    ("000000000000000", "refused 5"),
+    ("00000000000000000000000000", "refused 5"),
+    ("000000000000 ", "refused 5"),
+    (" 000000000000", "refused 5"),
+    ("000000000000a", "refused 5"),
+    ("000000000000O", "refused 5"),
+    ("000000:000000", "refused 5"),
+    ("-000000000000", "refused 5"),
+    ("0000000000.00", "refused 5"),
+    ("            0", "refused 5"),
+    ("             ", "refused 5"),
+];
+
 #[test]
 fn vectors_keep_their_format() {
     let (input, output) = field_files();
@@ -138,6 +204,14 @@ fn vectors_keep_their_format() {
     assert_eq!(of("d323930323238"), "day 29 month 2 year 2028");
     assert_eq!(of("d323930323237"), "refused 8");
     assert_eq!(of("a"), "refused 5");
+    let of_text = |text: &str| {
+        let hex: String = text.bytes().map(|byte| format!("{byte:02x}")).collect();
+        of(&format!("a{hex}"))
+    };
+    for (text, due) in AMOUNTS {
+        assert_eq!(of_text(text), due, "'{text}'");
+    }
+    assert_eq!(of("n30303030303030303030303030"), "value 0");
     assert_eq!(of("w00000000000001446a"), "");
     assert_eq!(of("w05000000000001446a"), "83050");
     assert_eq!(of("w02ffffffffffffffff"), "15");

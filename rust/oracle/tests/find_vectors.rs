@@ -1,5 +1,5 @@
 //! The cases of `oracle vectors flow` for where a disposition is, against
-//! literal answers from documents 01 and 02 (E1).
+//! literal answers from documents 01 and 02 (E1, E5).
 //!
 //! What the lines below would catch:
 //! - k counted from 0, k = 0 taken for 1, k cut to 8, 16 or 32 bits or taken as
@@ -13,7 +13,10 @@
 //!   it or as one more: the count and the count + 1 of every right flow, and "EF
 //!   with an amount at 34-46";
 //! - an amount read from other positions, or another disposition's: the amounts
-//!   differ, and "amounts" has the least, the largest and all digits;
+//!   differ, and "amounts" has the least, the largest and all digits, under a
+//!   total of fifteen;
+//! - an amount of zero found, or passed over on the way to another: the cases of
+//!   25;
 //! - a 14 or EF looked for at other positions than 2-3, or with a blank before
 //!   it: the look-alikes;
 //! - an answer before the flow is read to its end, or 15 before the reader's
@@ -37,9 +40,9 @@ const MAX: u64 = u64::MAX;
 /// due.
 type Due = (&'static str, &'static str, &'static [(u64, &'static str)]);
 
-/// The right flows but the one of 36 dispositions, in the order of the file.
+/// The right flows but the one of 30 dispositions, in the order of the file.
 #[rustfmt::skip]
-const FOUND: [Due; 19] = [
+const FOUND: [Due; 18] = [
     ("one disposition", "accepted dispositions 1 cents 45000 records 9 kind requests", &[
         (0, NONE),
         (1, r#"found first 2 records 7 cents 45000 part 840 " 140000001" " 700000001""#),
@@ -95,29 +98,23 @@ const FOUND: [Due; 19] = [
         (3, r#"found first 18 records 8 cents 3003 part 960 " 140000003" " 700000003""#),
         (4, NONE),
     ]),
-    ("every variant", "accepted dispositions 12 cents 78078 records 112 kind requests", &[
+    ("amounts", "accepted dispositions 14 cents 111234567890123 records 100 kind requests", &[
         (0, NONE),
-        (1, r#"found first 2 records 8 cents 1001 part 960 " 140000001" " 700000001""#),
-        (2, r#"found first 10 records 11 cents 2002 part 1320 " 140000002" " 700000002""#),
-        (3, r#"found first 21 records 7 cents 3003 part 840 " 140000003" " 700000003""#),
-        (4, r#"found first 28 records 12 cents 4004 part 1440 " 140000004" " 700000004""#),
-        (5, r#"found first 40 records 7 cents 5005 part 840 " 140000005" " 700000005""#),
-        (6, r#"found first 47 records 10 cents 6006 part 1200 " 140000006" " 700000006""#),
-        (7, r#"found first 57 records 8 cents 7007 part 960 " 140000007" " 700000007""#),
-        (8, r#"found first 65 records 9 cents 8008 part 1080 " 140000008" " 700000008""#),
-        (9, r#"found first 74 records 11 cents 9009 part 1320 " 140000009" " 700000009""#),
-        (10, r#"found first 85 records 8 cents 10010 part 960 " 140000010" " 700000010""#),
-        (11, r#"found first 93 records 9 cents 11011 part 1080 " 140000011" " 700000011""#),
-        (12, r#"found first 102 records 10 cents 12012 part 1200 " 140000012" " 700000012""#),
-        (13, NONE),
-    ]),
-    ("amounts", "accepted dispositions 4 cents 11234567890123 records 30 kind requests", &[
-        (0, NONE),
-        (1, r#"found first 2 records 7 cents 0 part 840 " 140000001" " 700000001""#),
+        (1, r#"found first 2 records 7 cents 1 part 840 " 140000001" " 700000001""#),
         (2, r#"found first 9 records 7 cents 9999999999999 part 840 " 140000002" " 700000002""#),
-        (3, r#"found first 16 records 7 cents 1 part 840 " 140000003" " 700000003""#),
-        (4, r#"found first 23 records 7 cents 1234567890123 part 840 " 140000004" " 700000004""#),
-        (5, NONE),
+        (3, r#"found first 16 records 7 cents 9999999999999 part 840 " 140000003" " 700000003""#),
+        (4, r#"found first 23 records 7 cents 9999999999999 part 840 " 140000004" " 700000004""#),
+        (5, r#"found first 30 records 7 cents 9999999999999 part 840 " 140000005" " 700000005""#),
+        (6, r#"found first 37 records 7 cents 9999999999999 part 840 " 140000006" " 700000006""#),
+        (7, r#"found first 44 records 7 cents 9999999999999 part 840 " 140000007" " 700000007""#),
+        (8, r#"found first 51 records 7 cents 9999999999999 part 840 " 140000008" " 700000008""#),
+        (9, r#"found first 58 records 7 cents 9999999999999 part 840 " 140000009" " 700000009""#),
+        (10, r#"found first 65 records 7 cents 9999999999999 part 840 " 140000010" " 700000010""#),
+        (11, r#"found first 72 records 7 cents 9999999999999 part 840 " 140000011" " 700000011""#),
+        (12, r#"found first 79 records 7 cents 9999999999999 part 840 " 140000012" " 700000012""#),
+        (13, r#"found first 86 records 7 cents 10 part 840 " 140000013" " 700000013""#),
+        (14, r#"found first 93 records 7 cents 1234567890123 part 840 " 140000014" " 700000014""#),
+        (15, NONE),
     ]),
     ("14 at 1-2", EVERY, IN_EVERY),
     ("14 at 10-11", EVERY, IN_EVERY),
@@ -167,23 +164,22 @@ const IN_EVERY: &[(u64, &str)] = &[
     (3, NONE),
 ];
 
-/// First record, number of records and amount of each of the 36 dispositions.
+/// First record, number of records and amount of each of the 30 dispositions.
 #[rustfmt::skip]
-const OF_36: [(u64, u64, u64); 36] = [
+const OF_30: [(u64, u64, u64); 30] = [
     (2, 8, 1001), (10, 11, 2002), (21, 7, 3003), (28, 12, 4004), (40, 7, 5005), (47, 10, 6006),
     (57, 8, 7007), (65, 9, 8008), (74, 11, 9009), (85, 8, 10010), (93, 9, 11011), (102, 10, 12012),
     (112, 8, 13013), (120, 11, 14014), (131, 7, 15015), (138, 12, 16016), (150, 7, 17017),
     (157, 10, 18018), (167, 8, 19019), (175, 9, 20020), (184, 11, 21021), (195, 8, 22022),
     (203, 9, 23023), (212, 10, 24024),
     (222, 8, 25025), (230, 11, 26026), (241, 7, 27027), (248, 12, 28028), (260, 7, 29029),
-    (267, 10, 30030), (277, 8, 31031), (285, 9, 32032), (294, 11, 33033), (305, 8, 34034),
-    (313, 9, 35035), (322, 10, 36036),
+    (267, 10, 30030),
 ];
 
 /// The flows that the reader refuses, in the order of the file, and its line:
 /// the answer to every number is that line and an empty part.
 #[rustfmt::skip]
-const REFUSED: [(&str, &str); 27] = [
+const REFUSED: [(&str, &str); 29] = [
     ("no byte", "refused 1 record 0 position 0"),
     ("the header alone", "refused 4 record 2 position 0"),
     ("cut inside the first disposition", "refused 4 record 6 position 0"),
@@ -200,7 +196,6 @@ const REFUSED: [(&str, &str); 27] = [
     ("7 in the second 30", "refused 7 record 11 position 11"),
     ("8 in the second 14", "refused 8 record 9 position 23"),
     ("9 in the second 14", "refused 9 record 9 position 4"),
-    ("9 in the second 20", "refused 9 record 10 position 4"),
     ("10 in EF", "refused 10 record 16 position 114"),
     ("11 in the second 14", "refused 11 record 9 position 92"),
     ("12 in EF", "refused 12 record 16 position 46"),
@@ -208,9 +203,12 @@ const REFUSED: [(&str, &str); 27] = [
     ("13 in EF at 68", "refused 13 record 16 position 68"),
     ("14 in EF", "refused 14 record 16 position 83"),
     ("22 in the second 14", "refused 22 record 9 position 29"),
+    ("25 in the first 14", "refused 25 record 2 position 34"),
+    ("25 in the second 14", "refused 25 record 9 position 34"),
     ("14 after EF", "refused 3 record 10 position 2"),
     ("recalls: 22 in the second 14", "refused 22 record 9 position 29"),
     ("recalls: EF as of requests", "refused 13 record 16 position 53"),
+    ("recalls: 25 in the second 14", "refused 25 record 9 position 34"),
 ];
 
 /// A case as the two files have it: name, line of the flow, the reader's line,
@@ -240,10 +238,10 @@ fn given<'a>(input: &'a str, output: &'a str) -> Vec<Given<'a>> {
         .collect()
 }
 
-/// The due lines of the flow of 36 dispositions.
-fn due_of_36() -> Vec<(u64, String)> {
+/// The due lines of the flow of 30 dispositions.
+fn due_of_30() -> Vec<(u64, String)> {
     let found = (1..)
-        .zip(OF_36)
+        .zip(OF_30)
         .map(|(k, (first, records, cents)): (u64, _)| {
             let ends = format!(r#"" 14{k:07}" " 70{k:07}""#);
             let part = 120 * records;
@@ -252,7 +250,7 @@ fn due_of_36() -> Vec<(u64, String)> {
         });
     let mut due = vec![(0, String::from(NONE))];
     due.extend(found);
-    due.push((37, String::from(NONE)));
+    due.push((31, String::from(NONE)));
     due
 }
 
@@ -263,7 +261,7 @@ fn every_answer_is_the_literal_one() {
     assert_eq!(given.len(), FOUND.len() + 2 + REFUSED.len());
     let (many, others): (Vec<_>, Vec<_>) = given
         .iter()
-        .partition(|case| case.name == "36 dispositions");
+        .partition(|case| case.name == "30 dispositions");
     let (recalls, others): (Vec<_>, Vec<_>) =
         others.into_iter().partition(|case| case.name == RECALLS.0);
     let (found, refused) = others.split_at(FOUND.len());
@@ -277,14 +275,14 @@ fn every_answer_is_the_literal_one() {
     for case in many {
         assert_eq!(
             case.answer,
-            "accepted dispositions 36 cents 666666 records 332 kind requests"
+            "accepted dispositions 30 cents 465465 records 277 kind requests"
         );
         let asked: Vec<(u64, String)> = case
             .asked
             .iter()
             .map(|&(k, line)| (k, line.into()))
             .collect();
-        assert_eq!(asked, due_of_36());
+        assert_eq!(asked, due_of_30());
     }
     for (case, (name, answer)) in refused.iter().zip(REFUSED) {
         assert_eq!((case.name, case.answer), (name, answer));
@@ -294,7 +292,7 @@ fn every_answer_is_the_literal_one() {
     }
 }
 
-/// What the cases are to show is in them: the lengths 7 to 12, 36 dispositions
+/// What the cases are to show is in them: the lengths 7 to 12, 30 dispositions
 /// of one flow, and each of the reader's numbers.
 #[test]
 fn lengths_and_numbers_are_all_there() {
@@ -304,7 +302,7 @@ fn lengths_and_numbers_are_all_there() {
         let found = output.lines().filter(|line| line.starts_with("found"));
         assert!(found.filter(|line| line.contains(&with_length)).count() >= 3);
     }
-    for number in (1..=15).chain([22]) {
+    for number in (1..=15).chain([22, 25]) {
         let start = format!("refused {number} ");
         let refused = output.lines().filter(|line| line.ends_with(" part 0"));
         assert!(refused.filter(|line| line.starts_with(&start)).count() >= 4);

@@ -1,5 +1,5 @@
 //! The cases of `oracle vectors list`, against literal answers from documents 01
-//! and 02 (E1), and against a second statement of what a list encodes and a flow
+//! and 02 (E1, E5), and against a second statement of what a list encodes and a flow
 //! carries.
 //!
 //! What the lines would catch:
@@ -14,6 +14,7 @@
 //! - a room taken a byte too long or too short, bytes written after the length,
 //!   output written before the refusal: the number of bytes kept;
 //! - a refusal of the list's place instead of the record's: the refused values;
+//! - an amount of zero written, or its refusal out of its place: the cases of 25;
 //! - a flow called canonical that is not, or the reverse: the round trips;
 //! - a Q taken for an H or for no kind, a recall with causale, sign or total of
 //!   a request, a list read back from recalls that opens with H: the recalls.
@@ -32,7 +33,7 @@ type Due = (&'static str, &'static [(&'static str, &'static str)]);
 
 /// The cases in the order of the file, but those of one byte that is no kind.
 #[rustfmt::skip]
-const DUE: [Due; 501] = [
+static DUE: [Due; 527] = [
     ("two rents", &[
         (">0", "refused 21 record 0 position 0"),
         (">1", "refused 21 record 0 position 0"),
@@ -181,6 +182,10 @@ const DUE: [Due; 501] = [
         (">480", "refused 20 record 1 position 0"),
     ]),
     ("20 behind 85 items", &[(">10320", "refused 20 record 86 position 0")]),
+    ("20 at the end, 25 in D", &[
+        (">0", "refused 20 record 8 position 0"),
+        (">1080", "refused 20 record 8 position 0"),
+    ]),
     ("7 in H, at several rooms", &[
         (">0", "refused 21 record 0 position 0"),
         (">1079", "refused 21 record 0 position 0"),
@@ -192,6 +197,12 @@ const DUE: [Due; 501] = [
         (">1079", "refused 21 record 0 position 0"),
         (">1080", "refused 2 record 8 position 120"),
         (">1081", "refused 2 record 8 position 120"),
+    ]),
+    ("25 in D, at several rooms", &[
+        (">0", "refused 21 record 0 position 0"),
+        (">1079", "refused 21 record 0 position 0"),
+        (">1080", "refused 25 record 2 position 34"),
+        (">1081", "refused 25 record 2 position 34"),
     ]),
     ("H alone, at several rooms", &[
         (">0", "refused 21 record 0 position 0"),
@@ -348,23 +359,27 @@ const DUE: [Due; 501] = [
     ("H 105-111 is '      1'", &[(">240", "refused 6 record 1 position 105")]),
     ("H 105-111 in a right list is '1$05678'", &[(">1080", "accepted dispositions 1 cents 45000 records 9 kind requests length 1080")]),
     ("H date in a right list is '290228'", &[(">1080", "accepted dispositions 1 cents 45000 records 9 kind requests length 1080")]),
-    ("D date is '290227'", &[(">1080", "refused 8 record 2 position 23")]),
-    ("D date is '310426'", &[(">1080", "refused 8 record 2 position 23")]),
-    ("D date is '29022:'", &[(">1080", "refused 5 record 2 position 23")]),
-    ("D date is ''", &[(">1080", "refused 5 record 2 position 23")]),
+    ("D date is '290227'", &[(">360", "refused 8 record 2 position 23")]),
+    ("D date is '310426'", &[(">360", "refused 8 record 2 position 23")]),
+    ("D date is '29022:'", &[(">360", "refused 5 record 2 position 23")]),
+    ("D date is ''", &[(">360", "refused 5 record 2 position 23")]),
     ("D date in a right list is '290228'", &[(">1080", "accepted dispositions 1 cents 45000 records 9 kind requests length 1080")]),
-    ("D amount is '0000000450.00'", &[(">1080", "refused 5 record 2 position 34")]),
-    ("D amount is '/000000045000'", &[(">1080", "refused 5 record 2 position 34")]),
-    ("D amount is '000000004500:'", &[(">1080", "refused 5 record 2 position 34")]),
-    ("D amount is ''", &[(">1080", "refused 5 record 2 position 34")]),
-    ("D 53-57 is '024'", &[(">1080", "refused 5 record 2 position 53")]),
-    ("D 53-57 is '    0'", &[(">1080", "refused 5 record 2 position 53")]),
-    ("D 53-57 is '0240:'", &[(">1080", "refused 5 record 2 position 53")]),
+    ("D amount is '0000000450.00'", &[(">360", "refused 5 record 2 position 34")]),
+    ("D amount is '/000000045000'", &[(">360", "refused 5 record 2 position 34")]),
+    ("D amount is '000000004500:'", &[(">360", "refused 5 record 2 position 34")]),
+    ("D amount is ''", &[(">360", "refused 5 record 2 position 34")]),
+    ("D amount is '0000000000000'", &[(">360", "refused 25 record 2 position 34")]),
+    ("D amount is ' 000000000000'", &[(">360", "refused 5 record 2 position 34")]),
+    ("D amount is '000000000000:'", &[(">360", "refused 5 record 2 position 34")]),
+    ("D amount is '000000O000000'", &[(">360", "refused 5 record 2 position 34")]),
+    ("D 53-57 is '024'", &[(">360", "refused 5 record 2 position 53")]),
+    ("D 53-57 is '    0'", &[(">360", "refused 5 record 2 position 53")]),
+    ("D 53-57 is '0240:'", &[(">360", "refused 5 record 2 position 53")]),
     ("D 53-57 in a right list is ''", &[(">1080", "accepted dispositions 1 cents 45000 records 9 kind requests length 1080")]),
     ("D 53-57 in a right list is '99999'", &[(">1080", "accepted dispositions 1 cents 45000 records 9 kind requests length 1080")]),
-    ("D at 97 is '0'", &[(">1080", "refused 6 record 2 position 97")]),
-    ("D at 97 is '7'", &[(">1080", "refused 6 record 2 position 97")]),
-    ("D at 97 is 'A'", &[(">1080", "refused 6 record 2 position 97")]),
+    ("D at 97 is '0'", &[(">360", "refused 6 record 2 position 97")]),
+    ("D at 97 is '7'", &[(">360", "refused 6 record 2 position 97")]),
+    ("D at 97 is 'A'", &[(">360", "refused 6 record 2 position 97")]),
     ("D at 97 in a right list is ''", &[(">1080", "accepted dispositions 1 cents 45000 records 9 kind requests length 1080")]),
     ("D at 97 in a right list is '9'", &[(">1080", "accepted dispositions 1 cents 45000 records 9 kind requests length 1080")]),
     ("S 11-12 is 'DE'", &[(">1200", "refused 6 record 3 position 11")]),
@@ -387,18 +402,18 @@ const DUE: [Due; 501] = [
     ("byte 31 in H at 45", &[(">1080", "refused 2 record 1 position 45")]),
     ("byte 127 in H at 105", &[(">1080", "refused 2 record 1 position 105")]),
     ("byte 128 in H at 111", &[(">1080", "refused 2 record 1 position 111")]),
-    ("byte 0 in Q at 4", &[(">1080", "refused 2 record 1 position 4")]),
-    ("byte 31 in Q at 45", &[(">1080", "refused 2 record 1 position 45")]),
-    ("byte 127 in Q at 105", &[(">1080", "refused 2 record 1 position 105")]),
-    ("byte 128 in Q at 111", &[(">1080", "refused 2 record 1 position 111")]),
-    ("byte 0 in D at 23", &[(">1080", "refused 2 record 2 position 23")]),
-    ("byte 31 in D at 28", &[(">1080", "refused 2 record 2 position 28")]),
-    ("byte 127 in D at 34", &[(">1080", "refused 2 record 2 position 34")]),
-    ("byte 128 in D at 46", &[(">1080", "refused 2 record 2 position 46")]),
-    ("byte 255 in D at 53", &[(">1080", "refused 2 record 2 position 53")]),
-    ("byte 10 in D at 69", &[(">1080", "refused 2 record 2 position 69")]),
-    ("byte 0 in D at 92", &[(">1080", "refused 2 record 2 position 92")]),
-    ("byte 31 in D at 113", &[(">1080", "refused 2 record 2 position 113")]),
+    ("byte 0 in Q at 4", &[(">240", "refused 2 record 1 position 4")]),
+    ("byte 31 in Q at 45", &[(">240", "refused 2 record 1 position 45")]),
+    ("byte 127 in Q at 105", &[(">240", "refused 2 record 1 position 105")]),
+    ("byte 128 in Q at 111", &[(">240", "refused 2 record 1 position 111")]),
+    ("byte 0 in D at 23", &[(">360", "refused 2 record 2 position 23")]),
+    ("byte 31 in D at 28", &[(">360", "refused 2 record 2 position 28")]),
+    ("byte 127 in D at 34", &[(">360", "refused 2 record 2 position 34")]),
+    ("byte 128 in D at 46", &[(">360", "refused 2 record 2 position 46")]),
+    ("byte 255 in D at 53", &[(">360", "refused 2 record 2 position 53")]),
+    ("byte 10 in D at 69", &[(">360", "refused 2 record 2 position 69")]),
+    ("byte 0 in D at 92", &[(">360", "refused 2 record 2 position 92")]),
+    ("byte 31 in D at 113", &[(">360", "refused 2 record 2 position 113")]),
     ("byte 0 in S at 11", &[(">1200", "refused 2 record 3 position 11")]),
     ("byte 31 in S at 37", &[(">1200", "refused 2 record 3 position 37")]),
     ("byte 0 in C at 11", &[(">1080", "refused 2 record 3 position 11")]),
@@ -417,8 +432,8 @@ const DUE: [Due; 501] = [
     ("byte 31 in Z at 96", &[(">1080", "refused 2 record 8 position 96")]),
     ("byte 127 in Z at 120", &[(">1080", "refused 2 record 8 position 120")]),
     ("byte 0 in the second Z at 120", &[(">1920", "refused 2 record 15 position 120")]),
-    ("amount 0", &[
-        (">1080", "accepted dispositions 1 cents 0 records 9 kind requests length 1080"),
+    ("amount 1", &[
+        (">1080", "accepted dispositions 1 cents 1 records 9 kind requests length 1080"),
         ("><", "there 1080 back 643 same"),
     ]),
     ("amount 9999999999999", &[
@@ -494,6 +509,23 @@ const DUE: [Due; 501] = [
     ("8 in D then no Z", &[(">960", "refused 8 record 2 position 23")]),
     ("6 in the last Z", &[(">1080", "refused 6 record 8 position 94")]),
     ("5 at both ends of H", &[(">1080", "refused 5 record 1 position 9")]),
+    ("25 in the first D", &[(">1920", "refused 25 record 2 position 34")]),
+    ("25 in the last D", &[(">1920", "refused 25 record 9 position 34")]),
+    ("25 in the middle D", &[(">2760", "refused 25 record 9 position 34")]),
+    ("25 in both D", &[(">1920", "refused 25 record 2 position 34")]),
+    ("8 and 25 in D", &[(">360", "refused 8 record 2 position 23")]),
+    ("25 and 5 in D", &[(">360", "refused 25 record 2 position 34")]),
+    ("25 and 6 in D", &[(">360", "refused 25 record 2 position 34")]),
+    ("25 and 11 in the second D", &[(">1200", "refused 25 record 9 position 34")]),
+    ("25 and a byte outside in D", &[(">360", "refused 2 record 2 position 113")]),
+    ("a byte outside in an amount of zero", &[(">360", "refused 2 record 2 position 46")]),
+    ("7 in H then 25 in D", &[(">360", "refused 7 record 1 position 20")]),
+    ("25 in D then 2 in C", &[(">480", "refused 25 record 2 position 34")]),
+    ("25 in D then 3 in B", &[(">480", "refused 25 record 2 position 34")]),
+    ("an amount of zero before H", &[(">360", "refused 3 record 1 position 2")]),
+    ("an amount of zero behind D", &[(">480", "refused 3 record 3 position 2")]),
+    ("recalls: 25 in the last D", &[(">1920", "refused 25 record 9 position 34")]),
+    ("recalls: 8 and 25 in D", &[(">360", "refused 8 record 2 position 23")]),
     ("12 dispositions", &[
         (">11040", "accepted dispositions 12 cents 78078 records 92 kind requests length 11040"),
         ("><", "there 11040 back 7334 same"),
@@ -652,12 +684,6 @@ const DUE: [Due; 501] = [
         ("<2000", "refused 9 record 9 position 4"),
         ("<>", "refused 9 record 9 position 4"),
     ]),
-    ("back: 9 in the second 20", &[
-        ("<0", "refused 9 record 10 position 4"),
-        ("<1235", "refused 9 record 10 position 4"),
-        ("<2000", "refused 9 record 10 position 4"),
-        ("<>", "refused 9 record 10 position 4"),
-    ]),
     ("back: 10 in EF", &[
         ("<0", "refused 10 record 16 position 114"),
         ("<1235", "refused 10 record 16 position 114"),
@@ -699,6 +725,18 @@ const DUE: [Due; 501] = [
         ("<1235", "refused 22 record 9 position 29"),
         ("<2000", "refused 22 record 9 position 29"),
         ("<>", "refused 22 record 9 position 29"),
+    ]),
+    ("back: 25 in the first 14", &[
+        ("<0", "refused 25 record 2 position 34"),
+        ("<1235", "refused 25 record 2 position 34"),
+        ("<2000", "refused 25 record 2 position 34"),
+        ("<>", "refused 25 record 2 position 34"),
+    ]),
+    ("back: 25 in the second 14", &[
+        ("<0", "refused 25 record 9 position 34"),
+        ("<1235", "refused 25 record 9 position 34"),
+        ("<2000", "refused 25 record 9 position 34"),
+        ("<>", "refused 25 record 9 position 34"),
     ]),
     ("back: a list for a flow", &[
         ("<0", "refused 1 record 0 position 0"),
@@ -920,8 +958,8 @@ const DUE: [Due; 501] = [
         (">2160", "accepted dispositions 2 cents 2469135780246 records 18 kind recalls length 2160"),
         ("><", "there 2160 back 1375 same"),
     ]),
-    ("recalls: amount 0", &[
-        (">1080", "accepted dispositions 1 cents 0 records 9 kind recalls length 1080"),
+    ("recalls: amount 1", &[
+        (">1080", "accepted dispositions 1 cents 1 records 9 kind recalls length 1080"),
         ("><", "there 1080 back 643 same"),
     ]),
     ("recalls: amounts that carry", &[
@@ -997,9 +1035,10 @@ const DUE: [Due; 501] = [
     ("Q 105-111 is '2$05678'", &[(">240", "refused 6 record 1 position 105")]),
     ("Q 105-111 is '1E05678'", &[(">240", "refused 6 record 1 position 106")]),
     ("Q 105-111 is '1$0567:'", &[(">240", "refused 5 record 1 position 107")]),
-    ("recalls: D date is '290227'", &[(">1080", "refused 8 record 2 position 23")]),
-    ("recalls: D amount is '0000000450.00'", &[(">1080", "refused 5 record 2 position 34")]),
-    ("recalls: D at 97 is '0'", &[(">1080", "refused 6 record 2 position 97")]),
+    ("recalls: D date is '290227'", &[(">360", "refused 8 record 2 position 23")]),
+    ("recalls: D amount is '0000000450.00'", &[(">360", "refused 5 record 2 position 34")]),
+    ("recalls: D amount is '0000000000000'", &[(">360", "refused 25 record 2 position 34")]),
+    ("recalls: D at 97 is '0'", &[(">360", "refused 6 record 2 position 97")]),
     ("recalls: Z at 94 is 'A'", &[(">1080", "refused 6 record 8 position 94")]),
     ("recalls: company code different", &[(">1920", "refused 11 record 9 position 92")]),
     ("recalls: S with the ABI of another Q", &[(">1200", "refused 10 record 3 position 16")]),
@@ -1057,6 +1096,11 @@ const DUE: [Due; 501] = [
         ("<2000", "refused 13 record 16 position 53"),
         ("<>", "refused 13 record 16 position 53"),
     ]),
+    ("back: recalls: 25 in the second 14", &[
+        ("<0", "refused 25 record 9 position 34"),
+        ("<2000", "refused 25 record 9 position 34"),
+        ("<>", "refused 25 record 9 position 34"),
+    ]),
 ];
 
 /// A line of the input that asks, and its line of the output.
@@ -1111,10 +1155,10 @@ fn every_answer_is_the_literal_one() {
         assert_eq!(case.asked, [(">1200", line)], "{}", case.name);
     }
     assert_eq!(others.len(), DUE.len());
-    for (case, (name, asked)) in others.iter().zip(DUE) {
-        assert_eq!(case.name, name);
+    for (case, (name, asked)) in others.iter().zip(&DUE) {
+        assert_eq!(case.name, *name);
         assert_eq!(case.asked.len(), asked.len(), "{name}");
-        for ((question, line), (question_due, due)) in case.asked.iter().zip(asked) {
+        for ((question, line), (question_due, due)) in case.asked.iter().zip(*asked) {
             assert_eq!(question, question_due, "{name}");
             assert!(is_line(question, line, due), "{name} {question}: {line}");
         }
@@ -1286,10 +1330,10 @@ fn every_number_comes() {
     let (input, output) = list_files();
     let lines: Vec<Line> = input.lines().zip(output.lines()).collect();
     for (sign, numbers) in [
-        ('>', &[2, 3, 5, 6, 7, 8, 10, 11, 17, 20, 21][..]),
+        ('>', &[2, 3, 5, 6, 7, 8, 10, 11, 17, 20, 21, 25][..]),
         (
             '<',
-            &[1, 2, 3, 4, 5, 6, 7, 8, 9, 10, 11, 12, 13, 14, 21, 22],
+            &[1, 2, 3, 4, 5, 6, 7, 8, 9, 10, 11, 12, 13, 14, 21, 22, 25],
         ),
     ] {
         for number in numbers {

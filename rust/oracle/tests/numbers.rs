@@ -367,6 +367,7 @@ fn number_15_no_such_disposition() {
     // 15 comes before 16 and before 18.
     let mut flow = one_rent().bytes();
     assert_eq!(change(&mut flow, 2, u64::MAX), refused(15, 0, 0));
+    assert_eq!(change(&mut flow, 2, 0), refused(15, 0, 0));
     assert_eq!(withdraw(&mut flow, 2), (refused(15, 0, 0), 1_080));
     assert_eq!(withdraw(&mut flow, 0), (refused(15, 0, 0), 1_080));
 }
@@ -374,7 +375,7 @@ fn number_15_no_such_disposition() {
 #[test]
 fn numbers_16_and_17_limits_of_a_change() {
     let mut flow = two_rents().bytes();
-    for cents in [MAX + 1, MAX * 2, u64::MAX] {
+    for cents in [0, MAX + 1, MAX * 2, u64::MAX] {
         assert_eq!(change(&mut flow, 1, cents), refused(16, 0, 0));
         assert_eq!(change(&mut flow, 2, cents), refused(16, 0, 0));
     }
@@ -405,8 +406,8 @@ fn numbers_16_and_17_limits_of_a_change() {
 fn number_17_total_of_a_list() {
     let list_of = |cents: u64| {
         let mut amounts = vec![MAX; 100];
-        amounts.push(0);
-        let flow = many(&amounts, "999999999999900").bytes();
+        amounts.push(1);
+        let flow = many(&amounts, "999999999999901").bytes();
         let mut list = vec![0; flow.len()];
         let (_, len) = write_list(&flow, &mut list);
         list.truncate(len);

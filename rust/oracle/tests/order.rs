@@ -10,7 +10,7 @@ type Case = (usize, usize, &'static [u8], u8, u8);
 
 /// Faults by record and rising position, each with number and position due.
 /// A later row of the same record is later in order.
-const FAULTS: [Case; 56] = [
+const FAULTS: [Case; 58] = [
     (1, 60, b"\x7f", 2, 60),
     (1, 2, b"14", 3, 2),
     (1, 4, b"     ", 7, 4),
@@ -25,6 +25,7 @@ const FAULTS: [Case; 56] = [
     (2, 23, b"300226", 8, 23),
     (2, 29, b"07200", 6, 29),
     (2, 34, b":", 5, 34),
+    (2, 34, b"0000000000000", 25, 34),
     (2, 47, b"+", 6, 47),
     (2, 48, b"99999", 10, 48),
     (2, 53, b" ", 5, 53),
@@ -52,6 +53,7 @@ const FAULTS: [Case; 56] = [
     (13, 94, b"X", 6, 94),
     (14, 4, b"0000001", 9, 4),
     (14, 29, b"07100", 22, 29),
+    (14, 34, b"0000000000000", 25, 34),
     (14, 48, b"12340", 10, 48),
     (14, 92, b"ZZZZZ", 11, 92),
     (14, 97, b"7", 6, 97),
@@ -159,7 +161,9 @@ fn a_byte_outside_at_the_type_is_2() {
 fn not_digits_come_before_what_compares_them() {
     for (record, position, wrong) in [
         (2, 4, &b"000000A"[..]),
+        (2, 34, b"000000000000 "),
         (2, 48, b"9999 "),
+        (14, 34, b"O000000000000"),
         (3, 16, b"A9999"),
         (3, 21, b"0000 "),
         (21, 46, b"000009A"),

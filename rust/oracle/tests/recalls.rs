@@ -402,14 +402,15 @@ fn numbers_5_and_13_of_the_totals_by_kind() {
     }
 }
 
-/// With amounts of zero both totals are zeros: the causale tells the kind.
+/// With an amount of zero, under totals of zeros, neither kind is accepted
+/// (document 02, E5).
 #[test]
 fn recalls_of_nothing() {
     let zero = b"0000000000000";
     let flow = one_rent().with(2, 34, zero).with(9, 53, ZEROS);
-    assert_eq!(flow.read(), accepted(1, 0, 9));
+    assert_eq!(flow.read(), refused(25, 2, 34));
     let flow = one_recall().with(2, 34, zero).with(9, 68, ZEROS);
-    assert_eq!(flow.read(), recalled(1, 0, 9));
+    assert_eq!(flow.read(), refused(25, 2, 34));
 }
 
 const MAX: u64 = 9_999_999_999_999;
@@ -442,9 +443,10 @@ fn the_largest_total_of_recalls() {
     assert_eq!(change(&mut flow, 101, 100), refused(17, 0, 0));
     assert_eq!(change(&mut flow, 101, MAX + 1), refused(16, 0, 0));
     assert_eq!(flow, right.bytes());
+    assert_eq!(change(&mut flow, 101, 0), refused(16, 0, 0));
     assert_eq!(
-        change(&mut flow, 101, 0),
-        recalled(101, 999_999_999_999_900, 709)
+        change(&mut flow, 101, 1),
+        recalled(101, 999_999_999_999_901, 709)
     );
     // A sum of 16 digits is 13 at 68, whatever stands there, after 53.
     amounts[100] = 100;

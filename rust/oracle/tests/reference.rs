@@ -1,8 +1,8 @@
 //! The reader against a second statement of the same rules: all faults of a
 //! record are gathered in no order at all, and the first is chosen by the
-//! order of documents 01 and 02 (E1). Compared on every single byte put anywhere, and on
-//! generated flows. The digit and date rules are those of `fields`, which has
-//! tests of its own.
+//! order of documents 01 and 02 (E1, E5). Compared on every single byte put
+//! anywhere, and on generated flows. The digit and date rules are those of
+//! `fields`, which has tests of its own.
 
 mod common;
 
@@ -37,7 +37,7 @@ fn reference(flow: &[u8]) -> Answer {
 }
 
 /// Rank, number, position. Ranks: 2 before 3 before fields by position; for
-/// one field 5 first, and 6 before 22.
+/// one field 5 first, and 6 before 22. 25 never stands beside a 5.
 type Fault = ((u8, u8, bool), u8, u8);
 
 fn kind(record: &[u8]) -> &[u8] {
@@ -182,6 +182,7 @@ impl<'a> Found<'a> {
                 self.digits(48, 52);
                 self.equal(48, 52, &header[8..13], 10);
                 self.digits(34, 46);
+                self.fault_if(self.at(34, 46) == [b'0'; 13], 25, 34);
                 self.date(23);
             }
             b"16" => {
@@ -270,6 +271,39 @@ fn kinds_in_every_mixture() {
                 due,
                 "{one:?} {other:?} {negative:?} {positive:?}"
             );
+        }
+    }
+}
+
+/// Two dispositions with amounts of zero in each, a byte away from it, and no
+/// digits, beside a wrong date, causale, sign or ABI of the second.
+#[test]
+fn zeros_in_every_mixture() {
+    let amounts = [
+        b"0000000000000",
+        b"0000000000001",
+        b"000000000000 ",
+        b"0000000045000",
+    ];
+    let beside: [(usize, &[u8]); 6] = [
+        (23, b"310326"),
+        (23, b"290227"),
+        (29, b"07200"),
+        (47, b" "),
+        (48, b"01235"),
+        (120, b"\n"),
+    ];
+    for right in [two_rents(), two_recalls()] {
+        for (one, other) in amounts.into_iter().flat_map(|o| amounts.map(|p| (o, p))) {
+            for (position, bytes) in beside {
+                let flow = right
+                    .clone()
+                    .with(2, 34, one)
+                    .with(9, 34, other)
+                    .with(9, position, bytes);
+                let due = reference(&flow.bytes());
+                assert_eq!(flow.read(), due, "{one:?} {other:?} {position}");
+            }
         }
     }
 }

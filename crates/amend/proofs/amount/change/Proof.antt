@@ -1,13 +1,15 @@
 -- `amend::change` meets its contract. Assumes nothing.
 use Prim.Native.Nat.{ℕ, _-_}
+use mathlib.Core.Bool.{true, false}
 use mathlib.Core.List.{List}
 use mathlib.Core.Path.{_≡_, refl, sym, _∙_, ap}
 use native.Mathlib.Omega.{arith}
 use lib.ListN.{length}
 use borrow.Author.Needs.{needs}
-use borrow.Author.Tests.{le-leb, lt-leb}
-use Rattle.fields.specs.Amount.{mostAmount}
+use borrow.Author.Tests.{le-leb, lt-leb, not-true, not-false}
+use Rattle.fields.specs.Amount.{isAmount}
 use Rattle.fields.specs.Digits.{digits}
+use Rattle.fields.proofs.Amounts.{amount-test}
 use Rattle.records.specs.Limits.{mostCents}
 use Rattle.flow.specs.Find.{foundWithTotalsVerdict, findWithTotals}
 use Rattle.flow.specs.Verdict.{accepted, refused}
@@ -48,29 +50,37 @@ module _ (c : tie.After-known-told2) where
 
 returns : tie.Need-returns
 returns c =
-    let at = c .before .before in
-    left-unchanged (Refused (c .refusal-of-call .result)) (length (flow at)) (flow at) (ap refused (c .refusal-of-call .ensures)) refl ∙ sym (change-found _ _ (there at) _ ∙ rw (lt-leb (new at) mostAmount (c .before .if1 .taken)))
+    let at = c .before .before .before in
+    let none : isAmount (new at) ≡ false = sym (c .before .before .is-amount .ensures) ∙ not-true _ (c .before .if1 .taken) in
+    left-unchanged (Refused (c .refusal-of-call .result)) (length (flow at)) (flow at) (ap refused (c .refusal-of-call .ensures)) refl ∙ sym (change-found _ _ (there at) _ ∙ rw none)
 
-sub-t16 : tie.Need-sub-t16
-sub-t16 c = known (c .before .before .before .before .before) .share
+-- the new amount is one
+some : (c : tie.Else1) → isAmount (new (c .before .before)) ≡ true
+some c = sym (c .before .is-amount .ensures) ∙ not-false _ (c .if1 .left)
 
-add-t17 : tie.Need-add-t17
-add-t17 c = omega (arith, known (c .before .before .before .before .before) .share, known (c .before .before .before .before .before) .cents)
+sub-t17 : tie.Need-sub-t17
+sub-t17 c = known (c .before .before .before .before .before .before) .share
+
+add-t18 : tie.Need-add-t18
+add-t18 c =
+    let at = c .before .before .before .before in
+    let s = known (at .before .before) in
+    omega (arith, s .share, s .cents, amount-test (new (at .before .before)) .0 (some at) .1)
 
 returns-2 : tie.Need-returns-2
 returns-2 c =
-    let at = c .before .before .before .before .before .before .before .before in
+    let at = c .before .before .before .before .before .before .before .before .before in
     left-unchanged (Refused (c .refusal-of-call2 .result)) (length (flow at)) (flow at) (ap refused (c .refusal-of-call2 .ensures)) refl
-    ∙ sym (change-found _ _ (there at) _ ∙ rw (le-leb (new at) mostAmount (c .before .before .before .before .before .before .before .if1 .left), lt-leb (made at .cents) mostCents (c .before .if2 .taken)))
+    ∙ sym (change-found _ _ (there at) _ ∙ rw (some (c .before .before .before .before .before .before .before), lt-leb (made at .cents) mostCents (c .before .if2 .taken)))
 
 place-number-requires : tie.Need-place-number-requires
 place-number-requires c κs =
-    let s = known (c .before .before .before .before .before .before .before .before) in
+    let s = known (c .before .before .before .before .before .before .before .before .before) in
     omega (arith, s .starts, s .ends, s .size)
 
 place-number-requires-2 : tie.Need-place-number-requires-2
 place-number-requires-2 c κs =
-    let at = c .before .before .before .before .before .before .before .before .before .before .before .before .before .before in
+    let at = c .before .before .before .before .before .before .before .before .before .before .before .before .before .before .before in
     let s = known at in
     omega (arith, s .starts, s .ends, s .size, total-place (found at .totals .kind), c .before .total-first .ensures, c .total-last .ensures)
 
@@ -80,7 +90,7 @@ returns-3 c = sym (change-found _ _ (sym (c .before .before .before .find-with-t
 returns-4 : tie.Need-returns-4
 returns-4 c =
     let end = c .before .before .before .before .before .before .before .before .before .before in
-    let at = end .before .before .before .before .before .before .before in
+    let at = end .before .before .before .before .before .before .before .before in
     let t = made at in
     let begins = c .before .before .before .before .total-first in
     let ends = c .before .before .before .total-last in
@@ -89,7 +99,7 @@ returns-4 c =
     let bytes : c .before .before .place-number2 .last .0 ≡ changed (found at .location .first) (new at) t (flow at) =
     c .before .before .place-number2 .ensures ∙ (λ i. writtenInRecord (t .records) (begins .ensures i) (digits (wide i) (t .cents)) (first i)) in
     ap (λ (l : List ℕ). record { answer = accepted t; size = length (flow at); bytes = l }) bytes
-    ∙ sym (change-found _ _ (there at) _ ∙ rw (le-leb (new at) mostAmount (end .before .before .before .before .before .before .if1 .left), le-leb (t .cents) mostCents (end .if2 .left)))
+    ∙ sym (change-found _ _ (there at) _ ∙ rw (some (end .before .before .before .before .before .before), le-leb (t .cents) mostCents (end .if2 .left)))
 
 pub change-spec : {M : Type 1} → statement M
 change-spec =
@@ -100,9 +110,10 @@ change-spec =
     (search needs)
     (search needs)
     (search needs)
+    (search needs)
     returns
-    sub-t16
-    add-t17
+    sub-t17
+    add-t18
     (search needs)
     (search needs)
     returns-2
