@@ -94,7 +94,7 @@ enum {
     MAV_REFUSED_NOT_A_DATE = 8,             /* digits, but no date of the calendar */
     MAV_REFUSED_DISPOSITION_NUMBER = 9,     /* a wrong disposition number */
     MAV_REFUSED_DIFFERS_FROM_HEADER = 10,   /* a field that differs from the header */
-    MAV_REFUSED_COMPANY_CODE = 11,          /* a company code that differs from the latest one present */
+    MAV_REFUSED_COMPANY_CODE = 11,          /* a company code that differs from the first record 14's */
     MAV_REFUSED_DISPOSITION_COUNT = 12,     /* a wrong count of dispositions in the trailer */
     MAV_REFUSED_TOTAL = 13,                 /* a wrong total in the trailer */
     MAV_REFUSED_RECORD_COUNT = 14,          /* a wrong count of records in the trailer */

@@ -29,6 +29,7 @@ use Rattle.flow.proofs.Accepted.{accepted-not-refused, accepted-same, accepted-
 use Rattle.flow.proofs.Cut.{Whole, cut-count, cut-at, flatten-length, joined-records}
 use Rattle.flow.proofs.Dispositions.{found-within}
 use Rattle.flow.proofs.FindWithTotals.{find-reads}
+use Rattle.grammar.specs.Fault.{companyOf}
 use Rattle.grammar.proofs.Grammar.{grammar-exact}
 use Rattle.amend.specs.Amended.{Amended, writtenInRecord}
 use Rattle.amend.specs.Change.{totalsChanged, changed, change}
@@ -36,6 +37,7 @@ use Rattle.amend.specs.Laws.{flowLeft, LeavesAccepted, ChangeLeaves, Wit
 use Rattle.amend.specs.Withdraw.{renumbered, numberedFrom, totalsLeft, recounted, recordsLeft, withdrawn, withdraw}
 use Rattle.amend.proofs.Neighbours.{Neighbours, neighbours-so}
 use Rattle.amend.proofs.Answered.{ChangeCase, change-case, WithdrawCase, withdraw-case, refuses, changes, withdraws, changed-grammar, withdrawn-grammar}
+use Rattle.amend.proofs.PartsLeft.{company-kept, rest-codes, changed-codes}
 use Rattle.amend.proofs.RecordsAround.{before, own, after, trailer, records-split, pieces}
 use Rattle.amend.proofs.RulesKept.{over-length, total-place, totalFrom, withCount, withTotal, count-length, total-length, recounted-length}
 use Rattle.amend.proofs.FoundFacts.{FoundFacts, found-facts}
@@ -55,6 +57,10 @@ module _ (f : List ℕ) (k : ℕ) (v : WithTotals) (found : findWithTotals f k �
     pub changed-read : judge changedFlow ≡ accepted (totalsChanged v new)
     changed-read = grammar-exact changedFlow (totalsChanged v new) .1 (changed-grammar f k v new here asked fits)
 
+    pub changed-company : companyOf (recordsOf changedFlow) ≡ companyOf (recordsOf f)
+    changed-company =
+        company-kept f (v .totals) (here .grammar) changedFlow (totalsChanged v new) (changed-grammar f k v new here asked fits) (changed-codes f (v .totals) (here .grammar) (here .pre) (here .this) (here .post) (here .split) new asked)
+
     pub changed-size : length changedFlow ≡ length f
     changed-size = sym (accepted-exact changedFlow (totalsChanged v new) changed-read .2) ∙ size-before
 
@@ -70,6 +76,10 @@ module _ (f : List ℕ) (k : ℕ) (v : WithTotals) (found : findWithTotals f k �
 
     pub withdrawn-read : judge withdrawnFlow ≡ accepted (totalsLeft v)
     withdrawn-read = grammar-exact withdrawnFlow (totalsLeft v) .1 (withdrawn-grammar f k v here some)
+
+    pub withdrawn-company : companyOf (recordsOf withdrawnFlow) ≡ companyOf (recordsOf f)
+    withdrawn-company =
+        company-kept f (v .totals) (here .grammar) withdrawnFlow (totalsLeft v) (withdrawn-grammar f k v here some) (rest-codes f (v .totals) (here .grammar) (here .pre) (here .this) (here .post) (here .split))
 
     pub withdrawn-size : 120 * left ≤ length f
     withdrawn-size = omega (arith, size-before)
@@ -93,6 +103,7 @@ change-leaves f k new t same = go (change f k new) (change-case f k new) same
           read = ap judge whole ∙ changed-read f k v found new asked fits ∙ same;
           within = omega arith;
           memory = sym (append-nil left) ∙ (λ i. sym whole i ++ replicate (sym none i) 32);
+          company = ap (λ (l : List ℕ). companyOf (recordsOf l)) whole ∙ changed-company f k v found new asked fits;
         }
 
 pub withdraw-leaves : WithdrawLeaves
@@ -106,6 +117,7 @@ withdraw-leaves f k t same = go (withdraw f k) (withdraw-case f k) same
           read = ap judge own ∙ withdrawn-read f k v found some ∙ same;
           within = withdrawn-size f k v found some;
           memory = ap (λ (l : List ℕ). l ++ replicate (length f - 120 * totalsLeft v .records) 32) (sym own);
+          company = ap (λ (l : List ℕ). companyOf (recordsOf l)) own ∙ withdrawn-company f k v found some;
         }
 
 -- digits written over positions of a record of a flow, and any index that does not lie there

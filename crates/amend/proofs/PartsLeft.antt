@@ -1,10 +1,10 @@
 -- The parts of a flow that an amendment leaves: other dispositions, and a trailer with their counts. Assumes nothing.
 use Prim.Native.Nat.{ℕ, suc, _+_, _-_, _≤_, _<_}
-use mathlib.Core.List.{List, [], _∷_, _++_, map, map-map, map-append, flatten, List·Memᴰ, Memᴰ·append-left, Memᴰ·append-right, List·Memᴰ·tail, List·Memᴰ·append-cases}
-use mathlib.Core.Logic.{_⊎_, inl, inr}
+use mathlib.Core.List.{List, [], _∷_, _++_, map, map-map, map-append, flatten, List·Memᴰ, Memᴰ·append-left, Memᴰ·append-right, List·Memᴰ·head, List·Memᴰ·tail, List·Memᴰ·append-cases}
+use mathlib.Core.Logic.{inr, ⊎-elim}
 use mathlib.Core.Path.{_≡_, refl, sym, _∙_, ap, ap₂, subst}
 use native.Mathlib.Omega.{arith}
-use lib.ListN.{length, length-append, length-map}
+use lib.ListN.{length, getD, length-append, length-map}
 use Rattle.sequences.specs.All.{All}
 use Rattle.sequences.specs.Part.{part}
 use Rattle.sequences.specs.Sum.{sum}
@@ -19,13 +19,16 @@ use Rattle.records.specs.Limits.{centsLimit, countLimit}
 use Rattle.records.specs.declared.flow_kind.FlowKind.{FlowKind}
 use Rattle.records.specs.declared.kind.RecordKind.{RecordKind}
 use Rattle.records.specs.declared.kind.RecordKind.the-variants.{R14, Ef}
+use Rattle.flow.specs.Records.{recordsOf}
 use Rattle.flow.specs.declared.answer.Totals.{Totals}
+use Rattle.grammar.specs.Fault.{companyOf}
 use Rattle.grammar.specs.Grammar.{Typed, Parts, kindsOf, recordsIn, opening, dispositionAmount, dispositionCode, bytesOf, RightDisposition, RightDispositions, AllEqual, RightParts, Grammar}
 use Rattle.grammar.specs.Rules.{Formed, KindRules, MemberRules}
 use Rattle.grammar.specs.Shape.{Disposition}
 use Rattle.grammar.proofs.Bytes.{parts-joined}
 use Rattle.grammar.proofs.Dispositions.{Opened, opened-by, opened-so, Member}
 use Rattle.grammar.proofs.Grammar.{counts-below}
+use Rattle.grammar.proofs.Parts.{company-first}
 use Rattle.amend.specs.Withdraw.{renumbered, numberedFrom, recounted}
 use Rattle.amend.proofs.RulesKept.{over-kept, kind-same, renumbered-formed, renumbered-rules, repricedRecord, repriced-formed, repriced-says, repriced-code, repriced-kind, repriced-rules, recounted-formed, recounted-rules}
 
@@ -133,13 +136,30 @@ module _ (abi : List ℕ) where
       let one = kind-same (opening d) (opening (map (retyped j) d)) (λ a n h. opening-kept abi (suc j) j (omega arith) d (each .0) a n (h .0)) q (kinds .0) in
       (one, typed-kinds q (suc j) ds (omega arith) (each .1) (kinds .1))
 
--- codes that are all equal still are without some
-fewer-equal : (xs ys : List (List ℕ)) (c : List ℕ) → AllEqual (xs ++ (c ∷ ys)) → AllEqual (xs ++ ys)
-fewer-equal xs ys c equal a b m k p q = equal a b (more a (List·Memᴰ·append-cases xs m)) (more b (List·Memᴰ·append-cases xs k)) p q
+-- each of these codes is one of those; so are those without one of them, be it the first
+abbrev pub Among : List (List ℕ) → List (List ℕ) → Type 0
+Among less codes = (c : List ℕ) → List·Memᴰ c less → List·Memᴰ c codes
+
+without-one : (xs ys : List (List ℕ)) (x : List ℕ) → Among (xs ++ ys) (xs ++ (x ∷ ys))
+without-one xs ys x c m = ⊎-elim (λ front. Memᴰ·append-left (x ∷ ys) front) (λ back. Memᴰ·append-right xs (List·Memᴰ·tail back)) (List·Memᴰ·append-cases xs m)
+
+-- they are equal where all are (document 02, E4)
+among-equal : (less codes : List (List ℕ)) → Among less codes → AllEqual codes → AllEqual less
+among-equal less codes among equal a b m k = equal a b (among a m) (among b k)
+
+-- and the first of them is the first of all: a flow left has the company code of the flow before
+pub company-kept :
+    (f : List ℕ) (t : Totals) (g : Grammar f t) (left : List ℕ) (u : Totals) (h : Grammar left u)
+    → Among (map dispositionCode (h .parts .dispositions)) (map dispositionCode (g .parts .dispositions)) → companyOf (recordsOf left) ≡ companyOf (recordsOf f)
+company-kept f t g left u h among =
+    company-first left u h ∙ first (g .parts .dispositions) (h .parts .dispositions) (g .right .some) (h .right .some) among (g .right .codes) ∙ sym (company-first f t g)
   where
-    more : (a : List ℕ) → List·Memᴰ a xs ⊎ List·Memᴰ a ys → List·Memᴰ a (xs ++ (c ∷ ys))
-    more a (inl m) = Memᴰ·append-left (c ∷ ys) m
-    more a (inr m) = Memᴰ·append-right xs (List·Memᴰ·tail m)
+    first :
+        (ds es : List (List Typed)) → 1 ≤ length ds → 1 ≤ length es → Among (map dispositionCode es) (map dispositionCode ds) → AllEqual (map dispositionCode ds)
+        → dispositionCode (getD es 0 []) ≡ dispositionCode (getD ds 0 [])
+    first [] es none some among equal = absurd (omega arith)
+    first (d ∷ ds) [] some none among equal = absurd (omega arith)
+    first (d ∷ ds) (e ∷ es) some more among equal = equal (dispositionCode e) (dispositionCode d) (among (dispositionCode e) (List·Memᴰ·head refl)) (List·Memᴰ·head refl)
 
 -- a disposition with another amount in the record that opens it
 abbrev pub retold : ℕ → List Typed → List Typed
@@ -214,8 +234,8 @@ module _ (f : List ℕ) (t : Totals) (g : Grammar f t) (pre : List (List Typed))
   below =
       subst (λ (u : Totals). (u .dispositions < countLimit) × (u .cents < centsLimit) × (u .records < countLimit)) (g .totals) (counts-below p (g .right))
 
-  codes : AllEqual (map dispositionCode pre ++ (dispositionCode x ∷ map dispositionCode post))
-  codes = subst AllEqual (ap (map dispositionCode) split ∙ map-append dispositionCode pre (x ∷ post)) (g .right .codes)
+  codes-split : map dispositionCode (p .dispositions) ≡ map dispositionCode pre ++ (dispositionCode x ∷ map dispositionCode post)
+  codes-split = ap (map dispositionCode) split ∙ map-append dispositionCode pre (x ∷ post)
 
   -- the kinds of those before it, of it and of those after it
   kinds : OfKind (p .kind) pre × OfKind (p .kind) (x ∷ post)
@@ -251,14 +271,18 @@ module _ (f : List ℕ) (t : Totals) (g : Grammar f t) (pre : List (List Typed))
       ap (λ (l : List ℕ). 2 + sum l) (map-append size pre (typedFrom number-of post)) ∙ ap (λ (m : ℕ). 2 + m) (sum-append (map size pre) (map size (typedFrom number-of post)))
       ∙ omega (arith, typed-sizes number-of post, records-split)
 
+  pub rest-codes : Among (map dispositionCode rest) (map dispositionCode (p .dispositions))
+  rest-codes c m =
+      let same : map dispositionCode rest ≡ map dispositionCode pre ++ map dispositionCode post = map-append dispositionCode pre (typedFrom number-of post) ∙ ap (λ (l : List (List ℕ)). map dispositionCode pre ++ l) (typed-kept abi (λ (bs : List ℕ). bs) 91 5 number-of post (omega arith) rest-few after) in
+      subst (List·Memᴰ c) (sym codes-split) (without-one (map dispositionCode pre) (map dispositionCode post) (dispositionCode x) c (subst (List·Memᴰ c) same m))
+
   pub rest-right : 2 ≤ t .dispositions → RightParts (leftWith p rest)
   rest-right some =
       let b = below in
-      let same : map dispositionCode rest ≡ map dispositionCode pre ++ map dispositionCode post = map-append dispositionCode pre (typedFrom number-of post) ∙ ap (λ (l : List (List ℕ)). map dispositionCode pre ++ l) (typed-kept abi (λ (bs : List ℕ). bs) 91 5 number-of post (omega arith) rest-few after) in
       left-right p rest (g .right)
       (omega (arith, rest-count))
       (counted-append (RightDisposition abi) 1 pre (typedFrom number-of post) before (typed-numbered abi number-of post rest-few after))
-      (subst AllEqual (sym same) (fewer-equal (map dispositionCode pre) (map dispositionCode post) (dispositionCode x) codes))
+      (among-equal (map dispositionCode rest) (map dispositionCode (p .dispositions)) rest-codes (g .right .codes))
       (kinds-joined (typedFrom number-of post) (typed-kinds abi (p .kind) number-of post rest-few after (kinds .1 .1)))
       (omega (arith, rest-count))
       (omega (arith, rest-cents))
@@ -289,14 +313,18 @@ module _ (f : List ℕ) (t : Totals) (g : Grammar f t) (pre : List (List Typed))
     pub changed-numbered : RightDispositions abi 1 changed
     changed-numbered = counted-append (RightDisposition abi) 1 pre (retold new x ∷ post) before (retold-here .right, after)
 
+    pub changed-codes : Among (map dispositionCode changed) (map dispositionCode (p .dispositions))
+    changed-codes c m =
+        let same : map dispositionCode changed ≡ map dispositionCode pre ++ (dispositionCode x ∷ map dispositionCode post) = map-append dispositionCode pre (retold new x ∷ post) ∙ ap (λ (l : List ℕ). map dispositionCode pre ++ (l ∷ map dispositionCode post)) (retold-here .code) in
+        subst (List·Memᴰ c) (same ∙ sym codes-split) m
+
     pub changed-right : t .cents - dispositionAmount x + new < centsLimit → RightParts (leftWith p changed)
     changed-right fits =
         let b = below in
-        let same : map dispositionCode changed ≡ map dispositionCode pre ++ (dispositionCode x ∷ map dispositionCode post) = map-append dispositionCode pre (retold new x ∷ post) ∙ ap (λ (l : List ℕ). map dispositionCode pre ++ (l ∷ map dispositionCode post)) (retold-here .code) in
         left-right p changed (g .right)
         (omega (arith, changed-count, count-split))
         changed-numbered
-        (subst AllEqual (sym same) codes)
+        (among-equal (map dispositionCode changed) (map dispositionCode (p .dispositions)) changed-codes (g .right .codes))
         (kinds-joined (retold new x ∷ post) (retold-here .kind (p .kind) (kinds .1 .0), kinds .1 .1))
         (omega (arith, changed-count))
         (omega (arith, changed-cents))

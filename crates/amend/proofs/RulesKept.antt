@@ -14,7 +14,8 @@ use Rattle.fields.specs.Digits.{digits, number}
 use Rattle.fields.proofs.Decimal.{written-length}
 use Rattle.records.specs.Amount.{amountIn}
 use Rattle.records.specs.Context.{Header}
-use Rattle.records.specs.Field.{field, firstOf, lastOf}
+use Rattle.records.specs.Company.{companyIn}
+use Rattle.records.specs.Field.{firstOf, lastOf}
 use Rattle.records.specs.FlowKinds.{totalSpan}
 use Rattle.records.specs.Limits.{centsLimit, countLimit}
 use Rattle.records.specs.declared.flow_kind.FlowKind.{FlowKind}
@@ -150,7 +151,7 @@ module _ (abi : List ℕ) (i new : ℕ) (rec : List ℕ) (formed : Formed R14 re
   pub repriced-says : Says new (amountIn (repricedRecord new rec))
   repriced-says = over-says 33 13 new rec (formed .whole) (omega arith) small
 
-  pub repriced-code : field 92 96 (repricedRecord new rec) ≡ field 92 96 rec
+  pub repriced-code : companyIn (repricedRecord new rec) ≡ companyIn rec
   repriced-code = kept 91 5 (inr (omega arith))
 
   pub repriced-kind : (q : FlowKind) → KindRules q rec → KindRules q (repricedRecord new rec)

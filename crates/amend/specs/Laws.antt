@@ -11,8 +11,9 @@ use Rattle.records.specs.FlowKinds.{totalSpan}
 use Rattle.records.specs.Limits.{mostCents}
 use Rattle.flow.specs.Find.{IsNumber, find}
 use Rattle.flow.specs.Judge.{judge}
-use Rattle.flow.specs.Records.{recordAt}
+use Rattle.flow.specs.Records.{recordAt, recordsOf}
 use Rattle.flow.specs.Verdict.{accepted, refused, ofCall}
+use Rattle.grammar.specs.Fault.{companyOf}
 use Rattle.amend.specs.Amended.{Amended, amended}
 use Rattle.amend.specs.Change.{change}
 use Rattle.amend.specs.Withdraw.{withdraw}
@@ -58,11 +59,13 @@ RefusedUntouched =
 abbrev pub flowLeft : Amended → List ℕ
 flowLeft a = take (a .size) (a .bytes)
 
--- an accepted amendment answers with the totals of the flow left, which the reader accepts; after that flow the memory is blank
+-- an accepted amendment answers with the totals of the flow left, which the reader accepts and which has the company code of the flow
+-- before, whichever request goes, since all had the same (document 02, E4); after that flow the memory is blank
 pub record LeavesAccepted (f : List ℕ) (a : Amended) (t : Totals) : Type 0 where
   pub read : judge (flowLeft a) ≡ accepted t
   pub within : a .size ≤ length f
   pub memory : a .bytes ≡ flowLeft a ++ replicate (length f - a .size) 32
+  pub company : companyOf (recordsOf (flowLeft a)) ≡ companyOf (recordsOf f)
 
 abbrev pub ChangeLeaves : Type 0
 ChangeLeaves = (f : List ℕ) (k new : ℕ) (t : Totals) → change f k new .answer ≡ accepted t → LeavesAccepted f (change f k new) t

@@ -2,7 +2,7 @@
 use Rattle.flow.proofs.Accepted.{accepted-exact}
 use Rattle.flow.proofs.Dispositions.{each-asks, part-placed}
 use Rattle.grammar.proofs.Grammar.{grammar-exact}
-use Rattle.grammar.proofs.Parts.{one-kind, parts-exact, places-exact, opening-exact}
+use Rattle.grammar.proofs.Parts.{one-kind, one-company, parts-exact, places-exact, opening-exact}
 use Rattle.list.proofs.Answered.{write-answers, write-leaves, read-back-accepted, read-back-answers, read-back-leaves}
 use Rattle.list.proofs.ListItems.{items-exact}
 use Rattle.list.proofs.Rewritten.{own-list, own-items, rewritten-exact, rewritten-same, unchecked-only}
@@ -16,6 +16,7 @@ demand2 =
       accepted-exactly = grammar-exact;
       sums = accepted-exact;
       one-kind = one-kind;
+      one-company = one-company;
       each-asks = each-asks;
       parts = parts-exact;
       part-placed = part-placed;

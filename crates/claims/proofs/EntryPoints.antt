@@ -28,7 +28,7 @@ use Rattle.records.proofs.total_at.Met.{met as total-at-met}
 use Rattle.records.proofs.kind_in.Met.{met as kind-in-met}
 use Rattle.records.proofs.or_requests.Met.{met as or-requests-met}
 use Rattle.flow.proofs.read.Met.{met as read-met}
-use Rattle.flow.proofs.latest_company.Met.{met as latest-company-met}
+use Rattle.flow.proofs.first_company.Met.{met as first-company-met}
 use Rattle.flow.proofs.walk.Walk.start.Met.{met as walk-start-met}
 use Rattle.flow.proofs.walk.Walk.judge.Met.{met as walk-judge-met}
 use Rattle.flow.proofs.walk.Walk.next.Met.{met as walk-next-met}
@@ -93,7 +93,7 @@ entry-points =
       kind-in = (λ M. kind-in-met, λ κs a g w. refl);
       or-requests = (λ M. or-requests-met, λ κs a g w. refl);
       read = (λ M. read-met, λ κs a g w. refl);
-      latest-company = (λ M. latest-company-met, λ κs a g w. refl);
+      first-company = (λ M. first-company-met, λ κs a g w. refl);
       walk-start = (λ M. walk-start-met, λ κs a g w. refl);
       walk-judge = (λ M. walk-judge-met, λ κs a g w. refl);
       walk-next = (λ M. walk-next-met, λ κs a g w. refl);

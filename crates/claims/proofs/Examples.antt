@@ -19,13 +19,14 @@ use Rattle.flow.specs.Records.{cut}
 use Rattle.flow.specs.Order.{among}
 use Rattle.flow.specs.Walking.{judgeTyped, judgeRecord}
 use Rattle.flow.proofs.Examples.{examples as flow}
+use Rattle.grammar.specs.Fault.{companyOf}
 use Rattle.list.specs.Encode.{fill, bodyPlaced, encodeItem, encodeTrailer, encodeFrom, lastHeader, listDispositions, listCents}
 use Rattle.list.specs.Items.{itemsFrom}
 use Rattle.list.specs.Table.{firstRow}
 use Rattle.list.proofs.Examples.{examples as list}
 use Rattle.amend.specs.Change.{change}
 use Rattle.amend.specs.Withdraw.{numberedFrom, withdraw}
-use Rattle.claims.specs.Examples.{Examples, RecallExamples, NothingExamples, LedgerExample}
+use Rattle.claims.specs.Examples.{Examples, RecallExamples, CompanyExamples, NothingExamples, LedgerExample}
 use Rattle.claims.specs.Ledger.{withAmount, withoutDisposition, changeOn, withdrawOn, listAfter, repliesOn}
 
 pub examples : Examples
@@ -57,6 +58,19 @@ recall-examples =
       mixed = flow .recall-after-request;
       no-kind = (flow .no-kind-first, flow .no-kind-second);
       wrong-sign = flow .recall-with-minus;
+    }
+
+pub company-examples : CompanyExamples
+unfolding kindAmong judge walkFrom cut judgeRecord judgeTyped among judgeAs firstFault checks isListed badFrom isEqual numberFrom digits every isDay daysIn isLeap find groups lead flatten findWithTotals change numberedFrom withdraw companyOf
+company-examples =
+    record {
+      read = (flow .two-rents, flow .no-codes);
+      code-after-blanks = flow .code-after-blanks;
+      blanks-after-code = flow .blanks-after-code;
+      written = list .blanks-written;
+      withdrawn = (refl, refl);
+      blanks-withdrawn = (refl, refl);
+      not-amended = (refl, refl);
     }
 
 pub nothing-examples : NothingExamples

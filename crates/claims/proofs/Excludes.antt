@@ -7,10 +7,11 @@ use native.Mathlib.Omega.{arith}
 use lib.Dec.{leb}
 use lib.ListN.{length, take, drop, getD}
 use Rattle.sequences.specs.Every.{every}
+use Rattle.sequences.specs.All.{All}
 use Rattle.sequences.specs.Groups.{lead, groups}
 use Rattle.sequences.specs.Part.{put}
 use Rattle.sequences.specs.Text.{text}
-use Rattle.sequences.proofs.All.{all-getD}
+use Rattle.sequences.proofs.All.{all-getD, all-map}
 use Rattle.fields.specs.Amount.{IsAmount}
 use Rattle.fields.specs.Bytes.{isEqual}
 use Rattle.fields.specs.Calendar.{isLeap, daysIn, isDay}
@@ -18,13 +19,14 @@ use Rattle.fields.specs.Digits.{numberFrom, number, digits}
 use Rattle.records.specs.Amount.{amountIn}
 use Rattle.records.specs.Bytes.{badFrom}
 use Rattle.records.specs.Checks.{isListed, checks}
+use Rattle.records.specs.Company.{companyIn}
 use Rattle.records.specs.Field.{field}
 use Rattle.records.specs.FlowKinds.{causale, kindAmong}
 use Rattle.records.specs.Kinds.{isOpening}
 use Rattle.records.specs.declared.flow_kind.FlowKind.the-variants.{Requests, Recalls}
 use Rattle.records.specs.RecordVerdict.{firstFault}
 use Rattle.records.specs.Judge.{judgeAs}
-use Rattle.flow.specs.Examples.{flowOf, headerIm, trailerEf, second, further59, firstClosed, withFurther, twoRents, twoRentTotals, twoRecalls, twoRecallTotals, oneCentAsked, oneCentTotals}
+use Rattle.flow.specs.Examples.{flowOf, headerIm, trailerEf, second, further59, firstClosed, withFurther, twoRents, twoRentTotals, twoRecalls, twoRecallTotals, noCodes, oneCentAsked, oneCentTotals}
 use Rattle.flow.specs.ExactTotals.{kindFrom}
 use Rattle.flow.specs.Judge.{walkFrom, judge}
 use Rattle.flow.specs.Order.{among}
@@ -36,12 +38,11 @@ use Rattle.flow.specs.declared.answer.Totals.{Totals}
 use Rattle.flow.proofs.Accepted.{accepted-not-refused, accepted-same, accepted-exact}
 use Rattle.flow.proofs.Dispositions.{each-asks}
 use Rattle.flow.proofs.Examples.{examples as flow}
-use Rattle.grammar.specs.Fault.{FaultAfter, bad-byte}
+use Rattle.grammar.specs.Fault.{companyOf, FaultAfter, bad-byte}
 use Rattle.grammar.proofs.FirstFault.{first-fault-exact}
-use Rattle.grammar.specs.Rules.{KindRules}
 use Rattle.grammar.proofs.Grammar.{grammar-exact}
 use Rattle.grammar.proofs.KindsOfFlow.{kind-rules}
-use Rattle.grammar.proofs.Parts.{one-kind}
+use Rattle.grammar.proofs.Parts.{one-kind, one-company}
 use Rattle.list.specs.Encode.{fill, bodyPlaced, encodeItem, encodeFrom, encodeTrailer, lastHeader, listDispositions, listCents, encode}
 use Rattle.list.specs.Examples.{headerItem, secondItems}
 use Rattle.list.specs.Items.{Item, items, itemsFrom, parse, itemsIn}
@@ -53,7 +54,7 @@ use Rattle.list.proofs.Answered.{write-leaves}
 use Rattle.list.proofs.Examples.{examples as list}
 use Rattle.amend.specs.Amended.{Amended}
 use Rattle.amend.proofs.Answered.{change-refused, withdraw-refused}
-use Rattle.evenings.specs.Account.{Line, Keep, Drop, Add, countLines, keptLines}
+use Rattle.evenings.specs.Account.{Keep, Drop, Add, countLines, keptLines}
 use Rattle.evenings.specs.Compare.{accountBetween}
 use Rattle.evenings.specs.Computed.{keptWith, mostKept, linesWith, accountOf}
 use Rattle.evenings.specs.Examples.{swappedRents}
@@ -205,14 +206,17 @@ last-refused room = rw (last-read, last-count) (by (leb 1920 room))
     by true = (refusal 6 15 94, last-judged)
     by false = (ofCall 21, refl)
 
--- of a flow that is accepted all records 14 have one causale
-mixed-refused : (read : Reader) → AcceptsExactly read → (f : List ℕ) → Mixed f → ¬ ((t : Totals) × (read f ≡ accepted t))
-mixed-refused read exact f mixed (t, e) = mixed .differ (causale-of (mixed .one) (mixed .there .0) (mixed .openings .0) ∙ sym (causale-of (mixed .other) (mixed .there .1) (mixed .openings .1)))
+-- where all records 14 have the same, no two differ
+not-mixed : (something : List ℕ → List ℕ) (f : List ℕ) (same : List ℕ) → All (λ (rec : List ℕ). isOpening rec ≡ true → something rec ≡ same) (recordsOf f) → ¬ Mixed something f
+not-mixed something f same all mixed = mixed .differ (has (mixed .one) (mixed .there .0) (mixed .openings .0) ∙ sym (has (mixed .other) (mixed .there .1) (mixed .openings .1)))
   where
-    causale-of : (i : ℕ) → i < length (recordsOf f) → let rec = getD (recordsOf f) i [] in isOpening rec ≡ true → field 29 33 rec ≡ causale (t .kind)
-    causale-of i within opening =
-        let kept = all-getD (λ (rec : List ℕ). isOpening rec ≡ true → KindRules (t .kind) rec) (recordsOf f) i [] within (one-kind f t (read-so read exact f t e)) in
-        kind-rules (t .kind) (getD (recordsOf f) i []) .0 (kept opening) .0
+    has : (i : ℕ) → i < length (recordsOf f) → let rec = getD (recordsOf f) i [] in isOpening rec ≡ true → something rec ≡ same
+    has i within = all-getD (λ (rec : List ℕ). isOpening rec ≡ true → something rec ≡ same) (recordsOf f) i [] within all
+
+-- of a flow that is accepted all have one causale
+mixed-refused : (read : Reader) → AcceptsExactly read → (f : List ℕ) → Mixed (field 29 33) f → ¬ ((t : Totals) × (read f ≡ accepted t))
+mixed-refused read exact f mixed (t, e) =
+    not-mixed (field 29 33) f (causale (t .kind)) (all-map (λ rec kept opening. kind-rules (t .kind) rec .0 (kept opening) .0) (recordsOf f) (one-kind f t (read-so read exact f t e))) mixed
 
 -- and each of them asks for something
 nothing-refused : (read : Reader) → AcceptsExactly read → (f : List ℕ) → AsksForNothing f → ¬ ((t : Totals) × (read f ≡ accepted t))
@@ -270,6 +274,9 @@ excludes =
       made-up-kind = λ read exact f t e. accepted-exact f t (read-so read exact f t e) .3;
       always-requests = λ read exact all. recalls-differ (sym (all twoRecalls twoRecallTotals (reads-so read exact twoRecalls twoRecallTotals (flow .two-recalls))));
       recall-total-elsewhere = recall-total;
+      codes-mixed-accepted = λ read exact f mixed (t, e). not-mixed companyIn f (companyOf (recordsOf f)) (one-company f t (read-so read exact f t e)) mixed;
+      blanks-passed = λ read exact. (refuses-so read exact _ _ (flow .blanks-after-code), refuses-so read exact _ _ (flow .code-after-blanks));
+      blanks-refused = λ read exact. not-refused (reads-so read exact noCodes twoRentTotals (flow .no-codes));
       nothing-accepted = nothing-refused;
       cent-refused = λ read exact. not-refused (reads-so read exact oneCentAsked oneCentTotals (flow .one-cent));
       zero-before-digits = λ read exact. refuses-so read exact _ _ (flow .nothing-no-digits);

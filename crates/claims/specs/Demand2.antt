@@ -1,6 +1,6 @@
 -- Demand 2. Assumes nothing.
 use Rattle.flow.specs.Laws.{AcceptedExact, EachAsks, PartPlaced}
-use Rattle.grammar.specs.Laws.{GrammarExact, OneKind, PartsExact, PlacesExact, OpeningExact}
+use Rattle.grammar.specs.Laws.{GrammarExact, OneKind, OneCompany, PartsExact, PlacesExact, OpeningExact}
 use Rattle.list.specs.Laws.{ItemsExact, WriteAccepted, WriteAnswers, WriteLeaves, WrittenExact, OwnList, OwnItems, ReadBackAccepted, ReadBackAnswers, ReadBackLeaves, RewrittenExact, RewrittenSame, UncheckedOnly}
 
 pub record Demand2 : Type 0 where
@@ -10,6 +10,8 @@ pub record Demand2 : Type 0 where
   pub sums : AcceptedExact
   -- document 02, E1: "new requests and recalls may not share a flow"; the kind answered is that of each of its records 14
   pub one-kind : OneKind
+  -- E4: "92-96 of every record 14 equals that of the first, blanks counted as a content like any other"
+  pub one-company : OneCompany
   -- E5: "no request for nothing"
   pub each-asks : EachAsks
   -- where each disposition of it stands: together all that is between header and trailer, in order, each at its own place in the flow

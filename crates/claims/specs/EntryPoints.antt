@@ -57,8 +57,8 @@ use Rattle.records.proofs.or_requests.Reads.{requires as or-requests-requires}
 use Rattle.records.proofs.or_requests.Statement.{statement as or-requests-statement}
 use Rattle.flow.proofs.read.Reads.{requires as read-requires}
 use Rattle.flow.proofs.read.Statement.{statement as read-statement}
-use Rattle.flow.proofs.latest_company.Reads.{requires as latest-company-requires}
-use Rattle.flow.proofs.latest_company.Statement.{statement as latest-company-statement}
+use Rattle.flow.proofs.first_company.Reads.{requires as first-company-requires}
+use Rattle.flow.proofs.first_company.Statement.{statement as first-company-statement}
 use Rattle.flow.proofs.walk.Walk.start.Reads.{requires as walk-start-requires}
 use Rattle.flow.proofs.walk.Walk.start.Statement.{statement as walk-start-statement}
 use Rattle.flow.proofs.walk.Walk.judge.Reads.{requires as walk-judge-requires}
@@ -160,7 +160,7 @@ pub record EntryPoints : Type 2 where
   pub or-requests : EntryPoint or-requests-statement or-requests-requires
   -- flow: a flow: reading it, the walk, and where a disposition is
   pub read : EntryPoint read-statement read-requires
-  pub latest-company : EntryPoint latest-company-statement latest-company-requires
+  pub first-company : EntryPoint first-company-statement first-company-requires
   pub walk-start : EntryPoint walk-start-statement walk-start-requires
   pub walk-judge : EntryPoint walk-judge-statement walk-judge-requires
   pub walk-next : EntryPoint walk-next-statement walk-next-requires

@@ -12,10 +12,12 @@ use Rattle.fields.specs.FieldVerdict.{refused as FieldVerdict·refused}
 use Rattle.fields.specs.Date.{dateField}
 use Rattle.records.specs.Field.{field}
 use Rattle.records.specs.declared.flow_kind.FlowKind.the-variants.{Requests, Recalls}
-use Rattle.flow.specs.Examples.{flowOf, headerIm, trailerEf, further59, withFurther, twoRents, recalledAt, twoRecalls, nothingAsked, oneCentAsked, oneCentTotals}
+use Rattle.flow.specs.Examples.{flowOf, headerIm, trailerEf, further59, withFurther, twoRents, twoRentTotals, recalledAt, twoRecalls, codedAt, noCodes, nothingAsked, oneCentAsked, oneCentTotals}
 use Rattle.flow.specs.Judge.{judge}
-use Rattle.flow.specs.Records.{recordAt}
+use Rattle.flow.specs.Records.{recordAt, recordsOf}
 use Rattle.flow.specs.Verdict.{accepted, refused, refusal, ofCall}
+use Rattle.flow.specs.declared.answer.Totals.{Totals}
+use Rattle.grammar.specs.Fault.{companyOf}
 use Rattle.list.specs.Encode.{trailerFor, encode}
 use Rattle.list.specs.Examples.{headerItem, secondItems, twoRentList, twoRecallList, oneRentList}
 use Rattle.list.specs.Items.{listBytes, itemsIn}
@@ -29,6 +31,10 @@ use Rattle.claims.specs.Ledger.{Call, change-accepted, withdrawal-accept
 abbrev pub oneRent : List ℕ
 oneRent = encode (itemsIn oneRentList)
 
+-- the totals of the second rent alone
+abbrev pub secondTotals : Totals
+secondTotals = record { kind = Requests; dispositions = 1; cents = 38050; records = 9 }
+
 pub record Examples : Type 0 where
   -- "this EF is what the list spells", and so is the whole flow
   pub one : (trailerFor (itemsIn twoRentList) ≡ text trailerEf) × (encode (itemsIn twoRentList) ≡ twoRents)
@@ -41,7 +47,7 @@ pub record Examples : Type 0 where
   -- "disposition 1 withdrawn instead: 1,080 bytes, total 38050, 840 blanks"
   pub three :
       let a = withdraw twoRents 1 in
-      (a .answer ≡ accepted (record { kind = Requests; dispositions = 1; cents = 38050; records = 9 }))
+      (a .answer ≡ accepted secondTotals)
       × (a .size ≡ 1080)
       × (field 53 67 (recordAt 8 (flowLeft a)) ≡ text "000000000038050")
       × (drop 1080 (a .bytes) ≡ replicate 840 32)
@@ -88,6 +94,20 @@ pub record RecallExamples : Type 0 where
   pub mixed : judge (recalledAt 8 twoRents) ≡ refused (refusal 22 9 29)
   pub no-kind : (judge (put 148 (text "07200") twoRents) ≡ refused (refusal 6 2 29)) × (judge (put 988 (text "07200") twoRecalls) ≡ refused (refusal 6 9 29))
   pub wrong-sign : judge (put 166 (text "-") twoRecalls) ≡ refused (refusal 6 2 47)
+
+-- document 02, E4: company code on all or on none
+pub record CompanyExamples : Type 0 where
+  -- on both rents, and on neither
+  pub read : (judge twoRents ≡ accepted twoRentTotals) × (judge noCodes ≡ accepted twoRentTotals)
+  -- the first blank, the second with a code: 11 at the second's record, 92; the other way round likewise, also in a list
+  pub code-after-blanks : judge (codedAt 8 "AB123" noCodes) ≡ refused (refusal 11 9 92)
+  pub blanks-after-code : judge (codedAt 8 "     " twoRents) ≡ refused (refusal 11 9 92)
+  pub written : judgeList (put 680 (text "     ") twoRentList) 1920 ≡ refused (refusal 11 9 92)
+  -- the first withdrawn: accepted, and the company code stays, be it blanks
+  pub withdrawn : (withdraw twoRents 1 .answer ≡ accepted secondTotals) × (companyOf (recordsOf (flowLeft (withdraw twoRents 1))) ≡ text "AB123")
+  pub blanks-withdrawn : (withdraw noCodes 1 .answer ≡ accepted secondTotals) × (companyOf (recordsOf (flowLeft (withdraw noCodes 1))) ≡ text "     ")
+  -- a flow with a code on some cannot be amended, not even by the withdrawal of those without
+  pub not-amended : (change (codedAt 8 "     " twoRents) 1 1 .answer ≡ refused (refusal 11 9 92)) × (withdraw (codedAt 8 "     " twoRents) 2 .answer ≡ refused (refusal 11 9 92))
 
 -- document 02, E5: no request for nothing
 pub record NothingExamples : Type 0 where

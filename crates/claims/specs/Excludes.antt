@@ -12,10 +12,11 @@ use Rattle.sequences.specs.Part.{put}
 use Rattle.sequences.specs.Text.{text}
 use Rattle.fields.specs.Digits.{number}
 use Rattle.records.specs.Amount.{amountIn}
+use Rattle.records.specs.Company.{companyIn}
 use Rattle.records.specs.Field.{field}
 use Rattle.records.specs.Kinds.{isOpening}
 use Rattle.records.specs.declared.flow_kind.FlowKind.the-variants.{Requests}
-use Rattle.flow.specs.Examples.{flowOf, headerIm, firstOpened, further59, firstClosed, withFurther, twoRents, twoRecalls, askingAt, nothingAsked, oneCentAsked}
+use Rattle.flow.specs.Examples.{flowOf, headerIm, firstOpened, further59, firstClosed, withFurther, twoRents, twoRecalls, codedAt, noCodes, askingAt, nothingAsked, oneCentAsked}
 use Rattle.flow.specs.Judge.{judge}
 use Rattle.flow.specs.Output.{Output, LeftAlone}
 use Rattle.flow.specs.Records.{recordAt, recordsOf}
@@ -61,13 +62,13 @@ LowestNumber read =
     (f : List ℕ) (x : Refusal) → read f ≡ refused x → (before : List (List ℕ)) (rec : List ℕ) (after : List (List ℕ)) (m q : ℕ)
     → recordsOf f ≡ before ++ (rec ∷ after) → FaultAfter f before rec m q → x .number ≤ m
 
--- requests and recalls in one flow: two of its records 14 have different causali
-pub record Mixed (f : List ℕ) : Type 0 where
+-- two records 14 of a flow differ in something: in the causale, where requests and recalls are mixed, or in the company code
+pub record Mixed (something : List ℕ → List ℕ) (f : List ℕ) : Type 0 where
   pub one : ℕ
   pub other : ℕ
   pub there : (one < length (recordsOf f)) × (other < length (recordsOf f))
   pub openings : (isOpening (getD (recordsOf f) one []) ≡ true) × (isOpening (getD (recordsOf f) other []) ≡ true)
-  pub differ : ¬ (field 29 33 (getD (recordsOf f) one []) ≡ field 29 33 (getD (recordsOf f) other []))
+  pub differ : ¬ (something (getD (recordsOf f) one []) ≡ something (getD (recordsOf f) other []))
 
 -- a request for nothing: the amount of one of its records 14 is zero
 pub record AsksForNothing (f : List ℕ) : Type 0 where
@@ -171,7 +172,7 @@ pub record Excludes : Type 0 where
   pub written-early :
       (judgeItems (itemsIn lastWrong) ≡ refused (refusal 6 15 94)) × ((writer : Writer) → RefusesUntouched writer → (out : List ℕ) → LeftAlone (writer lastWrong out) out)
   -- Document 02, E1. A reader that accepts a flow in which requests and recalls are mixed
-  pub mixed-accepted : (read : Reader) → AcceptsExactly read → (f : List ℕ) → Mixed f → ¬ ((t : Totals) × (read f ≡ accepted t))
+  pub mixed-accepted : (read : Reader) → AcceptsExactly read → (f : List ℕ) → Mixed (field 29 33) f → ¬ ((t : Totals) × (read f ≡ accepted t))
   -- one that makes up the kind, or answers requests for every flow: the kind is that of the first record 14
   pub made-up-kind : (read : Reader) → AcceptsExactly read → (f : List ℕ) (t : Totals) → read f ≡ accepted t → t .kind ≡ kindOf (recordsOf f)
   pub always-requests : (read : Reader) → AcceptsExactly read → ¬ ((f : List ℕ) (t : Totals) → read f ≡ accepted t → t .kind ≡ Requests)
@@ -180,6 +181,12 @@ pub record Excludes : Type 0 where
   pub recall-total-elsewhere :
       (serve : Service) → Serves serve → let trailer = recordAt 15 (flowIn (serve (change-of 2 40000 ∷ []) twoRecalls .after)) in
       (field 53 67 trailer ≡ text "000000000000000") × (field 68 82 trailer ≡ text "000000000085000")
+  -- Document 02, E4. A reader that accepts a flow in which one company code is blank and another is not, or in which any two differ
+  pub codes-mixed-accepted : (read : Reader) → AcceptsExactly read → (f : List ℕ) → Mixed companyIn f → ¬ ((t : Totals) × (read f ≡ accepted t))
+  -- one that never refuses a blank code, or takes the first that is not blank for the first
+  pub blanks-passed : (read : Reader) → RefusesFirst read → (read (codedAt 8 "     " twoRents) ≡ refused (refusal 11 9 92)) × (read (codedAt 8 "AB123" noCodes) ≡ refused (refusal 11 9 92))
+  -- one that wants a code on every request
+  pub blanks-refused : (read : Reader) → AcceptsExactly read → ¬ Refuses (read noCodes)
   -- Document 02, E5. A reader that accepts a flow with a request for nothing; and one that takes one cent for nothing
   pub nothing-accepted : (read : Reader) → AcceptsExactly read → (f : List ℕ) → AsksForNothing f → ¬ ((t : Totals) × (read f ≡ accepted t))
   pub cent-refused : (read : Reader) → AcceptsExactly read → ¬ Refuses (read oneCentAsked)

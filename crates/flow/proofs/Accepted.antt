@@ -23,7 +23,7 @@ use Rattle.flow.specs.Judge.{unlessFault, walkTotals, ended, walkFrom, j
 use Rattle.flow.specs.Records.{RightLength, isLength, recordsOf, mostBytes}
 use Rattle.flow.specs.Laws.{LengthRefused, Ceiling, AcceptedExact, AnswerDetermined}
 use Rattle.flow.specs.Order.{permitted, isDue, among}
-use Rattle.flow.specs.Walking.{start, countsAt, kindAfter, step, latest, judgeTyped, judgeRecord}
+use Rattle.flow.specs.Walking.{start, countsAt, kindAfter, step, companyAfter, judgeTyped, judgeRecord}
 use Rattle.flow.specs.ExactTotals.{openingCount, amountSum, kindFrom, kindOf}
 use Rattle.flow.specs.Verdict.{Verdict, accepted, refused, refusal, ofCall}
 use Rattle.flow.specs.declared.answer.Refusal.{Refusal}
@@ -88,12 +88,12 @@ exact-from header w company i [] t = λ e.
       records = sym (ap (λ (u : Totals). u .records) told) ∙ omega arith;
       kind = sym (ap (λ (u : Totals). u .kind) told);
     }
-exact-from header w company i (rec ∷ recs) t = next (judgeRecord header w company (suc i) rec) refl (λ k a. exact-from header (step w k a rec) (latest k company rec) (suc i) recs t)
+exact-from header w company i (rec ∷ recs) t = next (judgeRecord header w company (suc i) rec) refl (λ k a. exact-from header (step w k a rec) (companyAfter company k rec) (suc i) recs t)
   where
     next :
         (x : RecordVerdict) → judgeRecord header w company (suc i) rec ≡ x
-        → ((k : RecordKind) (a : ℕ) → walkFrom ended header (step w k a rec) (latest k company rec) (suc i) recs ≡ accepted t → Adding (step w k a rec) (suc i) recs t)
-        → unlessFault (suc i) x (λ k a. walkFrom ended header (step w k a rec) (latest k company rec) (suc i) recs) ≡ accepted t → Adding w i (rec ∷ recs) t
+        → ((k : RecordKind) (a : ℕ) → walkFrom ended header (step w k a rec) (companyAfter company k rec) (suc i) recs ≡ accepted t → Adding (step w k a rec) (suc i) recs t)
+        → unlessFault (suc i) x (λ k a. walkFrom ended header (step w k a rec) (companyAfter company k rec) (suc i) recs) ≡ accepted t → Adding w i (rec ∷ recs) t
     next (right k a) found rest e =
         let more = adds header w company (suc i) rec k a found in
         let counts = rest k a e in
@@ -137,11 +137,11 @@ refused-later header w company i [] r p whole = end (isDue (permitted (w .place 
     end true x = let z : _≡_ {A = ℕ} 4 1 = ap (λ (y : Refusal). y .number) (refused-same x) in omega arith
     end false x = accepted-not-refused (sym x)
 refused-later header w company i (rec ∷ recs) r p whole =
-    next (judgeRecord header w company (suc i) rec) refl (λ k a. refused-later header (step w k a rec) (latest k company rec) (suc i) recs r p (whole .1))
+    next (judgeRecord header w company (suc i) rec) refl (λ k a. refused-later header (step w k a rec) (companyAfter company k rec) (suc i) recs r p (whole .1))
   where
     next :
-        (x : RecordVerdict) → judgeRecord header w company (suc i) rec ≡ x → ((k : RecordKind) (a : ℕ) → ¬ (walkFrom ended header (step w k a rec) (latest k company rec) (suc i) recs ≡ refused (refusal 1 r p)))
-        → ¬ (unlessFault (suc i) x (λ k a. walkFrom ended header (step w k a rec) (latest k company rec) (suc i) recs) ≡ refused (refusal 1 r p))
+        (x : RecordVerdict) → judgeRecord header w company (suc i) rec ≡ x → ((k : RecordKind) (a : ℕ) → ¬ (walkFrom ended header (step w k a rec) (companyAfter company k rec) (suc i) recs ≡ refused (refusal 1 r p)))
+        → ¬ (unlessFault (suc i) x (λ k a. walkFrom ended header (step w k a rec) (companyAfter company k rec) (suc i) recs) ≡ refused (refusal 1 r p))
     next (right k a) found rest x = rest k a x
     next (RecordVerdict·refused m q) found rest x =
         let one : m ≡ 1 = ap (λ (y : Refusal). y .number) (refused-same x) in

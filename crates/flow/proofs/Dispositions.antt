@@ -33,7 +33,7 @@ use Rattle.flow.specs.Judge.{unlessFault, ended, walkFrom, judge}
 use Rattle.flow.specs.Records.{isLength, recordAt, recordsOf, mostBytes}
 use Rattle.flow.specs.Laws.{EachAsks, FoundDetermined, FindRefused, PartPlaced}
 use Rattle.flow.specs.Order.{In, permitted, isDue}
-use Rattle.flow.specs.Walking.{start, step, latest, judgeRecord}
+use Rattle.flow.specs.Walking.{start, step, companyAfter, judgeRecord}
 use Rattle.flow.specs.ExactTotals.{openingCount}
 use Rattle.flow.specs.Verdict.{Verdict, accepted, refused, ofCall, andThen}
 use Rattle.flow.specs.declared.answer.Refusal.{Refusal}
@@ -51,7 +51,7 @@ pub record Passed (header : Header) (w : Walk) (company : List ℕ) (i : ℕ) (r
   pub kind : RecordKind
   pub cents : ℕ
   pub found : judgeRecord header w company (suc i) rec ≡ right kind cents
-  pub rest : walkFrom ended header (step w kind cents rec) (latest kind company rec) (suc i) recs ≡ v
+  pub rest : walkFrom ended header (step w kind cents rec) (companyAfter company kind rec) (suc i) recs ≡ v
 
 module _ (header : Header) (w : Walk) (company : List ℕ) (i : ℕ) {t : Totals} where
   pub passed : (rec : List ℕ) (recs : List (List ℕ)) → walkFrom ended header w company i (rec ∷ recs) ≡ accepted t → Passed header w company i rec recs (accepted t)
@@ -60,7 +60,7 @@ module _ (header : Header) (w : Walk) (company : List ℕ) (i : ℕ) {t : Totals
     where
       by :
           (x : RecordVerdict) → judgeRecord header w company (suc i) rec ≡ x
-          → unlessFault (suc i) x (λ k a. walkFrom ended header (step w k a rec) (latest k company rec) (suc i) recs) ≡ accepted t → Passed header w company i rec recs (accepted t)
+          → unlessFault (suc i) x (λ k a. walkFrom ended header (step w k a rec) (companyAfter company k rec) (suc i) recs) ≡ accepted t → Passed header w company i rec recs (accepted t)
       by (right k a) found e = record { kind = k; cents = a; found = found; rest = e }
       by (RecordVerdict·refused m p) found e = absurd (accepted-not-refused e)
 
@@ -77,12 +77,12 @@ unfolding openingCount
 without-trailer header w company i rec [] e =
     let p = passed header w company i rec [] e in
     let k = p .kind in
-    let last : k ≡ Ef = last-kind (w .place .further) k (none-due header (step w k (p .cents) rec) (latest k company rec) (suc i) (p .rest)) in
+    let last : k ≡ Ef = last-kind (w .place .further) k (none-due header (step w k (p .cents) rec) (companyAfter company k rec) (suc i) (p .rest)) in
     let trailer : hasType Ef rec ≡ true = subst (λ (l : RecordKind). hasType l rec ≡ true) last (right-typed header w company (suc i) rec k (p .cents) (p .found) .0) in
     rw (← opens-type Ef rec trailer)
 without-trailer header w company i rec (next ∷ recs) e =
     let p = passed header w company i rec (next ∷ recs) e in
-    ap (λ (m : ℕ). cond (isOpening rec) 1 0 + m) (without-trailer header (step w (p .kind) (p .cents) rec) (latest (p .kind) company rec) (suc i) next recs (p .rest))
+    ap (λ (m : ℕ). cond (isOpening rec) 1 0 + m) (without-trailer header (step w (p .kind) (p .cents) rec) (companyAfter company (p .kind) rec) (suc i) next recs (p .rest))
 
 -- the records that open a disposition, each with its group
 groups-counted : (recs : List (List ℕ)) → length (groups isOpening recs) ≡ openingCount recs
@@ -105,7 +105,7 @@ header-leads-all :
     (header : Header) (recs : List (List ℕ)) {t : Totals} → walkFrom ended header start [] 0 recs ≡ accepted t → lead isOpening (dropLast recs) ≡ getD recs 0 [] ∷ []
 unfolding lead
 header-leads-all header [] e = absurd (true≢false (none-due header start [] 0 e))
-header-leads-all header (rec ∷ recs) {t} e = by recs (subst (λ (l : RecordKind). walkFrom ended header (step start l (p .cents) rec) (latest l [] rec) 1 recs ≡ accepted t) im (p .rest))
+header-leads-all header (rec ∷ recs) {t} e = by recs (subst (λ (l : RecordKind). walkFrom ended header (step start l (p .cents) rec) (companyAfter [] l rec) 1 recs ≡ accepted t) im (p .rest))
   where
     p : Passed header start [] 0 rec recs (accepted t)
     p = passed header start [] 0 rec recs e
@@ -116,13 +116,13 @@ header-leads-all header (rec ∷ recs) {t} e = by recs (subst (λ (l : RecordKin
     other : isOpening rec ≡ false
     other = sym (opens-type Im rec (subst (λ (l : RecordKind). hasType l rec ≡ true) im (right-typed header start [] 1 rec (p .kind) (p .cents) (p .found) .0)))
 
-    by : (recs : List (List ℕ)) → walkFrom ended header (step start Im (p .cents) rec) (latest Im [] rec) 1 recs ≡ accepted t → lead isOpening (dropLast (rec ∷ recs)) ≡ rec ∷ []
-    by [] e = absurd (true≢false (none-due header (step start Im (p .cents) rec) (latest Im [] rec) 1 e))
+    by : (recs : List (List ℕ)) → walkFrom ended header (step start Im (p .cents) rec) (companyAfter [] Im rec) 1 recs ≡ accepted t → lead isOpening (dropLast (rec ∷ recs)) ≡ rec ∷ []
+    by [] e = absurd (true≢false (none-due header (step start Im (p .cents) rec) (companyAfter [] Im rec) 1 e))
     by (next ∷ []) e = rw other
     by (next ∷ third ∷ recs) e =
         let w = step start Im (p .cents) rec in
-        let q = passed header w (latest Im [] rec) 1 next (third ∷ recs) e in
-        let typed = right-typed header w (latest Im [] rec) 2 next (q .kind) (q .cents) (q .found) in
+        let q = passed header w (companyAfter [] Im rec) 1 next (third ∷ recs) e in
+        let typed = right-typed header w (companyAfter [] Im rec) 2 next (q .kind) (q .cents) (q .found) in
         let first : isOpening next ≡ true = sym (opens-type (q .kind) next (typed .0)) ∙ ap opens (only-kind (typed .2)) in
         rw (other, first)
 
@@ -137,7 +137,7 @@ amounts-from header w company i [] e = tt
 amounts-from header w company i (rec ∷ recs) e =
     let p = passed header w company i rec recs e in
     let typed = right-typed header w company (suc i) rec (p .kind) (p .cents) (p .found) in
-    (λ opened. right-amount (p .kind) (p .kind) _ rec (p .cents) (opens-type (p .kind) rec (typed .0) ∙ opened) (typed .1), amounts-from header (step w (p .kind) (p .cents) rec) (latest (p .kind) company rec) (suc i) recs (p .rest))
+    (λ opened. right-amount (p .kind) (p .kind) _ rec (p .cents) (opens-type (p .kind) rec (typed .0) ∙ opened) (typed .1), amounts-from header (step w (p .kind) (p .cents) rec) (companyAfter company (p .kind) rec) (suc i) recs (p .rest))
 
 -- every record but the last
 abbrev pub untilTrailer : List ℕ → List (List ℕ)

@@ -26,7 +26,7 @@ use Rattle.flow.specs.FastPath.{isInside, Inside, NumberBefore, atPlace,
 use Rattle.flow.specs.Judge.{walkFrom}
 use Rattle.flow.specs.Order.{permitted, isDue, allGoOn, placeAfter, among}
 use Rattle.flow.specs.Records.{recordAt, recordsFrom}
-use Rattle.flow.specs.Walking.{kindAfter, dispositionsWith, step, latest, judgeRecord, saturated}
+use Rattle.flow.specs.Walking.{kindAfter, dispositionsWith, step, companyAfter, judgeRecord, saturated}
 use Rattle.flow.specs.Verdict.{Verdict}
 use Rattle.flow.specs.declared.answer.Totals.{Totals}
 use Rattle.flow.specs.declared.order.Due.{Due}
@@ -109,7 +109,7 @@ pass-one end header company w i before rec recs p k whole numbered inside passes
     let cents : w .cents + 0 ≡ w .cents = omega arith in
     let kind : kindAfter (w .kind) k rec ≡ w .kind = rw opens-no in
     let state : step (atPlace w p) k 0 rec ≡ atPlace w (placeAfter (p .further) k) = λ i. record { place = placeAfter (p .further) k; kind = kind i; dispositions = count i; cents = cents i } in
-    let company-stays : latest k company rec ≡ company = rw opens-no in
+    let company-stays : companyAfter company k rec ≡ company = rw opens-no in
     rw (found, company-stays) (ap (λ (v : Walk). walkFrom end header v company (suc i) recs) state)
 
 -- where a disposition goes on a record is due, and one is due after a record that does not close the flow

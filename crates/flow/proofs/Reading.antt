@@ -11,7 +11,7 @@ use Rattle.records.specs.Kinds.{opens, opened}
 use Rattle.records.specs.declared.kind.RecordKind.{RecordKind}
 use Rattle.flow.specs.Judge.{ended, walkFrom}
 use Rattle.flow.specs.Order.{permitted, isDue}
-use Rattle.flow.specs.Walking.{start, step, latest, judgeRecord, saturated}
+use Rattle.flow.specs.Walking.{start, step, companyAfter, judgeRecord, saturated}
 use Rattle.flow.specs.Verdict.{Verdict, refused, refusal}
 use Rattle.flow.specs.declared.answer.Totals.{Totals}
 use Rattle.flow.specs.declared.walk.Walk.{Walk}
@@ -49,7 +49,7 @@ module _
     -- a right record
     pub go-on :
         (k : RecordKind) (c : ℕ) → judgeRecord header w company (suc i) rec ≡ right k c
-        → Reading end header all (saturated (step w k c rec)) (latest k company rec) (suc i) recs
+        → Reading end header all (saturated (step w k c rec)) (companyAfter company k rec) (suc i) recs
     unfolding walkFrom
     go-on k c e =
         let found = found-alike ∙ e in

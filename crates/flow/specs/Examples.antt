@@ -76,6 +76,14 @@ twoRecalls = totalledBy "000000000000000000000000083050" (recalledAt 1 (recalled
 abbrev pub twoRecallTotals : Totals
 twoRecallTotals = record { kind = Recalls; dispositions = 2; cents = 83050; records = 16 }
 
+-- the flow with other bytes for the company code in its record at index i
+abbrev pub codedAt : ℕ → String → List ℕ → List ℕ
+codedAt i code f = put (120 * i + 91) (text code) f
+
+-- the two rents without a company code
+abbrev pub noCodes : List ℕ
+noCodes = codedAt 1 "     " (codedAt 8 "     " twoRents)
+
 -- the flow with other bytes for the amount in its record at index i
 abbrev pub askingAt : ℕ → String → List ℕ → List ℕ
 askingAt i amount f = put (120 * i + 33) (text amount) f
@@ -131,6 +139,19 @@ pub record FlowExamples : Type 0 where
   pub recall-twice : judge (totalledBy "000000000083050000000000083050" twoRecalls) ≡ refused (refusal 13 16 53)
   pub request-recalled : judge (totalledBy "000000000000000000000000083050" twoRents) ≡ refused (refusal 13 16 53)
   pub recall-no-digits : judge (totalledBy "              0000000000083050" twoRecalls) ≡ refused (refusal 5 16 53)
+  -- document 02, E4: blanks on both; blanks and then a code, and the other way round, also in a recall
+  pub no-codes : judge noCodes ≡ accepted twoRentTotals
+  pub code-after-blanks : judge (codedAt 8 "AB123" noCodes) ≡ refused (refusal 11 9 92)
+  pub blanks-after-code : judge (codedAt 8 "     " twoRents) ≡ refused (refusal 11 9 92)
+  pub blanks-recalled : judge (codedAt 8 "     " twoRecalls) ≡ refused (refusal 11 9 92)
+  -- another code on both; codes that differ in their first byte, in their last, and in where a blank stands
+  pub other-code : judge (codedAt 1 "Z   9" (codedAt 8 "Z   9" twoRents)) ≡ accepted twoRentTotals
+  pub code-first-byte : judge (codedAt 8 "BB123" twoRents) ≡ refused (refusal 11 9 92)
+  pub code-last-byte : judge (codedAt 8 "AB124" twoRents) ≡ refused (refusal 11 9 92)
+  pub code-moved : judge (codedAt 1 "B123 " (codedAt 8 " B123" twoRents)) ≡ refused (refusal 11 9 92)
+  -- what stands before the code is refused before it, and what stands after it later
+  pub code-after-cab : judge (put 1012 (text "X") (codedAt 8 "     " twoRents)) ≡ refused (refusal 5 9 53)
+  pub code-before-tipo : judge (put 1056 (text "7") (codedAt 8 "     " twoRents)) ≡ refused (refusal 11 9 92)
   -- document 02, E5: a request of zero, in the second 14 and in the first, with a wrong sign after it, and in a recall; the least amount
   pub nothing-asked : judge nothingAsked ≡ refused (refusal 25 9 34)
   pub nothing-first : judge (askingAt 1 "0000000000000" nothingAsked) ≡ refused (refusal 25 2 34)

@@ -11,7 +11,7 @@ use Rattle.records.specs.RecordVerdict.{refused as RecordVerdict·refused}
 use Rattle.records.specs.declared.kind.RecordKind.{RecordKind}
 use Rattle.flow.specs.Order.{permitted, isDue}
 use Rattle.flow.specs.Records.{isLength, recordsOf}
-use Rattle.flow.specs.Walking.{start, step, latest, judgeRecord}
+use Rattle.flow.specs.Walking.{start, step, companyAfter, judgeRecord}
 use Rattle.flow.specs.Verdict.{Verdict, accepted, refused, refusal, ofCall}
 use Rattle.flow.specs.declared.answer.Totals.{Totals}
 use Rattle.flow.specs.declared.walk.Walk.{Walk}
@@ -33,7 +33,7 @@ ended w n = cond (isDue (permitted (w .place .due))) (refused (refusal 4 (suc n)
 unfoldable pub walkFrom : (Walk → ℕ → Verdict Totals) → Header → Walk → List ℕ → ℕ → List (List ℕ) → Verdict Totals
 walkFrom end header w company n [] = end w n
 walkFrom end header w company n (rec ∷ recs) =
-    unlessFault (suc n) (judgeRecord header w company (suc n) rec) (λ k c. walkFrom end header (step w k c rec) (latest k company rec) (suc n) recs)
+    unlessFault (suc n) (judgeRecord header w company (suc n) rec) (λ k c. walkFrom end header (step w k c rec) (companyAfter company k rec) (suc n) recs)
 
 unfoldable pub judge : List ℕ → Verdict Totals
 judge f = cond (isLength (length f)) (walkFrom ended (headerOf (take 120 f)) start [] 0 (recordsOf f)) (refused (ofCall 1))

@@ -6,9 +6,8 @@ use mathlib.Core.List.{List}
 use lib.Dec.{eqb}
 use lib.ListN.{length}
 use Rattle.records.specs.Bytes.{badByte}
-use Rattle.records.specs.Checks.{isPresent}
+use Rattle.records.specs.Company.{companyIn, isNone}
 use Rattle.records.specs.Context.{Header, context}
-use Rattle.records.specs.Field.{field}
 use Rattle.records.specs.FlowKinds.{kindIn, firstKnown}
 use Rattle.records.specs.RecordVerdict.{RecordVerdict, refused}
 use Rattle.records.specs.Judge.{judgeAs}
@@ -40,16 +39,17 @@ abbrev pub step : Walk → RecordKind → ℕ → List ℕ → Walk
 step w k c rec =
     record { place = placeAfter (w .place .further) k; kind = kindAfter (w .kind) k rec; dispositions = dispositionsWith w k; cents = w .cents + c }
 
--- of two values the one that goes with the latest company code present: `new` with the code of a record of the kind, `old` with the one before
-abbrev pub latestBy : {A : Type 0} → RecordKind → List ℕ → A → A → A
-latestBy k code old new = cond (opens k && isPresent code) new old
+-- of two values the one that goes with the company code of the first record 14, after a record of the kind: `new` with that record's own
+-- code, where it is the first 14, and else `old` with the code before it (document 02, E4)
+abbrev pub firstBy : {A : Type 0} → List ℕ → RecordKind → A → A → A
+firstBy company k old new = cond (opens k && isNone company) new old
 
--- the latest company code itself, after a record of the kind that has the code; and after the record
-abbrev pub latestOf : RecordKind → List ℕ → List ℕ → List ℕ
-latestOf k company code = latestBy k code company code
+-- that company code itself, after a record of the kind that has the code; and after the record
+abbrev pub firstCompany : List ℕ → RecordKind → List ℕ → List ℕ
+firstCompany company k code = firstBy company k company code
 
-abbrev pub latest : RecordKind → List ℕ → List ℕ → List ℕ
-latest k company rec = latestOf k company (field 92 96 rec)
+abbrev pub companyAfter : List ℕ → RecordKind → List ℕ → List ℕ
+companyAfter company k rec = firstCompany company k (companyIn rec)
 
 abbrev pub countsAt : Walk → ℕ → RecordKind → Counts
 countsAt w n k = record { dispositions = dispositionsWith w k; cents = w .cents; records = n }

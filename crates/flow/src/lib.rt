@@ -31,7 +31,7 @@ pub use location::find_with_totals;
 pub use location::next_opening;
 pub use order::Due;
 pub use order::Place;
-pub use reader::latest_company;
+pub use reader::first_company;
 pub use reader::read;
 pub use refusals::NO_DISPOSITION;
 pub use refusals::NO_ROOM;

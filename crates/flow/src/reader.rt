@@ -10,7 +10,7 @@ ghost use Rattle.records.specs.Limits.{mostRecords};
 ghost use Rattle.flow.specs.Judge.{ended, walkFrom};
 ghost use Rattle.flow.specs.Records.{isLength, recordsOf};
 ghost use Rattle.flow.specs.Judge.{judge as Judge·judge};
-ghost use Rattle.flow.specs.Walking.{start, latestBy, latestOf};
+ghost use Rattle.flow.specs.Walking.{start, firstBy, firstCompany};
 ghost use Rattle.flow.specs.Verdict.{answerVerdict};
 use crate::answer::Answer;
 use crate::answer::Refusal;
@@ -72,8 +72,8 @@ fn read_records(flow: &[u8], header: &[u8]) -> Answer
             }
             Judged::Right(right) => {
                 let kind = right.kind;
-                let latest = latest_company(company, field(rec, 92, 96), kind);
-                company = latest;
+                let first = first_company(company, field(rec, 92, 96), kind);
+                company = first;
                 walk = walk.next(right, rec);
             }
         }
@@ -84,19 +84,19 @@ fn read_records(flow: &[u8], header: &[u8]) -> Answer
     end(walk, as_count(i))
 }
 
-// The latest company code present, after a record of the kind that has the code at 92-96: one of the
-// two slices, as it was lent.
-pub fn latest_company<'a>(company: &'a [u8], code: &'a [u8], kind: RecordKind) -> &'a [u8]
-    ensures bytes { λ r. ⌜ now r ≡ latestOf kind (now (company .entry)) (now (code .entry)) ⌝ }
-    ensures place { λ r. ⌜ ptr r ≡ latestBy kind (now (code .entry)) (ptr (company .entry)) (ptr (code .entry)) ⌝ }
+// The company code of the first record 14, after a record of the kind that has the code at 92-96: one of
+// the two slices, as it was lent. `company` is empty until a 14 has come.
+pub fn first_company<'a>(company: &'a [u8], code: &'a [u8], kind: RecordKind) -> &'a [u8]
+    ensures bytes { λ r. ⌜ now r ≡ firstCompany (now (company .entry)) kind (now (code .entry)) ⌝ }
+    ensures place { λ r. ⌜ ptr r ≡ firstBy (now (company .entry)) kind (ptr (company .entry)) (ptr (code .entry)) ⌝ }
 {
     if !records::opens(kind) {
         return company;
     }
-    if fields::all_blank(code) {
-        return company;
+    if company.len() == 0 {
+        return code;
     }
-    code
+    company
 }
 
 // The answer after the last of n records.

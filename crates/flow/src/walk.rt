@@ -54,8 +54,8 @@ impl Walk {
     }
 
     // The first fault of the flow's n-th record, or its kind and cents. `header` is the flow's IM, and
-    // what stands elsewhere in it than `headerOf` names may be anything; `company` is the latest company
-    // code present, blank or empty where there is none.
+    // what stands elsewhere in it than `headerOf` names may be anything; `company` is the company code
+    // of the first record 14, empty where none came before this record.
     pub fn judge(self, rec: &[u8], n: u64, header: &[u8], company: &[u8]) -> Judged
         ensures { λ r. ⌜ judgedVerdict r ≡ judgeRecord
             (headerOf (now (header .entry))) self (now (company .entry)) n (now (rec .entry)) ⌝ }

@@ -1,84 +1,65 @@
--- Company codes, each compared with the latest one present before it: that those present are all equal. Assumes nothing.
+-- Company codes, each compared with the first: that any two are equal. Assumes nothing.
 use Prim.Native.Nat.{ℕ}
-use mathlib.Core.Bool.{Bool, true, false, cond, true≢false}
+use mathlib.Core.Bool.{Bool, true, false, cond, _&&_}
 use mathlib.Core.List.{List, [], _∷_, List·Memᴰ, List·Memᴰ·head, List·Memᴰ·tail, List·Memᴰ·not-nil, List·Memᴰ·cases-cons}
-use mathlib.Core.Logic.{_↔_, _⊎_, inl, inr}
-use mathlib.Core.Path.{_≡_, refl, sym, _∙_, subst}
-use Rattle.records.specs.Checks.{isPresent, agrees}
+use mathlib.Core.Logic.{_↔_, ⊎-elim}
+use mathlib.Core.Path.{_≡_, refl, sym, _∙_}
+use native.Mathlib.Omega.{arith}
+use lib.ListN.{length}
+use borrow.Author.Tests.{ne-eqb}
+use Rattle.sequences.specs.All.{All}
+use Rattle.sequences.proofs.Part.{part-length}
+use Rattle.fields.proofs.Bytes.{equal-exact}
+use Rattle.records.specs.Company.{companyIn, isNone, agrees}
 use Rattle.grammar.specs.Grammar.{AllEqual}
-use Rattle.grammar.specs.Rules.{Present}
-use Rattle.grammar.proofs.Rules.{present-exact, agrees-exact}
 
--- the latest one present after a code
-abbrev pub latestOf : List ℕ → List ℕ → List ℕ
-latestOf latest code = cond (isPresent code) code latest
+-- a whole record has a code: five bytes, be they blanks
+pub code-stands : (rec : List ℕ) → length rec ≡ 120 → isNone (companyIn rec) ≡ false
+code-stands rec whole = rw (part-length 91 5 rec (omega arith))
 
--- each agrees with the latest one present before it
+-- of two codes the one that was found first, and what was found stays found
+abbrev pub firstFound : List ℕ → List ℕ → List ℕ
+firstFound company later = cond (isNone company) later company
+
+some : (b : ℕ) (bs : List ℕ) → isNone (b ∷ bs) ≡ false
+some b bs = ne-eqb (length (b ∷ bs)) 0 (λ e. omega arith)
+
+pub none-later : (company : List ℕ) → firstFound company [] ≡ company
+none-later [] = refl
+none-later (b ∷ bs) = rw (some b bs)
+
+pub found-stays : (company code later : List ℕ) (opened : Bool) → isNone code ≡ false → firstFound (cond (opened && isNone company) code company) later ≡ firstFound company (cond opened code later)
+found-stays company code later false stands = refl
+found-stays [] code later true stands = rw stands
+found-stays (b ∷ bs) code later true stands = rw (some b bs, some b bs)
+
+-- each agrees with the first
 abbrev pub Agreeing : List ℕ → List (List ℕ) → Type 0
-Agreeing latest [] = Unit
-Agreeing latest (c ∷ cs) = (agrees latest c ≡ true) × Agreeing (latestOf latest c) cs
+Agreeing company [] = Unit
+Agreeing company (c ∷ cs) = (agrees company c ≡ true) × Agreeing (firstFound company c) cs
 
--- each that is present is the one given
+-- where that was found already, each is the same
 abbrev Each : List ℕ → List (List ℕ) → Type 0
-Each code cs = (x : List ℕ) → List·Memᴰ x cs → Present x → x ≡ code
+Each code cs = (x : List ℕ) → List·Memᴰ x cs → x ≡ code
 
--- one more code in front, where it is present, and where it is blank
-module _ (latest c : List ℕ) (cs : List (List ℕ)) where
-  present-front : Present c → (Present latest → c ≡ latest) → Each c cs → AllEqual cs → (Present latest → Each latest (c ∷ cs)) × AllEqual (c ∷ cs)
-  present-front here same each equal = (λ there x m p. front x m p ∙ same there, λ a b m k p q. front a m p ∙ sym (front b k q))
-    where
-      front : Each c (c ∷ cs)
-      front x m p = go (List·Memᴰ·cases-cons m)
-        where
-          go : (x ≡ c) ⊎ List·Memᴰ x cs → x ≡ c
-          go (inl e) = e
-          go (inr k) = each x k p
+in-front : (code c : List ℕ) (cs : List (List ℕ)) → c ≡ code → Each code cs → Each code (c ∷ cs)
+in-front code c cs same each x m = ⊎-elim (λ e. e ∙ same) (each x) (List·Memᴰ·cases-cons m)
 
-  blank-front : ¬ Present c → (Present latest → Each latest cs) → AllEqual cs → (Present latest → Each latest (c ∷ cs)) × AllEqual (c ∷ cs)
-  blank-front blank each equal = (λ there x m p. each there x (after x m p) p, λ a b m k p q. equal a b (after a m p) (after b k q) p q)
-    where
-      after : (x : List ℕ) → List·Memᴰ x (c ∷ cs) → Present x → List·Memᴰ x cs
-      after x m p = go (List·Memᴰ·cases-cons m)
-        where
-          go : (x ≡ c) ⊎ List·Memᴰ x cs → List·Memᴰ x cs
-          go (inl e) = absurd (blank (subst Present e p))
-          go (inr k) = k
+agreeing-found : (company : List ℕ) (cs : List (List ℕ)) → isNone company ≡ false → Agreeing company cs ↔ Each company cs
+agreeing-found company [] found = (λ u x m. absurd (List·Memᴰ·not-nil m), λ h. tt)
+agreeing-found company (c ∷ cs) found =
+    let same = equal-exact c company in
+    let rest = agreeing-found company cs found in
+    rw found (
+      λ a. in-front company c cs (same .0 (a .0)) (rest .0 (a .1)),
+      λ h. (same .1 (h c (List·Memᴰ·head refl)), rest .1 (λ x m. h x (List·Memᴰ·tail m))),
+    )
 
-  -- and taken away again
-  front-taken : (Present latest → Each latest (c ∷ cs)) × AllEqual (c ∷ cs) → (Present c → Present latest → c ≡ latest) × (Present c → Each c cs) × (Present latest → Each latest cs) × AllEqual cs
-  front-taken h = (
-    λ here there. h .0 there c (List·Memᴰ·head refl) here,
-    λ here x m p. h .1 x c (List·Memᴰ·tail m) (List·Memᴰ·head refl) p here,
-    λ there x m p. h .0 there x (List·Memᴰ·tail m) p,
-    λ a b m k p q. h .1 a b (List·Memᴰ·tail m) (List·Memᴰ·tail k) p q,
-  )
-
-agreeing-exact : (latest : List ℕ) (cs : List (List ℕ)) → Agreeing latest cs ↔ ((Present latest → Each latest cs) × AllEqual cs)
-agreeing-exact latest [] = (λ u. (λ there x m p. absurd (List·Memᴰ·not-nil m), λ a b m k p q. absurd (List·Memᴰ·not-nil m)), λ h. tt)
-agreeing-exact latest (c ∷ cs) = go (isPresent c) refl (agreeing-exact c cs) (agreeing-exact latest cs)
-  where
-    go :
-        (b : Bool) → isPresent c ≡ b → Agreeing c cs ↔ ((Present c → Each c cs) × AllEqual cs) → Agreeing latest cs ↔ ((Present latest → Each latest cs) × AllEqual cs)
-        → ((agrees latest c ≡ true) × Agreeing (cond b c latest) cs) ↔ ((Present latest → Each latest (c ∷ cs)) × AllEqual (c ∷ cs))
-    go true e with-c with-latest =
-        let here = present-exact c .0 e in (
-          λ a.
-              let rest = with-c .0 (a .1) in
-              present-front latest c cs here (agrees-exact latest c .0 (a .0) here) (rest .0 here) (rest .1),
-          λ h.
-              let taken = front-taken latest c cs h in
-              (agrees-exact latest c .1 (taken .0), with-c .1 (taken .1, taken .3)),
-        )
-    go false e with-c with-latest =
-        let blank : ¬ Present c = λ p. true≢false (sym (present-exact c .1 p) ∙ e) in (
-          λ a.
-              let rest = with-latest .0 (a .1) in
-              blank-front latest c cs blank (rest .0) (rest .1),
-          λ h.
-              let taken = front-taken latest c cs h in
-              (agrees-exact latest c .1 (taken .0), with-latest .1 (taken .2, taken .3)),
-        )
-
--- from the front of the flow, where there is none yet
-pub all-equal-exact : (cs : List (List ℕ)) → Agreeing [] cs ↔ AllEqual cs
-all-equal-exact cs = (λ a. agreeing-exact [] cs .0 a .1, λ h. agreeing-exact [] cs .1 (λ there. absurd (there tt), h))
+-- from the front of the flow, where none was found yet
+pub all-equal-exact : (cs : List (List ℕ)) → All (λ (c : List ℕ). isNone c ≡ false) cs → Agreeing [] cs ↔ AllEqual cs
+all-equal-exact [] stand = (λ u a b m k. absurd (List·Memᴰ·not-nil m), λ h. tt)
+all-equal-exact (c ∷ cs) stand =
+    let rest = agreeing-found c cs (stand .0) in (
+      λ a x y m k. in-front c c cs refl (rest .0 (a .1)) x m ∙ sym (in-front c c cs refl (rest .0 (a .1)) y k),
+      λ equal. (refl, rest .1 (λ x m. equal x c (List·Memᴰ·tail m) (List·Memᴰ·head refl))),
+    )

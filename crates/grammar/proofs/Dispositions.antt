@@ -11,23 +11,22 @@ use Rattle.sequences.specs.Sum.{sum}
 use Rattle.sequences.proofs.All.{all-append}
 use Rattle.fields.specs.Digits.{number}
 use Rattle.records.specs.Amount.{amountIn}
-use Rattle.records.specs.Checks.{isPresent, agrees}
+use Rattle.records.specs.Company.{companyIn, isNone, agrees}
 use Rattle.records.specs.Context.{Header}
-use Rattle.records.specs.Field.{field}
 use Rattle.records.specs.FlowKinds.{kindIn, firstKnown}
 use Rattle.records.specs.Judge.{asked}
 use Rattle.records.specs.Kinds.{opens, goesOn, opened}
 use Rattle.records.specs.declared.flow_kind.KindFound.{KindFound}
 use Rattle.records.specs.declared.kind.RecordKind.{RecordKind}
 use Rattle.records.specs.declared.kind.RecordKind.the-variants.{Im, R14, R16, R20, R30, R40, R50, R59, R51, R70, Ef}
-use Rattle.flow.specs.Walking.{kindAfter, step, latest}
+use Rattle.flow.specs.Walking.{kindAfter, step, companyAfter}
 use Rattle.flow.specs.declared.order.Place.{Place}
 use Rattle.flow.specs.declared.walk.Walk.{Walk}
 use Rattle.grammar.specs.Grammar.{Typed, kindsOf, opening, dispositionAmount, dispositionCode, RightDisposition, RightDispositions}
 use Rattle.grammar.specs.Rules.{Formed, MemberRules}
 use Rattle.grammar.specs.Shape.{Coordinates, no-16, with-16, Reasons, one-50, some-59, Disposition, disposition}
 use Rattle.grammar.proofs.AtPlace.{asks, May, RightAt}
-use Rattle.grammar.proofs.Codes.{latestOf, Agreeing}
+use Rattle.grammar.proofs.Codes.{code-stands, firstFound, Agreeing}
 use Rattle.grammar.proofs.Order.{Allowed, allowed-before, allowed-after}
 use Rattle.grammar.proofs.Rules.{Agrees, member-rules}
 use Rattle.grammar.proofs.KindsOfFlow.{SomeKind, kindThrough, Kindred}
@@ -97,22 +96,22 @@ details-state w code (r ∷ rs) details =
     let shut = detail-opens k (details .0) in
     let count : opened k ≡ 0 = ap (λ (b : Bool). cond b 1 0) shut in
     let cents : asked k (r .bytes) ≡ 0 = ap (λ (b : Bool). cond b (number (amountIn (r .bytes))) 0) shut in
-    let same : latest k code (r .bytes) ≡ code = ap (λ (b : Bool). cond (b && isPresent (field 92 96 (r .bytes))) (field 92 96 (r .bytes)) code) shut in
-    let rest = details-state (step w k (asked k (r .bytes)) (r .bytes)) (latest k code (r .bytes)) rs (details .1) in
+    let same : companyAfter code k (r .bytes) ≡ code = ap (λ (b : Bool). cond (b && isNone code) (companyIn (r .bytes)) code) shut in
+    let rest = details-state (step w k (asked k (r .bytes)) (r .bytes)) (companyAfter code k (r .bytes)) rs (details .1) in
     let kind : kindAfter (w .kind) k (r .bytes) ≡ w .kind = ap (λ (b : Bool). cond b (firstKnown (w .kind) (kindIn (r .bytes))) (w .kind)) shut in
     (omega arith, omega arith, rest .2 ∙ same, rest .3 ∙ kind)
 
 -- after a disposition one more is counted, and its amount; and the kind is known
 pub disposition-state :
     (w : Walk) (code : List ℕ) (d : List Typed) → Opened d
-    → (stateAfter w d .dispositions ≡ suc (w .dispositions)) × (stateAfter w d .cents ≡ w .cents + dispositionAmount d) × (codeAfter code d ≡ latestOf code (dispositionCode d))
+    → (stateAfter w d .dispositions ≡ suc (w .dispositions)) × (stateAfter w d .cents ≡ w .cents + dispositionAmount d) × (codeAfter code d ≡ firstFound code (dispositionCode d))
     × (stateAfter w d .kind ≡ firstKnown (w .kind) (kindIn (opening d)))
 disposition-state w code d (opened-by r rs e details) =
     let k = r .kind in
     let count : opened k ≡ 1 = ap opened e in
     let cents : asked k (r .bytes) ≡ number (amountIn (r .bytes)) = ap (λ (l : RecordKind). asked l (r .bytes)) e in
-    let code-so : latest k code (r .bytes) ≡ latestOf code (field 92 96 (r .bytes)) = ap (λ (l : RecordKind). latest l code (r .bytes)) e in
-    let rest = details-state (step w k (asked k (r .bytes)) (r .bytes)) (latest k code (r .bytes)) rs details in
+    let code-so : companyAfter code k (r .bytes) ≡ firstFound code (companyIn (r .bytes)) = ap (λ (l : RecordKind). companyAfter code l (r .bytes)) e in
+    let rest = details-state (step w k (asked k (r .bytes)) (r .bytes)) (companyAfter code k (r .bytes)) rs details in
     let kind : kindAfter (w .kind) k (r .bytes) ≡ firstKnown (w .kind) (kindIn (r .bytes)) = ap (λ (l : RecordKind). kindAfter (w .kind) l (r .bytes)) e in
     (omega arith, omega arith, rest .2 ∙ code-so, rest .3 ∙ kind)
 
@@ -150,7 +149,7 @@ details-exact h w code i n (r ∷ rs) details same =
     let shut : opened k ≡ 0 = ap (λ (b : Bool). cond b 1 0) (detail-opens k (details .0)) in
     let due : w .dispositions + opened k ≡ n = omega arith in
     let one = member-exact h w code i n r (λ e. true≢false (sym (subst Detail e (details .0)))) (λ e. true≢false (sym (subst Detail e (details .0)))) due in
-    let rest = details-exact h (step w k (asked k (r .bytes)) (r .bytes)) (latest k code (r .bytes)) (suc i) n rs (details .1) due in (
+    let rest = details-exact h (step w k (asked k (r .bytes)) (r .bytes)) (companyAfter code k (r .bytes)) (suc i) n rs (details .1) due in (
       λ walked.
           let front = one .0 (walked .0) in
           let back = rest .0 (walked .1) in
@@ -170,7 +169,7 @@ disposition-exact h w code i n d order same = go d order (opened-so d order)
         let opens-one : opened k ≡ 1 = ap opened e in
         let due : w .dispositions + opened k ≡ n = omega arith in
         let one = member-exact h w code i n r (λ s. apart (sym e ∙ s)) (λ s. apart-trailer (sym e ∙ s)) due in
-        let rest = details-exact h (step w k (asked k (r .bytes)) (r .bytes)) (latest k code (r .bytes)) (suc i) n rs details due in (
+        let rest = details-exact h (step w k (asked k (r .bytes)) (r .bytes)) (companyAfter code k (r .bytes)) (suc i) n rs details due in (
           λ walked.
               let front = one .0 (walked .0) in
               let back = rest .0 (walked .1) in
@@ -190,6 +189,14 @@ InShape ds = All (λ (d : List Typed). Disposition (kindsOf d)) ds
 pub numbered-shape : (abi : List ℕ) (n : ℕ) (ds : List (List Typed)) → RightDispositions abi n ds → InShape ds
 numbered-shape abi n [] each = tt
 numbered-shape abi n (d ∷ ds) each = (each .0 .order, numbered-shape abi (suc n) ds (each .1))
+
+-- each has a company code
+pub codes-stand : (abi : List ℕ) (n : ℕ) (ds : List (List Typed)) → RightDispositions abi n ds → All (λ (c : List ℕ). isNone c ≡ false) (map dispositionCode ds)
+codes-stand abi n [] each = tt
+codes-stand abi n (d ∷ ds) each = (in-opening d (opened-so d (each .0 .order)) (each .0 .records), codes-stand abi (suc n) ds (each .1))
+  where
+    in-opening : (d : List Typed) → Opened d → All (Member abi n) d → isNone (dispositionCode d) ≡ false
+    in-opening d (opened-by r rs e details) members = code-stands (r .bytes) (members .0 .0 .whole)
 
 -- after dispositions they are counted, and their amounts; and the kind is known
 pub dispositions-state :

@@ -39,7 +39,7 @@ use Rattle.flow.proofs.Cut.{Whole, flatten-length, records-joined, joined-recor
 use Rattle.flow.proofs.Dispositions.{accepted-records}
 use Rattle.flow.proofs.Lengths.{length-said}
 use Rattle.grammar.specs.Fault.{FirstFault}
-use Rattle.grammar.specs.Grammar.{Typed, Parts, kindsOf, recordsIn, opening, dispositionCode, bytesOf, dispositionCount, totalCents, recordCount, partsTotals, RightDispositions, RightParts, Grammar}
+use Rattle.grammar.specs.Grammar.{Typed, Parts, kindsOf, recordsIn, opening, dispositionCode, bytesOf, dispositionCount, totalCents, recordCount, partsTotals, RightDispositions, AllEqual, RightParts, Grammar}
 use Rattle.grammar.specs.Laws.{GrammarExact, RightOrFaulty}
 use Rattle.grammar.specs.Rules.{KindRules, TotalRules, TrailerRules}
 use Rattle.grammar.specs.Shape.{Disposition, Dispositions, last, more, InOrder, in-order}
@@ -47,7 +47,7 @@ use Rattle.grammar.proofs.AtPlace.{asks, RightAt}
 use Rattle.grammar.proofs.ContextAfter.{FromStart}
 use Rattle.grammar.proofs.Bytes.{typedOf, parts-joined}
 use Rattle.grammar.proofs.Codes.{Agreeing, all-equal-exact}
-use Rattle.grammar.proofs.Dispositions.{InShape, numbered-shape, dispositions-state, dispositions-exact}
+use Rattle.grammar.proofs.Dispositions.{InShape, numbered-shape, codes-stand, dispositions-state, dispositions-exact}
 use Rattle.grammar.proofs.FirstFault.{judgeFrom, judged, whole-records, ends-so, stops-so, complete-order, order-complete, first-fault-exact}
 use Rattle.grammar.proofs.KindsOfFlow.{kindThrough, Kindred, first-tells, all-kindred, all-through}
 use Rattle.grammar.proofs.Order.{Allowed, allowed-before, allowed-after, order-runs}
@@ -171,6 +171,9 @@ module _ (p : Parts) (some : 1 ≤ dispositionCount p) (shape : InShape (p .disp
       middle : Walked h afterHeader [] 1 ms ↔ (Allowed (afterHeader .place) (kindsOf ms) × RightDispositions (h .abi) 1 (p .dispositions) × (Agreeing [] (map dispositionCode (p .dispositions)) × Kindred Unknown (map opening (p .dispositions))))
       middle = dispositions-exact h afterHeader [] 1 1 (p .dispositions) shape refl
 
+      codes-exact : RightDispositions (h .abi) 1 (p .dispositions) → Agreeing [] (map dispositionCode (p .dispositions)) ↔ AllEqual (map dispositionCode (p .dispositions))
+      codes-exact each = all-equal-exact (map dispositionCode (p .dispositions)) (codes-stand (h .abi) 1 (p .dispositions) each)
+
       parts : Walked h afterHeader [] 1 (ms ++ (end ∷ [])) ↔ (Walked h afterHeader [] 1 ms × Walked h (stateAfter afterHeader ms) (codeAfter [] ms) (1 + length ms) (end ∷ []))
       parts = walked-append h afterHeader [] 1 ms (end ∷ [])
 
@@ -184,7 +187,7 @@ module _ (p : Parts) (some : 1 ≤ dispositionCount p) (shape : InShape (p .disp
             header-rules = header-rules (asks h start [] 1 Im) (p .header) .0 (w .0 .keeps);
             some = some;
             each = within .1;
-            codes = all-equal-exact (map dispositionCode (p .dispositions)) .0 (within .2 .0);
+            codes = codes-exact (within .1) .0 (within .2 .0);
             kinds = one-kind-said (within .2 .1) kind;
             trailer-formed = closing .formed;
             trailer-rules = trailer-said h (codeAfter [] ms) kind .0 (closing .keeps);
@@ -196,7 +199,7 @@ module _ (p : Parts) (some : 1 ≤ dispositionCount p) (shape : InShape (p .disp
           let may = subst (λ (q : Place). Allowed q (Ef ∷ [])) (sym (state-place afterHeader ms)) (allowed-after (placeDue OnlyR14) (kindsOf ms) (Ef ∷ []) allowed) .0 in
           let heading : RightAt h start [] 1 Im (p .header) = record { may = inl refl; formed = r .header-formed; keeps = header-rules (asks h start [] 1 Im) (p .header) .1 (r .header-rules) } in
           let closing : RightAt h (stateAfter afterHeader ms) (codeAfter [] ms) (suc (1 + length ms)) Ef (p .trailer) = record { may = may; formed = r .trailer-formed; keeps = trailer-said h (codeAfter [] ms) (kind-known (r .kinds)) .1 (r .trailer-rules) } in
-          let within = middle .1 (allowed-before (placeDue OnlyR14) (kindsOf ms) (Ef ∷ []) allowed, r .each, (all-equal-exact (map dispositionCode (p .dispositions)) .1 (r .codes), all-kindred Unknown (p .kind) (map opening (p .dispositions)) refl (r .kinds))) in
+          let within = middle .1 (allowed-before (placeDue OnlyR14) (kindsOf ms) (Ef ∷ []) allowed, r .each, (codes-exact (r .each) .1 (r .codes), all-kindred Unknown (p .kind) (map opening (p .dispositions)) refl (r .kinds))) in
           (heading, parts .1 (within, (closing, tt)))
 
   -- the totals after all of them

@@ -15,7 +15,7 @@ use Rattle.records.specs.declared.flow_kind.KindFound.the-variants.{Of, Unknown
 use Rattle.records.specs.declared.kind.RecordKind.{RecordKind}
 use Rattle.records.specs.declared.kind.RecordKind.the-variants.{Im, R14}
 use Rattle.flow.specs.Order.{In, permitted, mayClose, placeAfter}
-use Rattle.flow.specs.Walking.{start, kindAfter, step, latest}
+use Rattle.flow.specs.Walking.{start, kindAfter, step, companyAfter}
 use Rattle.flow.specs.declared.order.Due.{Due}
 use Rattle.flow.specs.declared.order.Due.the-variants.{OnlyIm, OnlyR14}
 use Rattle.flow.specs.declared.walk.Walk.{Walk}
@@ -55,7 +55,7 @@ early-all h w code i [] walked early = early
 early-all h w code i (r ∷ rs) walked early =
     let k = r .kind in
     let rec = r .bytes in
-    early-all h (step w k (asked k rec) rec) (latest k code rec) (suc i) rs (walked .1) (early-on h w code (suc i) k rec (walked .0) early)
+    early-all h (step w k (asked k rec) rec) (companyAfter code k rec) (suc i) rs (walked .1) (early-on h w code (suc i) k rec (walked .0) early)
 
 pub kind-at-close : (h : Header) (code : List ℕ) (i : ℕ) (rs : List Typed) → Walked h start code i rs → mayClose (permitted (stateAfter start rs .place .due)) ≡ true → isKnown (stateAfter start rs .kind) ≡ true
 kind-at-close h code i rs walked may = by (early-all h start code i rs walked (inr (inl refl)))

@@ -1,7 +1,7 @@
 -- The dispositions found in a flow are those of the grammar; their parts are the bytes between header and trailer. Assumes nothing.
 use Prim.Native.Nat.{ℕ, zero, suc, _+_, _-_, _*_, _≤_, _<_}
 use mathlib.Core.Bool.{true, false, true≢false}
-use mathlib.Core.List.{List, [], _∷_, _++_, append-assoc, map, map-map, map-append, flatten, dropLast}
+use mathlib.Core.List.{List, [], _∷_, _++_, append-assoc, map, map-map, map-append, flatten, dropLast, List·Memᴰ, List·Memᴰ·head, List·Memᴰ·tail}
 use mathlib.Core.Path.{_≡_, refl, sym, _∙_, ap, subst}
 use native.Mathlib.Nat.{le-of-suc-le-suc, not-suc-le-zero}
 use native.Mathlib.Omega.{arith}
@@ -18,6 +18,7 @@ use Rattle.sequences.proofs.Groups.{Opens, groups-joined}
 use Rattle.sequences.proofs.Map.{by-number}
 use Rattle.fields.specs.Digits.{number}
 use Rattle.records.specs.Amount.{amountIn}
+use Rattle.records.specs.Company.{companyIn}
 use Rattle.records.specs.Context.{headerOf}
 use Rattle.records.specs.Field.{field}
 use Rattle.records.specs.Kinds.{typeOf, isOpening, opens}
@@ -34,8 +35,9 @@ use Rattle.flow.specs.declared.location.Location.{Location}
 use Rattle.flow.proofs.Accepted.{accepted-exact}
 use Rattle.flow.proofs.Cut.{Whole, flatten-length, part-joined}
 use Rattle.flow.proofs.Dispositions.{dispositions-counted, disposition-at, find-so, found-has}
-use Rattle.grammar.specs.Grammar.{Typed, kindsOf, recordsIn, opening, RightDisposition, RightDispositions, Grammar}
-use Rattle.grammar.specs.Laws.{OneKind, DispositionsExact, centsAt, firstAt, endAt, PartsExact, PlacesExact, OpeningExact, PartEmpty}
+use Rattle.grammar.specs.Fault.{companyOf}
+use Rattle.grammar.specs.Grammar.{Typed, kindsOf, recordsIn, opening, dispositionCode, AllEqual, RightDisposition, RightDispositions, Grammar}
+use Rattle.grammar.specs.Laws.{OneKind, OneCompany, DispositionsExact, centsAt, firstAt, endAt, PartsExact, PlacesExact, OpeningExact, PartEmpty}
 use Rattle.grammar.specs.Rules.{Digits, Says, Formed, KindRules, MemberRules}
 use Rattle.grammar.proofs.Dispositions.{Detail, detail-opens, Opened, opened-by, opened-so, Member}
 use Rattle.grammar.proofs.Grammar.{grammar-records, grammar-whole, grammar-bytes, grammar-exact}
@@ -77,38 +79,61 @@ module _ (f : List ℕ) (t : Totals) (g : Grammar f t) where
       grammar-records f t g
       ∙ ap (λ (l : List (List ℕ)). g .parts .header ∷ l) (map-append bytes ms (record { kind = Ef; bytes = g .parts .trailer } ∷ []) ∙ ap (λ (l : List (List ℕ)). l ++ (g .parts .trailer ∷ [])) (map-flatten bytes (g .parts .dispositions)))
 
--- each record 14 is the one that opens a disposition, and has the flow's kind
+  -- each record 14 is the one that opens a disposition: what holds of those that open one holds of every 14
+  each-opening : (P : List ℕ → Type 0) → All P (map opening (g .parts .dispositions)) → All (λ (rec : List ℕ). isOpening rec ≡ true → P rec) (recordsOf f)
+  unfolding flatten
+  each-opening P openings =
+      subst (All Kept) (sym between)
+      (shut Im (g .parts .header) (g .right .header-formed) refl, all-append Kept (flatten (map recordsIn ds)) (g .parts .trailer ∷ []) (members 1 ds (g .right .each) openings) (shut Ef (g .parts .trailer) (g .right .trailer-formed) refl, tt))
+    where
+      ds : List (List Typed)
+      ds = g .parts .dispositions
+
+      Kept : List ℕ → Type 0
+      Kept rec = isOpening rec ≡ true → P rec
+
+      shut : (k : RecordKind) (rec : List ℕ) → Formed k rec → opens k ≡ false → Kept rec
+      shut k rec formed other opened = absurd (true≢false (sym opened ∙ opening-so k rec formed ∙ other))
+
+      others : (recs : List (List ℕ)) → All (λ (rec : List ℕ). isOpening rec ≡ false) recs → All Kept recs
+      others [] none = tt
+      others (rec ∷ recs) none = (λ opened. absurd (true≢false (sym opened ∙ none .0)), others recs (none .1))
+
+      members : (n : ℕ) (ds : List (List Typed)) → RightDispositions (headerOf (g .parts .header) .abi) n ds → All P (map opening ds) → All Kept (flatten (map recordsIn ds))
+      members n [] each all = tt
+      members n (d ∷ ds) each all =
+          let o = opens-so (headerOf (g .parts .header) .abi) n d (each .0) in
+          let first : P (o .first) = subst P (ap (λ (l : List (List ℕ)). getD l 0 []) (o .whole)) (all .0) in
+          all-append Kept (recordsIn d) (flatten (map recordsIn ds)) (subst (All Kept) (sym (o .whole)) (λ opened. first, others (o .others) (o .none))) (members (suc n) ds (each .1) (all .1))
+
+  -- the company code of a flow is that of its first disposition
+  pub company-first : companyOf (recordsOf f) ≡ dispositionCode (getD (g .parts .dispositions) 0 [])
+  unfolding companyOf flatten
+  company-first = ap companyOf between ∙ rw (opening-so Im (g .parts .header) (g .right .header-formed)) (go (g .parts .dispositions) (g .right .some) (g .right .each))
+    where
+      go : (ds : List (List Typed)) → 1 ≤ length ds → RightDispositions (headerOf (g .parts .header) .abi) 1 ds → companyOf (flatten (map recordsIn ds) ++ (g .parts .trailer ∷ [])) ≡ dispositionCode (getD ds 0 [])
+      go [] none each = absurd (omega arith)
+      go (d ∷ ds) some each =
+          let o = opens-so (headerOf (g .parts .header) .abi) 1 d (each .0) in
+          rw (o .whole, o .passes)
+
 pub one-kind : OneKind
-unfolding flatten
 one-kind f t e =
-    subst (All Kept) (sym (between f t g))
-    (shut Im (g .parts .header) (g .right .header-formed) refl, all-append Kept (flatten (map recordsIn ds)) (g .parts .trailer ∷ []) (members 1 ds (g .right .each) kinds) (shut Ef (g .parts .trailer) (g .right .trailer-formed) refl, tt))
+    let g = grammar-exact f t .0 e in
+    each-opening f t g (KindRules (t .kind)) (subst (λ (u : Totals). All (KindRules (u .kind)) (map opening (g .parts .dispositions))) (g .totals) (g .right .kinds))
+
+pub one-company : OneCompany
+one-company f t e =
+    let g = grammar-exact f t .0 e in
+    each-opening f t g (λ (rec : List ℕ). companyIn rec ≡ companyOf (recordsOf f)) (by (g .parts .dispositions) (company-first f t g) (g .right .codes))
   where
-    g : Grammar f t
-    g = grammar-exact f t .0 e
+    same : (ds : List (List Typed)) {company : List ℕ} → ((x : List ℕ) → List·Memᴰ x (map dispositionCode ds) → x ≡ company) → All (λ (rec : List ℕ). companyIn rec ≡ company) (map opening ds)
+    same [] each = tt
+    same (d ∷ ds) each = (each (dispositionCode d) (List·Memᴰ·head refl), same ds (λ x m. each x (List·Memᴰ·tail m)))
 
-    ds : List (List Typed)
-    ds = g .parts .dispositions
-
-    Kept : List ℕ → Type 0
-    Kept rec = isOpening rec ≡ true → KindRules (t .kind) rec
-
-    kinds : All (KindRules (t .kind)) (map opening ds)
-    kinds = subst (λ (u : Totals). All (KindRules (u .kind)) (map opening ds)) (g .totals) (g .right .kinds)
-
-    shut : (k : RecordKind) (rec : List ℕ) → Formed k rec → opens k ≡ false → Kept rec
-    shut k rec formed other opened = absurd (true≢false (sym opened ∙ opening-so k rec formed ∙ other))
-
-    others : (recs : List (List ℕ)) → All (λ (rec : List ℕ). isOpening rec ≡ false) recs → All Kept recs
-    others [] none = tt
-    others (rec ∷ recs) none = (λ opened. absurd (true≢false (sym opened ∙ none .0)), others recs (none .1))
-
-    members : (n : ℕ) (ds : List (List Typed)) → RightDispositions (headerOf (g .parts .header) .abi) n ds → All (KindRules (t .kind)) (map opening ds) → All Kept (flatten (map recordsIn ds))
-    members n [] each kinds = tt
-    members n (d ∷ ds) each kinds =
-        let o = opens-so (headerOf (g .parts .header) .abi) n d (each .0) in
-        let first : KindRules (t .kind) (o .first) = subst (KindRules (t .kind)) (ap (λ (l : List (List ℕ)). getD l 0 []) (o .whole)) (kinds .0) in
-        all-append Kept (recordsIn d) (flatten (map recordsIn ds)) (subst (All Kept) (sym (o .whole)) (λ opened. first, others (o .others) (o .none))) (members (suc n) ds (each .1) (kinds .1))
+    by : (ds : List (List Typed)) {company : List ℕ} → company ≡ dispositionCode (getD ds 0 []) → AllEqual (map dispositionCode ds) → All (λ (rec : List ℕ). companyIn rec ≡ company) (map opening ds)
+    by [] first equal = tt
+    by (d ∷ ds) first equal = same (d ∷ ds) (λ x m. equal x (dispositionCode d) m (List·Memᴰ·head refl) ∙ sym first)
 
 pub dispositions-exact : DispositionsExact
 unfolding groups

@@ -23,7 +23,8 @@ use Rattle.fields.proofs.Decimal.{number-below, written-digits, written-read-fi
 use Rattle.fields.proofs.Gregorian.{day-said, day-tested}
 use Rattle.records.specs.Amount.{amountIn}
 use Rattle.records.specs.Bytes.{isPrintable, badFrom, badByte}
-use Rattle.records.specs.Checks.{isPresent, isDate, isListed, agrees, numberChecks, dispositionChecks, coordinatesChecks, checks}
+use Rattle.records.specs.Checks.{isPresent, isDate, isListed, numberChecks, dispositionChecks, coordinatesChecks, checks}
+use Rattle.records.specs.Company.{companyIn, agrees}
 use Rattle.records.specs.Constants.{currency}
 use Rattle.records.specs.Context.{Context}
 use Rattle.records.specs.Field.{field, byteAt}
@@ -79,20 +80,6 @@ listed-exact b [] = (λ t. absurd (false≢true t), λ h. absurd (List·Memᴰ·
 listed-exact b (x ∷ xs) =
     let here = either (number-exact b x) (listed-exact b xs) in
     (λ t. ⊎-elim (λ e. List·Memᴰ·head e) (λ m. List·Memᴰ·tail m) (here .0 t), λ h. here .1 (List·Memᴰ·cases-cons h))
-
--- company codes
-pub agrees-exact : (company code : List ℕ) → (agrees company code ≡ true) ↔ (Present code → Present company → code ≡ company)
-agrees-exact company code = (said, go (isBlank code) (isBlank company) refl refl)
-  where
-    said : agrees company code ≡ true → Present code → Present company → code ≡ company
-    said t here there =
-        let blank = either (blanks-exact code) (blanks-exact company) in
-        ⊎-elim (λ b. absurd (⊎-elim here there b)) (λ e. e) (either blank (equal-exact code company) .0 t)
-
-    go : (a b : Bool) → isBlank code ≡ a → isBlank company ≡ b → (Present code → Present company → code ≡ company) → agrees company code ≡ true
-    go true b e f h = rw e
-    go false true e f h = rw (e, f)
-    go false false e f h = rw (e, f) (equal-exact code company .1 (h (present-exact code .0 (rw e)) (present-exact company .0 (rw f))))
 
 -- bytes of 32 to 126
 printable-byte : (b : ℕ) → (isPrintable b ≡ true) ↔ Printable b
@@ -171,11 +158,11 @@ header-rules ctx rec =
     part : {B A X : Type 0} → B ⊎ A → (A → X) → B ⊎ X
     part h f = ⊎-elim (λ b. inl b) (λ a. inr (f a)) h
 
--- what row 14 says of it beside the records before it: its company code is compared with the latest one present, its kind with the one found
--- so far; no other record is
+-- what row 14 says of it beside the records before it: its company code is compared with the first one, its kind with the one found so
+-- far; no other record is
 abbrev pub Agrees : RecordKind → List ℕ → KindFound → List ℕ → Type 0
 Agrees Im company q rec = Unit
-Agrees R14 company q rec = (agrees company (field 92 96 rec) ≡ true) × SomeKind q rec
+Agrees R14 company q rec = (agrees company (companyIn rec) ≡ true) × SomeKind q rec
 Agrees R16 company q rec = Unit
 Agrees R20 company q rec = Unit
 Agrees R30 company q rec = Unit
@@ -186,7 +173,7 @@ Agrees R51 company q rec = Unit
 Agrees R70 company q rec = Unit
 Agrees Ef company q rec = Unit
 
-disposition-rules : (abi company : List ℕ) (q : KindFound) (rec : List ℕ) → Hold (dispositionChecks abi company q rec) ↔ (DispositionRules abi rec × ((agrees company (field 92 96 rec) ≡ true) × SomeKind q rec))
+disposition-rules : (abi company : List ℕ) (q : KindFound) (rec : List ℕ) → Hold (dispositionChecks abi company q rec) ↔ (DispositionRules abi rec × ((agrees company (companyIn rec) ≡ true) × SomeKind q rec))
 disposition-rules abi company q rec =
     Iff·trans
     (digits-exact (field 23 28 rec)

@@ -9,25 +9,25 @@ use lib.ListN.{length}
 use Rattle.sequences.specs.All.{All}
 use Rattle.fields.specs.Digits.{number}
 use Rattle.records.specs.Amount.{amountIn}
-use Rattle.records.specs.Checks.{isPresent}
+use Rattle.records.specs.Company.{companyIn, isNone}
 use Rattle.records.specs.Context.{Header}
-use Rattle.records.specs.Field.{field}
 use Rattle.records.specs.FlowKinds.{kindIn, firstKnown}
 use Rattle.records.specs.Judge.{asked}
 use Rattle.records.specs.Kinds.{isOpening, opens, opened}
 use Rattle.records.proofs.ByKind.{type-tested, opens-type}
 use Rattle.records.specs.declared.flow_kind.KindFound.{KindFound}
 use Rattle.flow.specs.Judge.{walkFrom}
-use Rattle.flow.specs.Walking.{kindAfter, step, latest}
+use Rattle.flow.specs.Walking.{kindAfter, step, companyAfter}
 use Rattle.flow.specs.ExactTotals.{openingCount, amountSum, kindFrom}
 use Rattle.flow.specs.Verdict.{Verdict, refused, refusal}
 use Rattle.flow.specs.declared.answer.Totals.{Totals}
 use Rattle.flow.specs.declared.walk.Walk.{Walk}
 use Rattle.flow.proofs.Cut.{Whole}
-use Rattle.grammar.specs.Fault.{latestCode}
+use Rattle.grammar.specs.Fault.{companyOf}
 use Rattle.grammar.specs.Grammar.{Typed, kindsOf, recordsIn}
 use Rattle.grammar.specs.Rules.{Formed}
 use Rattle.grammar.proofs.AtPlace.{RightAt, FaultAt, Judgement, right-judged, fault-judged, judgement}
+use Rattle.grammar.proofs.Codes.{code-stands, firstFound, none-later, found-stays}
 use Rattle.grammar.proofs.Order.{placeThrough, Allowed}
 
 -- the state, and the company code, after records
@@ -37,13 +37,13 @@ stateAfter w (r ∷ rs) = stateAfter (step w (r .kind) (asked (r .kind) (r .byte
 
 abbrev pub codeAfter : List ℕ → List Typed → List ℕ
 codeAfter code [] = code
-codeAfter code (r ∷ rs) = codeAfter (latest (r .kind) code (r .bytes)) rs
+codeAfter code (r ∷ rs) = codeAfter (companyAfter code (r .kind) (r .bytes)) rs
 
 -- records that are right one after the other, from a state on that has i records before it
 abbrev pub Walked : Header → Walk → List ℕ → ℕ → List Typed → Type 0
 Walked h w code i [] = Unit
 Walked h w code i (r ∷ rs) =
-    RightAt h w code (suc i) (r .kind) (r .bytes) × Walked h (step w (r .kind) (asked (r .kind) (r .bytes)) (r .bytes)) (latest (r .kind) code (r .bytes)) (suc i) rs
+    RightAt h w code (suc i) (r .kind) (r .bytes) × Walked h (step w (r .kind) (asked (r .kind) (r .bytes)) (r .bytes)) (companyAfter code (r .kind) (r .bytes)) (suc i) rs
 
 -- records and then others
 pub walked-append :
@@ -54,7 +54,7 @@ walked-append h w code i [] cs =
     (λ walked. (tt, subst (λ (n : ℕ). Walked h w code n cs) same walked), λ both. subst (λ (n : ℕ). Walked h w code n cs) (sym same) (both .1))
 walked-append h w code i (b ∷ bs) cs =
     let w′ = step w (b .kind) (asked (b .kind) (b .bytes)) (b .bytes) in
-    let code′ = latest (b .kind) code (b .bytes) in
+    let code′ = companyAfter code (b .kind) (b .bytes) in
     let rest = walked-append h w′ code′ (suc i) bs cs in
     let same : suc i + length bs ≡ i + suc (length bs) = omega arith in (
       λ walked.
@@ -70,7 +70,7 @@ state-append w (b ∷ bs) cs = state-append (step w (b .kind) (asked (b .kind) (
 -- each was permitted at its place
 pub walked-allowed : (h : Header) (w : Walk) (code : List ℕ) (i : ℕ) (rs : List Typed) → Walked h w code i rs → Allowed (w .place) (kindsOf rs)
 walked-allowed h w code i [] r = tt
-walked-allowed h w code i (x ∷ rs) r = (r .0 .may, walked-allowed h (step w (x .kind) (asked (x .kind) (x .bytes)) (x .bytes)) (latest (x .kind) code (x .bytes)) (suc i) rs (r .1))
+walked-allowed h w code i (x ∷ rs) r = (r .0 .may, walked-allowed h (step w (x .kind) (asked (x .kind) (x .bytes)) (x .bytes)) (companyAfter code (x .kind) (x .bytes)) (suc i) rs (r .1))
 
 -- and has the form of its kind
 abbrev pub AllFormed : List Typed → Type 0
@@ -78,7 +78,7 @@ AllFormed rs = All (λ (r : Typed). Formed (r .kind) (r .bytes)) rs
 
 pub walked-formed : (h : Header) (w : Walk) (code : List ℕ) (i : ℕ) (rs : List Typed) → Walked h w code i rs → AllFormed rs
 walked-formed h w code i [] r = tt
-walked-formed h w code i (x ∷ rs) r = (r .0 .formed, walked-formed h (step w (x .kind) (asked (x .kind) (x .bytes)) (x .bytes)) (latest (x .kind) code (x .bytes)) (suc i) rs (r .1))
+walked-formed h w code i (x ∷ rs) r = (r .0 .formed, walked-formed h (step w (x .kind) (asked (x .kind) (x .bytes)) (x .bytes)) (companyAfter code (x .kind) (x .bytes)) (suc i) rs (r .1))
 
 pub formed-whole : (rs : List Typed) → AllFormed rs → Whole (recordsIn rs)
 formed-whole [] formed = tt
@@ -97,7 +97,7 @@ walkFrom-after end h w code i [] rest r = let same : i ≡ i + 0 = omega arith i
 walkFrom-after end h w code i (x ∷ rs) rest r =
     let k = x .kind in
     let w′ = step w k (asked k (x .bytes)) (x .bytes) in
-    let code′ = latest k code (x .bytes) in
+    let code′ = companyAfter code k (x .bytes) in
     let same : suc i + length rs ≡ i + suc (length rs) = omega arith in
     let found = right-judged h w code (suc i) (x .bytes) (r .0 .formed .whole) k (r .0) in
     rw found (walkFrom-after end h w′ code′ (suc i) rs rest (r .1) ∙ ap (λ (n : ℕ). walkFrom end h (stateAfter w′ rs) (codeAfter code′ rs) n rest) same)
@@ -118,7 +118,7 @@ pub data Outcome (h : Header) (w : Walk) (code : List ℕ) (i : ℕ) : List (Lis
 
 one-on :
     (h : Header) (w : Walk) (code : List ℕ) (i : ℕ) (r : Typed) {recs : List (List ℕ)} → RightAt h w code (suc i) (r .kind) (r .bytes)
-    → Outcome h (step w (r .kind) (asked (r .kind) (r .bytes)) (r .bytes)) (latest (r .kind) code (r .bytes)) (suc i) recs → Outcome h w code i (r .bytes ∷ recs)
+    → Outcome h (step w (r .kind) (asked (r .kind) (r .bytes)) (r .bytes)) (companyAfter code (r .kind) (r .bytes)) (suc i) recs → Outcome h w code i (r .bytes ∷ recs)
 one-on h w code i r right-at (all-right rs walked) = all-right (r ∷ rs) (right-at, walked)
 one-on h w code i r right-at (stops rs rec rest m p walked fault) =
     let same : suc (suc i + length rs) ≡ suc (i + suc (length rs)) = omega arith in
@@ -130,7 +130,7 @@ outcome h w code i (rec ∷ recs) whole =
     go (λ w′ code′. outcome h w′ code′ (suc i) recs (whole .1)) (judgement h w code (suc i) rec (whole .0))
   where
     go : ((w′ : Walk) (code′ : List ℕ) → Outcome h w′ code′ (suc i) recs) → Judgement h w code (suc i) rec → Outcome h w code i (rec ∷ recs)
-    go rest (inl o) = one-on h w code i (record { kind = o .0; bytes = rec }) (o .1) (rest (step w (o .0) (asked (o .0) rec) rec) (latest (o .0) code rec))
+    go rest (inl o) = one-on h w code i (record { kind = o .0; bytes = rec }) (o .1) (rest (step w (o .0) (asked (o .0) rec) rec) (companyAfter code (o .0) rec))
     go rest (inr o) =
         let same : suc i ≡ suc (i + 0) = omega arith in
         stops [] rec recs (o .0) (o .1) tt (subst (λ (n : ℕ). FaultAt h w code n rec (o .0) (o .1)) same (o .2))
@@ -138,17 +138,18 @@ outcome h w code i (rec ∷ recs) whole =
 -- what the walk carries after records is what they say themselves
 pub state-counts :
     (w : Walk) (code : List ℕ) (rs : List Typed) → AllFormed rs
-    → (stateAfter w rs .dispositions ≡ w .dispositions + openingCount (recordsIn rs)) × (stateAfter w rs .cents ≡ w .cents + amountSum (recordsIn rs)) × (codeAfter code rs ≡ latestCode code (recordsIn rs))
+    → (stateAfter w rs .dispositions ≡ w .dispositions + openingCount (recordsIn rs)) × (stateAfter w rs .cents ≡ w .cents + amountSum (recordsIn rs)) × (codeAfter code rs ≡ firstFound code (companyOf (recordsIn rs)))
     × (stateAfter w rs .kind ≡ kindFrom (w .kind) (recordsIn rs))
-unfolding openingCount amountSum latestCode kindFrom
-state-counts w code [] formed = (omega arith, omega arith, refl, refl)
+unfolding openingCount amountSum companyOf kindFrom
+state-counts w code [] formed = (omega arith, omega arith, sym (none-later code), refl)
 state-counts w code (r ∷ rs) formed =
     let k = r .kind in
     let rec = r .bytes in
     let opens-so : opens k ≡ isOpening rec = opens-type k rec (type-tested k rec (formed .0 .type)) in
-    let rest = state-counts (step w k (asked k rec) rec) (latest k code rec) rs (formed .1) in
+    let rest = state-counts (step w k (asked k rec) rec) (companyAfter code k rec) rs (formed .1) in
     let count : opened k ≡ cond (isOpening rec) 1 0 = ap (λ (b : Bool). cond b 1 0) opens-so in
     let cents : asked k rec ≡ cond (isOpening rec) (number (amountIn rec)) 0 = ap (λ (b : Bool). cond b (number (amountIn rec)) 0) opens-so in
-    let latest-code : latest k code rec ≡ cond (isOpening rec && isPresent (field 92 96 rec)) (field 92 96 rec) code = ap (λ (b : Bool). cond (b && isPresent (field 92 96 rec)) (field 92 96 rec) code) opens-so in
+    let company : companyAfter code k rec ≡ cond (isOpening rec && isNone code) (companyIn rec) code = ap (λ (b : Bool). cond (b && isNone code) (companyIn rec) code) opens-so in
+    let later : List ℕ = companyOf (recordsIn rs) in
     let kind : kindAfter (w .kind) k rec ≡ cond (isOpening rec) (firstKnown (w .kind) (kindIn rec)) (w .kind) = ap (λ (b : Bool). cond b (firstKnown (w .kind) (kindIn rec)) (w .kind)) opens-so in
-    (omega arith, omega arith, rest .2 ∙ ap (λ (c : List ℕ). latestCode c (recordsIn rs)) latest-code, rest .3 ∙ ap (λ (q : KindFound). kindFrom q (recordsIn rs)) kind)
+    (omega arith, omega arith, rest .2 ∙ ap (λ (c : List ℕ). firstFound c later) company ∙ found-stays code (companyIn rec) later (isOpening rec) (code-stands rec (formed .0 .whole)), rest .3 ∙ ap (λ (q : KindFound). kindFrom q (recordsIn rs)) kind)

@@ -1,12 +1,13 @@
 -- The first fault of a flow, said without looking for it (document 01, "Numbers a clerk may see": 1; then the lowest record; inside it 2
 -- at the lowest byte, then 3, then rising field position; 4 where every record present is right). Assumes nothing.
 use Prim.Native.Nat.{ℕ, suc, _+_}
-use mathlib.Core.Bool.{cond, _&&_}
+use mathlib.Core.Bool.{cond}
 use mathlib.Core.List.{List, [], _∷_, _++_, map}
 use mathlib.Core.Path.{_≡_}
 use lib.ListN.{length, take}
 use Rattle.sequences.specs.All.{All}
-use Rattle.records.specs.Checks.{isPresent, checks}
+use Rattle.records.specs.Checks.{checks}
+use Rattle.records.specs.Company.{companyIn}
 use Rattle.records.specs.Context.{Context, context, headerOf}
 use Rattle.records.specs.Field.{field}
 use Rattle.records.specs.RecordVerdict.{Hold, FirstBroken}
@@ -31,15 +32,15 @@ pub record MayFollow (before : List (List ℕ)) (k : RecordKind) : Type 0 where
   pub have : HaveKinds kinds before
   pub order : InOrder (kinds ++ (k ∷ rest))
 
--- the latest company code present in the records 14, or the one given where there is none
-unfoldable pub latestCode : List ℕ → List (List ℕ) → List ℕ
-latestCode code [] = code
-latestCode code (rec ∷ recs) = latestCode (cond (isOpening rec && isPresent (field 92 96 rec)) (field 92 96 rec) code) recs
+-- the company code of the first record 14 among records, and no bytes where there is no 14
+unfoldable pub companyOf : List (List ℕ) → List ℕ
+companyOf [] = []
+companyOf (rec ∷ recs) = cond (isOpening rec) (companyIn rec) (companyOf recs)
 
 -- what the checks of a record of the kind are asked with, after the records `before` of the flow f
 abbrev pub contextAfter : List ℕ → List (List ℕ) → RecordKind → Context
 contextAfter f before k =
-    context (headerOf (take 120 f)) (latestCode [] before) (kindFrom Unknown before)
+    context (headerOf (take 120 f)) (companyOf before) (kindFrom Unknown before)
     (record { dispositions = openingCount before + cond (opens k) 1 0; cents = amountSum before; records = suc (length before) })
 
 -- the record keeps its rules where the records `before` of the flow f stand before it

@@ -1,6 +1,6 @@
 -- The grammar of a flow of requests or of recalls: a header; one or more dispositions in the stated order, numbered 1, 2, 3 .., all of one
--- kind; a trailer with their exact count, sum and record count; and every field rule (document 01, "The flow as bytes"; document 02, E1).
--- Assumes nothing.
+-- kind and with one company code; a trailer with their exact count, sum and record count; and every field rule (document 01, "The flow as
+-- bytes"; document 02, E1 and E4). Assumes nothing.
 use Prim.Native.Nat.{ℕ, _+_, _≤_}
 use mathlib.Core.List.{List, [], _++_, map, flatten, List·Memᴰ}
 use mathlib.Core.Path.{_≡_}
@@ -11,12 +11,12 @@ use Rattle.sequences.specs.Sum.{sum}
 use Rattle.fields.specs.Digits.{number}
 use Rattle.records.specs.Amount.{amountIn}
 use Rattle.records.specs.Context.{headerOf}
-use Rattle.records.specs.Field.{field}
+use Rattle.records.specs.Company.{companyIn}
 use Rattle.records.specs.declared.flow_kind.FlowKind.{FlowKind}
 use Rattle.records.specs.declared.kind.RecordKind.{RecordKind}
 use Rattle.records.specs.declared.kind.RecordKind.the-variants.{Im, Ef}
 use Rattle.flow.specs.declared.answer.Totals.{Totals}
-use Rattle.grammar.specs.Rules.{Present, Formed, HeaderRules, KindRules, MemberRules, TrailerRules}
+use Rattle.grammar.specs.Rules.{Formed, HeaderRules, KindRules, MemberRules, TrailerRules}
 use Rattle.grammar.specs.Shape.{Disposition}
 
 -- a record with its kind
@@ -45,7 +45,7 @@ abbrev pub dispositionAmount : List Typed → ℕ
 dispositionAmount d = number (amountIn (opening d))
 
 abbrev pub dispositionCode : List Typed → List ℕ
-dispositionCode d = field 92 96 (opening d)
+dispositionCode d = companyIn (opening d)
 
 -- the flow put together again
 abbrev pub bytesOf : Parts → List ℕ
@@ -73,15 +73,16 @@ pub record RightDisposition (abi : List ℕ) (n : ℕ) (d : List Typed) : Type 0
 abbrev pub RightDispositions : List ℕ → ℕ → List (List Typed) → Type 0
 RightDispositions abi n ds = Counted (RightDisposition abi) n ds
 
--- company codes: those that are present are all equal
+-- company codes of which any two are the same bytes
 abbrev pub AllEqual : List (List ℕ) → Type 0
-AllEqual codes = (a b : List ℕ) → List·Memᴰ a codes → List·Memᴰ b codes → Present a → Present b → a ≡ b
+AllEqual codes = (a b : List ℕ) → List·Memᴰ a codes → List·Memᴰ b codes → a ≡ b
 
 pub record RightParts (p : Parts) : Type 0 where
   pub header-formed : Formed Im (p .header)
   pub header-rules : HeaderRules (p .header)
   pub some : 1 ≤ dispositionCount p
   pub each : RightDispositions (headerOf (p .header) .abi) 1 (p .dispositions)
+  -- "company code on all or on none"
   pub codes : AllEqual (map dispositionCode (p .dispositions))
   -- "new requests and recalls may not share a flow"
   pub kinds : All (KindRules (p .kind)) (map opening (p .dispositions))

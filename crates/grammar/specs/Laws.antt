@@ -10,6 +10,7 @@ use Rattle.sequences.specs.All.{All}
 use Rattle.sequences.specs.Part.{part}
 use Rattle.sequences.specs.Sum.{sum, upTo}
 use Rattle.records.specs.Amount.{amountIn}
+use Rattle.records.specs.Company.{companyIn}
 use Rattle.records.specs.Context.{Header, context}
 use Rattle.records.specs.Field.{field}
 use Rattle.records.specs.RecordVerdict.{refused as RecordVerdict·refused}
@@ -26,7 +27,7 @@ use Rattle.flow.specs.declared.answer.Refusal.{Refusal}
 use Rattle.flow.specs.declared.answer.Totals.{Totals}
 use Rattle.flow.specs.declared.location.Location.{Location}
 use Rattle.flow.specs.declared.walk.Walk.{Walk}
-use Rattle.grammar.specs.Fault.{Fault, FirstFault}
+use Rattle.grammar.specs.Fault.{companyOf, Fault, FirstFault}
 use Rattle.grammar.specs.Grammar.{recordsIn, Grammar}
 use Rattle.grammar.specs.Rules.{Says, KindRules}
 
@@ -37,6 +38,10 @@ GrammarExact = (f : List ℕ) (t : Totals) → (judge f ≡ accepted t) ↔ Gram
 -- so a flow that is accepted has one kind: each of its records 14 has that kind's causale and sign
 abbrev pub OneKind : Type 0
 OneKind = (f : List ℕ) (t : Totals) → judge f ≡ accepted t → All (λ (rec : List ℕ). isOpening rec ≡ true → KindRules (t .kind) rec) (recordsOf f)
+
+-- and one company code: each of its records 14 has that of the first, blanks too (document 02, E4)
+abbrev pub OneCompany : Type 0
+OneCompany = (f : List ℕ) (t : Totals) → judge f ≡ accepted t → All (λ (rec : List ℕ). isOpening rec ≡ true → companyIn rec ≡ companyOf (recordsOf f)) (recordsOf f)
 
 -- a flow is refused exactly by its first fault
 abbrev pub FirstFaultExact : Type 0

@@ -52,5 +52,6 @@ examples =
       recalls-canonical = refl;
       other-header = refl;
       no-14 = refl;
+      blanks-written = refl;
       nothing-written = refl;
     }

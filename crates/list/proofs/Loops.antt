@@ -14,9 +14,8 @@ use Rattle.sequences.specs.Part.{part, put}
 use Rattle.sequences.proofs.All.{all-append}
 use Rattle.sequences.proofs.Part.{put-append, put-length, part-length}
 use Rattle.fields.specs.Digits.{digits}
-use Rattle.records.specs.Checks.{isPresent}
+use Rattle.records.specs.Company.{companySpan, companyIn, isNone}
 use Rattle.records.specs.Context.{Header}
-use Rattle.records.specs.Field.{_to_, field}
 use Rattle.records.specs.RecordVerdict.{right}
 use Rattle.records.specs.RecordVerdict.{refused as RecordVerdict·refused}
 use Rattle.records.specs.Kinds.{opened}
@@ -24,7 +23,7 @@ use Rattle.records.specs.Limits.{countLimit, centsLimit, mostCents, mostRecords
 use Rattle.records.specs.declared.kind.RecordKind.{RecordKind}
 use Rattle.records.proofs.ByKind.{types-differ, type-said}
 use Rattle.flow.specs.Judge.{walkFrom}
-use Rattle.flow.specs.Walking.{start, step, latestOf, latest, judgeRecord, saturated}
+use Rattle.flow.specs.Walking.{start, step, firstCompany, companyAfter, judgeRecord, saturated}
 use Rattle.flow.specs.Verdict.{refused, refusal}
 use Rattle.flow.specs.declared.walk.Walk.{Walk}
 use Rattle.flow.proofs.Cut.{Whole, flatten-length}
@@ -83,17 +82,16 @@ module _ (number : ℕ) (header : HeaderMeant) (it : Item) (proper : Proper it) 
   right-kind h w company n k c e =
       types-differ k (recordKind it) (sym (type-said k (encodeItem number header it) (right-typed h w company n (encodeItem number header it) k c e .0)) ∙ encoded-type number header it proper)
 
-  pub latest-carried : (company : List ℕ) → latest (recordKind it) company (encodeItem number header it) ≡ latestOf (recordKind it) company (carriedAt D (92 to 96) (it .body))
-  latest-carried company = by (isD it) refl
+  pub company-carried : (company : List ℕ) → companyAfter company (recordKind it) (encodeItem number header it) ≡ firstCompany company (recordKind it) (carriedAt D companySpan (it .body))
+  company-carried company = by (isD it) refl
     where
       by :
           (b : Bool) → isD it ≡ b
-          → cond (b && isPresent (field 92 96 (encodeItem number header it))) (field 92 96 (encodeItem number header it)) company
-          ≡ cond (b && isPresent (carriedAt D (92 to 96) (it .body))) (carriedAt D (92 to 96) (it .body)) company
+          → cond (b && isNone company) (companyIn (encodeItem number header it)) company ≡ cond (b && isNone company) (carriedAt D companySpan (it .body)) company
       by true e =
           let kind = opens-d (it .kind) e in
           let inside : inOne (carried (it .kind)) 92 96 ≡ true = rw kind refl in
-          let code : field 92 96 (encodeItem number header it) ≡ carriedAt D (92 to 96) (it .body) = encoded-at number header it proper 92 96 inside ∙ ap (λ (k : ItemKind). carriedAt k (92 to 96) (it .body)) kind in
+          let code : companyIn (encodeItem number header it) ≡ carriedAt D companySpan (it .body) = encoded-at number header it proper 92 96 inside ∙ ap (λ (k : ItemKind). carriedAt k companySpan (it .body)) kind in
           rw code
       by false e = refl
 
@@ -140,14 +138,14 @@ module _ {h : Header} {list : List ℕ} {i n number : ℕ} {header : HeaderMeant
 
   pub judging-on :
       (l : RecordKind) (c : ℕ) → judgeRecord h w company (suc n) (recordAt list n i number header k (j .left) next-judged) ≡ right l c
-      → JudgingAt h list (i + 1 + bodyLength k) (suc n) (number + opened (recordOf k)) (headerAfter header (itemAt list i k)) (saturated (step w l c (recordAt list n i number header k (j .left) next-judged))) (latestOf (recordOf k) company (carriedAt D (92 to 96) (itemAt list i k .body)))
+      → JudgingAt h list (i + 1 + bodyLength k) (suc n) (number + opened (recordOf k)) (headerAfter header (itemAt list i k)) (saturated (step w l c (recordAt list n i number header k (j .left) next-judged))) (firstCompany company (recordOf k) (carriedAt D companySpan (itemAt list i k .body)))
   judging-on l c e =
       let next = next-judged in
       let it = itemAt list i k in
       let proper = next-proper list n i k (j .left) next in
       let number′ = number + opened (recordOf k) in
       let kind : l ≡ recordOf k = right-kind number′ header it proper h w company (suc n) l c e in
-      let code : latest l company (encodeItem number′ header it) ≡ latestOf (recordOf k) company (carriedAt D (92 to 96) (it .body)) = ap (λ (m : RecordKind). latest m company (encodeItem number′ header it)) kind ∙ latest-carried number′ header it proper company in
+      let code : companyAfter company l (encodeItem number′ header it) ≡ firstCompany company (recordOf k) (carriedAt D companySpan (it .body)) = ap (λ (m : RecordKind). companyAfter company m (encodeItem number′ header it)) kind ∙ company-carried number′ header it proper company in
       let read = go-on (j .reading) (recordAt list n i number header k (j .left) next) (recordsAfter list n i number header k (j .left) next) (records-next list n i number header k (j .left) next) l c e in
       let more : length (j .left) ≡ suc (length (next .others)) = ap (λ (l : List Item). length l) (next .whole) in
       record {

@@ -29,7 +29,7 @@ use Rattle.records.specs.declared.kind.RecordKind.{RecordKind}
 use Rattle.records.specs.declared.kind.RecordKind.the-variants.{Im, R14, R16, R20, R30, R40, R50, R59, R51, R70, Ef}
 use Rattle.records.proofs.Checked.{checks-by-position}
 use Rattle.records.proofs.EachKind.{each-kind, heads-im, opens-14}
-use Rattle.flow.specs.Walking.{dispositionsWith, latestOf, latest, kindAfter}
+use Rattle.flow.specs.Walking.{dispositionsWith, firstCompany, companyAfter, kindAfter}
 use Rattle.flow.specs.declared.walk.Walk.{Walk}
 use Rattle.grammar.specs.Rules.{Says, Printable, Formed, KindRules, MemberRules}
 use Rattle.grammar.proofs.AtPlace.{asks, RightAt}
@@ -188,8 +188,8 @@ module _
 pub alike-asked : (k : RecordKind) (rec other : List ℕ) → Alike (checked k) rec other → asked k rec ≡ asked k other
 alike-asked k rec other = each-kind (λ (k : RecordKind). Alike (checked k) rec other → asked k rec ≡ asked k other) (λ a. refl, (λ a. ap number (a .1 .1 .1 .1 .0), (λ a. refl, (λ a. refl, (λ a. refl, (λ a. refl, (λ a. refl, (λ a. refl, (λ a. refl, (λ a. refl, (λ a. refl, tt))))))))))) k
 
-pub alike-latest : (k : RecordKind) (company rec other : List ℕ) → Alike (checked k) rec other → latest k company rec ≡ latest k company other
-alike-latest k company rec other = each-kind (λ (k : RecordKind). Alike (checked k) rec other → latest k company rec ≡ latest k company other) (λ a. refl, (λ a. ap (λ (code : List ℕ). latestOf R14 company code) (a .1 .1 .1 .1 .1 .1 .1 .1 .0), (λ a. refl, (λ a. refl, (λ a. refl, (λ a. refl, (λ a. refl, (λ a. refl, (λ a. refl, (λ a. refl, (λ a. refl, tt))))))))))) k
+pub alike-company : (company : List ℕ) (k : RecordKind) (rec other : List ℕ) → Alike (checked k) rec other → companyAfter company k rec ≡ companyAfter company k other
+alike-company company k rec other = each-kind (λ (k : RecordKind). Alike (checked k) rec other → companyAfter company k rec ≡ companyAfter company k other) (λ a. refl, (λ a. ap (λ (code : List ℕ). firstCompany company R14 code) (a .1 .1 .1 .1 .1 .1 .1 .1 .0), (λ a. refl, (λ a. refl, (λ a. refl, (λ a. refl, (λ a. refl, (λ a. refl, (λ a. refl, (λ a. refl, (λ a. refl, tt))))))))))) k
 
 pub alike-kind : (k : RecordKind) (q : KindFound) (rec other : List ℕ) → Alike (checked k) rec other → kindAfter q k rec ≡ kindAfter q k other
 alike-kind k q rec other = each-kind (λ (k : RecordKind). Alike (checked k) rec other → kindAfter q k rec ≡ kindAfter q k other) (λ a. refl, (λ a. ap (λ (bs : List ℕ). firstKnown q (kindAmong flowKinds bs)) (a .1 .1 .1 .0), (λ a. refl, (λ a. refl, (λ a. refl, (λ a. refl, (λ a. refl, (λ a. refl, (λ a. refl, (λ a. refl, (λ a. refl, tt))))))))))) k

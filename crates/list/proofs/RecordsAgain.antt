@@ -18,7 +18,7 @@ use Rattle.records.specs.declared.kind.RecordKind.the-variants.{Im, R14, R16, R
 use Rattle.records.proofs.ByKind.{types-differ}
 use Rattle.records.proofs.EachKind.{each-kind}
 use Rattle.flow.specs.Order.{placeAfter}
-use Rattle.flow.specs.Walking.{dispositionsWith, kindAfter, step, latest}
+use Rattle.flow.specs.Walking.{dispositionsWith, kindAfter, step, companyAfter}
 use Rattle.flow.specs.declared.walk.Walk.{Walk}
 use Rattle.grammar.specs.Grammar.{Typed, kindsOf, recordsIn}
 use Rattle.grammar.specs.Rules.{KindRules}
@@ -31,7 +31,7 @@ use Rattle.list.specs.Table.{recordOf, carried}
 use Rattle.list.specs.declared.table.ItemKind.{ItemKind}
 use Rattle.list.specs.declared.table.ItemKind.the-variants.{H, D, S, C, B, A, R, X, K, Z}
 use Rattle.list.proofs.AllRecords.{Suits}
-use Rattle.list.proofs.RecordAgain.{again-alike, again-right, own-proper, alike-asked, alike-latest, alike-kind}
+use Rattle.list.proofs.RecordAgain.{again-alike, again-right, own-proper, alike-asked, alike-company, alike-kind}
 
 -- the kind of item of a record's kind, in a flow of the kind; EF has none, and nothing is said of what stands here for it
 abbrev pub kindFor : FlowKind → RecordKind → ItemKind
@@ -117,9 +117,9 @@ module _ (h : Header) (header : HeaderMeant) (meant : h .abi ≡ abiIn (header .
       let one = one-again h w code (suc i) rec header (kindFor q k) k (record-for q k (not-last .0)) (walked .0) (λ e. meant) (kinds .0) in
       let enc = encodeItem (dispositionsWith w k) header it in
       let cents : asked k rec ≡ asked k enc = alike-asked k rec enc (one .alike) in
-      let company : latest k code rec ≡ latest k code enc = alike-latest k code rec enc (one .alike) in
+      let company : companyAfter code k rec ≡ companyAfter code k enc = alike-company code k rec enc (one .alike) in
       let kind : kindAfter (w .kind) k rec ≡ kindAfter (w .kind) k enc = alike-kind k (w .kind) rec enc (one .alike) in
-      let rest = again-walked (step w k (asked k rec) rec) (latest k code rec) (suc i) rs (walked .1) (not-last .1) (later .1) (kinds .1) in
+      let rest = again-walked (step w k (asked k rec) rec) (companyAfter code k rec) (suc i) rs (walked .1) (not-last .1) (later .1) (kinds .1) in
       let after = againFrom (dispositionsWith w k) header rs in
       let stepped : step w k (asked k rec) rec ≡ step w k (asked k enc) enc = λ j. record { place = placeAfter (w .place .further) k; kind = kind j; dispositions = dispositionsWith w k; cents = w .cents + cents j } in
       let body-stays : header .body ≡ bodyMeant (header .body) it = ap (λ (b : Bool). cond b (it .body) (header .body)) (sym (later .0) ∙ ap heads same) in

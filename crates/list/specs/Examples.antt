@@ -89,5 +89,7 @@ pub record ListExamples : Type 0 where
   -- the other kind's header in the midst of a list is a second header; and bytes without a 14 have an H
   pub other-header : judgeList (twoRentList ++ twoRecallList) 3840 ≡ refused (refusal 3 16 2)
   pub no-14 : listOf (flowOf (headerIm ∷ [])) ≡ flowOf headerItem
+  -- document 02, E4: blanks for the second rent's company code
+  pub blanks-written : judgeList (put 680 (text "     ") twoRentList) 1920 ≡ refused (refusal 11 9 92)
   -- document 02, E5: nothing is asked for the second rent
   pub nothing-written : judgeList (put 650 (text "0000000000000") twoRentList) 1920 ≡ refused (refusal 25 9 34)

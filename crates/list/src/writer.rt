@@ -7,10 +7,11 @@ ghost use lib.ListN.{length, take};
 ghost use Rattle.sequences.specs.Part.{put};
 ghost use Rattle.fields.specs.Digits.{digits};
 ghost use Rattle.records.specs.Context.{headerOf};
+ghost use Rattle.records.specs.Field.{field as Field·field};
 ghost use Rattle.records.specs.Kinds.{heads, opens, opened};
 ghost use Rattle.records.specs.Limits.{countLimit, mostRecords};
 ghost use Rattle.flow.specs.Judge.{walkFrom};
-ghost use Rattle.flow.specs.Walking.{start};
+ghost use Rattle.flow.specs.Walking.{start, firstCompany};
 ghost use Rattle.flow.specs.Verdict.{answerVerdict};
 ghost use Rattle.list.specs.Encode.{listTotals, recordsFor, encode, kindMeant};
 ghost use Rattle.list.specs.Items.{itemsIn, Listed};
@@ -130,9 +131,8 @@ fn judge_records(list: &[u8], im: &[u8]) -> Answer
                 });
             }
             Judged::Right(right) => {
-                // 92-96 of a 14, as its D carries them: the record itself does not outlive this turn.
-                let latest = flow::latest_company(company, field(body, 37, 41), record_of(kind));
-                company = latest;
+                let first_company = company_after(company, body, kind);
+                company = first_company;
                 walk = walk.next(right, &rec);
             }
         }
@@ -164,6 +164,18 @@ fn shown_with(shown: [u8; 7], dispositions: u64, kind: ItemKind) -> [u8; 7]
         return records::seven_digits(dispositions);
     }
     shown
+}
+
+// The company code of the first 14, after an item of the kind: 92-96 of a 14 as its D carries them, since
+// the record itself does not outlive its turn. Of any other item the body is not looked at.
+fn company_after<'a>(company: &'a [u8], body: &'a [u8], kind: ItemKind) -> &'a [u8]
+    ensures { λ r. ⌜ now r ≡ firstCompany (now (company .entry)) (recordOf kind) (Field·field 37 41 (now (body .entry))) ⌝ }
+{
+    let record = record_of(kind);
+    if !records::opens(record) {
+        return company;
+    }
+    flow::first_company(company, field(body, 37, 41), record)
 }
 
 // The kind of flow meant by what comes after an item: its own where it is an H or a Q.

@@ -1,6 +1,6 @@
--- Document 01's table of checks, with the kinds of flow of document 02, E1, and its E5, no amount of zero: for each record type one list, by
--- rising position, of what must hold, the number of the refusal and the field's first position. For one field 5 stands before what compares
--- its digits, and 6 before 22. Assumes nothing.
+-- Document 01's table of checks, with document 02's E1, the kinds of flow, E4, one company code, and E5, no amount of zero: for each record
+-- type one list, by rising position, of what must hold, the number of the refusal and the field's first position. For one field 5 stands
+-- before what compares its digits, and 6 before 22. Assumes nothing.
 use Prim.Native.Nat.{ℕ}
 use mathlib.Core.Bool.{Bool, false, not, _||_}
 use mathlib.Core.List.{List, [], _∷_, _++_}
@@ -10,6 +10,7 @@ use Rattle.fields.specs.Bytes.{isBlank, isEqual}
 use Rattle.fields.specs.Calendar.{isDay}
 use Rattle.fields.specs.Date.{dayOf}
 use Rattle.fields.specs.Digits.{isDigits, number, isAboveZero}
+use Rattle.records.specs.Company.{companyIn, agrees}
 use Rattle.records.specs.Constants.{currency}
 use Rattle.records.specs.Context.{Header, Context}
 use Rattle.records.specs.Field.{field, byteAt}
@@ -33,10 +34,6 @@ isDate bs = isDay (dayOf bs .day) (dayOf bs .month) (dayOf bs .year)
 unfoldable pub isListed : ℕ → List ℕ → Bool
 isListed b [] = false
 isListed b (x ∷ xs) = eqb b x || isListed b xs
-
--- company codes: those that are present are all equal
-abbrev pub agrees : List ℕ → List ℕ → Bool
-agrees company bs = isBlank bs || isBlank company || isEqual bs company
 
 -- row IM. 105-111: all seven blank, or else each part by itself
 abbrev pub headerChecks : List ℕ → List Check
@@ -83,7 +80,7 @@ codeChecks abi company rec =
     check (isDigits (field 48 52 rec)) 5 48
     ∷ check (isEqual (field 48 52 rec) abi) 10 48
     ∷ check (isBlank (field 53 57 rec) || isDigits (field 53 57 rec)) 5 53
-    ∷ check (agrees company (field 92 96 rec)) 11 92
+    ∷ check (agrees company (companyIn rec)) 11 92
     ∷ check (isListed (byteAt 97 rec) (text " 1234569")) 6 97
     ∷ check (isEqual (field 120 120 rec) currency) 6 120
     ∷ []

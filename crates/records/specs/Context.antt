@@ -17,8 +17,8 @@ pub record Header : Type 0 where
 abbrev pub headerOf : List ℕ → Header
 headerOf rec = record { mittente = field 4 8 rec; abi = field 9 13 rec; date = field 14 19 rec; name = field 20 39 rec; currency = field 114 114 rec }
 
--- the header; the latest company code present, blank or empty where there is none; the kind of flow, where a 14 before this record has told
--- it; and the counts: dispositions up to and with this record, the cents of the amounts before it, records up to and with it
+-- the header; the company code and the kind of flow as the first record 14 has told them, no bytes and `Unknown` where none came before
+-- this record; and the counts: dispositions up to and with this record, the cents of the amounts before it, records up to and with it
 pub record Context : Type 0 where
   pub header : Header
   pub company : List ℕ

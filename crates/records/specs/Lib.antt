@@ -2,6 +2,7 @@ pub mod Amount
 pub mod Bytes
 pub mod Checked
 pub mod Checks
+pub mod Company
 pub mod Constants
 pub mod Context
 pub mod Field

@@ -19,8 +19,8 @@ use crate::trailer::judge_trailer;
 
 // The first fault of a record of the kind, or its cents. `header` is the flow's IM, of which the rules look
 // at no other position than `headerOf` names: what stands elsewhere in it may be anything. `company` is the
-// latest company code present, blank or empty where there is none; `found` is the kind of flow, where a
-// record 14 before this one has told it.
+// company code of the first record 14, empty where none came before this record; `found` is the kind of
+// flow, where a record 14 before this one has told it.
 pub fn judge(
     rec: &[u8],
     kind: RecordKind,

@@ -12,7 +12,8 @@ ghost use Rattle.records.specs.Amount.{amountIn};
 ghost use Rattle.records.specs.Field.{byteAt};
 ghost use Rattle.records.specs.Field.{field as Field·field};
 ghost use Rattle.records.specs.Context.{headerOf};
-ghost use Rattle.records.specs.Checks.{isListed, agrees};
+ghost use Rattle.records.specs.Checks.{isListed};
+ghost use Rattle.records.specs.Company.{agrees};
 ghost use Rattle.records.specs.FieldTests.{Fits, digitsThen, digitsThenDay};
 use crate::constants::AMOUNT_FIRST;
 use crate::constants::AMOUNT_LAST;
@@ -95,17 +96,15 @@ pub(crate) fn blank_or_digits(rec: &[u8], first: usize, last: usize) -> bool
     digits(rec, first, last)
 }
 
-// Whether a company code agrees with the latest one present: either may be blank.
+// Whether a company code is that of the flow's first record 14, blanks like any other bytes. `company` is
+// empty where none came before, and any code then agrees.
 pub(crate) fn agreeing(company: &[u8], found: &[u8]) -> bool
     ensures { λ r. ⌜ r ≡ agrees (now (company .entry)) (now (found .entry)) ⌝ }
 {
-    if fields::equal(found, company) {
+    if company.len() == 0 {
         return true;
     }
-    if fields::all_blank(found) {
-        return true;
-    }
-    fields::all_blank(company)
+    fields::equal(found, company)
 }
 
 // The date in the six bytes from first on, or else the refusal: 5, then 8.

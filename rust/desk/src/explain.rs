@@ -101,7 +101,9 @@ fn remedy(reason: Reason) -> Option<&'static str> {
         }
         Reason::DispositionNumber => "A request is missing, stands twice or is out of order.",
         Reason::DiffersFromHeader => "Records of two flows may be mixed.",
-        Reason::CompanyCode => "The flow has requests of two companies. Have it sent as two.",
+        Reason::CompanyCode => {
+            "Have it sent again with its code on every request, or on none. Two companies need two flows."
+        }
         Reason::DispositionCount => "Requests are missing, or there are too many.",
         Reason::Total => "The amounts do not add up to the total.",
         Reason::RecordCount => "Records are missing, or there are too many.",

@@ -1,6 +1,5 @@
 //! A refusal as a clerk needs it: what its number means, and the record with the position marked.
 
-use std::fmt::Write;
 use std::path::Path;
 
 use mav::{Accepted, Dispositions, ItemKind, Reason, Refusal, RECORD_LENGTH};
@@ -10,7 +9,7 @@ use crate::failure::{Failure, Outcome};
 use crate::kind::one;
 use crate::name::shown;
 use crate::output::counted;
-use crate::record::{characters, drawn, text, ROW};
+use crate::record::{characters, drawn, field, text, ROW};
 
 /// The refusal's number and place, as `refused 9 at record 10, position 4`.
 pub fn place(refusal: &Refusal) -> String {
@@ -98,8 +97,12 @@ pub fn in_flow(refusal: &Refusal, flow: &[u8]) -> String {
             format!("Record {} of {count}:", refusal.record),
         ),
     };
+    let opening = nth(records.clone(), OPENING);
     match nth(records, number) {
-        Some(record) => picture(&title, record, refusal.position, byte(refusal, record)),
+        Some(record) => {
+            let note = note(refusal, record, opening, "record 2, the first of its type,");
+            picture(&title, record, refusal.position, &note)
+        }
         None => String::new(),
     }
 }
@@ -140,12 +143,18 @@ pub fn in_list(refusal: &Refusal, list: &[u8]) -> String {
 
 /// What an item gives to the record refused, under a title; nothing where the list has no such item.
 fn item(refusal: &Refusal, list: &[u8], title: impl Fn(&ItemKind) -> String) -> Option<String> {
-    let item = nth(mav::items(list), refusal.record)?;
-    let (letter, body) = item.split_first()?;
+    let (kind, record) = placed(list, refusal.record)?;
+    let opening = placed(list, OPENING).map(|(_, record)| record);
+    let opening = opening.as_ref().map(|record| &record[..]);
+    let note = note(refusal, &record, opening, "item 2, the first of its kind,");
+    Some(picture(&title(kind), &record, refusal.position, &note))
+}
+
+/// An item's kind, and its bytes at the positions of its record.
+fn placed(list: &[u8], number: u64) -> Option<(&'static ItemKind, [u8; RECORD_LENGTH])> {
+    let (letter, body) = nth(mav::items(list), number)?.split_first()?;
     let kind = ItemKind::of(*letter)?;
-    let record = kind.placed(body);
-    let byte = byte(refusal, &record);
-    Some(picture(&title(kind), &record, refusal.position, byte))
+    Some((kind, kind.placed(body)))
 }
 
 /// The item that is of unknown kind or cut short: what is left of the list, as much as a row holds.
@@ -160,22 +169,39 @@ fn cut_item(number: u64, list: &[u8]) -> String {
     )
 }
 
-/// The byte that is no plain character, in numbers, since it cannot be shown.
-fn byte(refusal: &Refusal, record: &[u8]) -> Option<u8> {
-    let index = usize::try_from(refusal.position.checked_sub(1)?).ok()?;
-    let byte = record.get(index)?;
-    (refusal.reason == Reason::Byte).then_some(*byte)
+/// The record that opens the first disposition, where it and the header are right; and its item in a list.
+const OPENING: u64 = 2;
+
+fn picture(title: &str, record: &[u8], position: u64, note: &str) -> String {
+    format!("{title}\n{}{note}", drawn(record, position))
 }
 
-fn picture(title: &str, record: &[u8], position: u64, byte: Option<u8>) -> String {
-    let mut picture = format!("{title}\n{}", drawn(record, position));
-    if let Some(byte) = byte {
-        let _ = writeln!(
-            picture,
-            "The byte at {position} is {byte} (hexadecimal {byte:02X}), shown as ?."
-        );
+/// A line for what the picture cannot show: the byte that is no plain character, in numbers; or both of the
+/// company codes that differ, the other being that of the record `named`.
+fn note(refusal: &Refusal, record: &[u8], opening: Option<&[u8]>, named: &str) -> String {
+    let position = refusal.position;
+    match (refusal.reason, opening) {
+        (Reason::Byte, _) => match nth(record.iter(), position) {
+            Some(byte) => {
+                format!("The byte at {position} is {byte} (hexadecimal {byte:02X}), shown as ?.\n")
+            }
+            None => String::new(),
+        },
+        (Reason::CompanyCode, Some(opening)) => {
+            let (own, first) = (code(record), code(opening));
+            format!("At 92-96 it has {own}, and {named} has {first}.\n")
+        }
+        _ => String::new(),
     }
-    picture
+}
+
+/// The company code of a record 14, as it stands.
+fn code(record: &[u8]) -> String {
+    let code = characters(field(record, 92, 96));
+    match code.trim() {
+        "" => "blanks".to_owned(),
+        _ => format!("\"{code}\""),
+    }
 }
 
 /// The element with this number, counted from 1.

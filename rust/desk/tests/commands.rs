@@ -991,6 +991,17 @@ fn a_number_is_explained_in_full() {
 }
 
 #[test]
+fn company_codes_that_differ_are_explained() {
+    Folder::new().run(&["explain", "11"]).printed(
+        "\
+11  the company code differs from that of the first disposition
+    Place: the record, position 92.
+    Have it sent again with its code on every request, or on none. Two companies need two flows.
+",
+    );
+}
+
+#[test]
 fn amounts_of_zero_are_explained() {
     let folder = Folder::new();
     folder.run(&["explain", "16"]).printed(

@@ -103,8 +103,8 @@ const MARKED: [Refused; 14] = [
         "refused-11-company.flow",
         11,
         (9, 92),
-        "the company code differs from the one before it",
-        "AB124",
+        "the company code differs from that of the first disposition",
+        "AB123",
     ),
     refused(
         "refused-12-dispositions.flow",
@@ -171,12 +171,13 @@ impl Refused {
     fn told(&self) -> String {
         let flow = sample(self.file);
         let (number, position) = self.at;
-        let byte = match self.number {
+        let note = match self.number {
             2 => "The byte at 16 is 9 (hexadecimal 09), shown as ?.\n",
+            11 => "At 92-96 it has \"AB123\", and record 2, the first of its type, has blanks.\n",
             _ => "",
         };
         format!(
-            "{}: {}.\nRecord {number} of {}:\n{}{byte}",
+            "{}: {}.\nRecord {number} of {}:\n{}{note}",
             self.place(),
             self.sentence,
             flow.len() / 120,
@@ -766,24 +767,74 @@ Item 9, kind D, at the positions of its record 14:
     );
 }
 
+/// Both codes are told as they stand, with their blanks, of requests and of recalls.
+#[test]
+fn number_11_tells_both_codes() {
+    for (file, first, second, told) in [
+        (
+            "two-rents.flow",
+            b"AB123",
+            b"     ",
+            ["\"AB123\"", "blanks"],
+        ),
+        (
+            "two-rents-recall.flow",
+            b" A 3 ",
+            b"AB123",
+            ["\" A 3 \"", "\"AB123\""],
+        ),
+        (
+            "two-rents.flow",
+            b"     ",
+            b"    1",
+            ["blanks", "\"    1\""],
+        ),
+    ] {
+        let [first_told, second_told] = told;
+        let mut flow = sample(file);
+        flow[120 + 91..120 + 96].copy_from_slice(first);
+        flow[8 * 120 + 91..8 * 120 + 96].copy_from_slice(second);
+        let folder = folder_of("a.flow", &flow);
+        folder.run(&["show", "a.flow"]).failed(
+            1,
+            &format!(
+                "mavdesk: a.flow: refused 11 at record 9, position 92: \
+                 the company code differs from that of the first disposition.\n\
+                 Record 9 of 16:\n{}At 92-96 it has {second_told}, and record 2, the first of its type, \
+                 has {first_told}.\n",
+                drawn(record(&flow, 9), 92)
+            ),
+        );
+        untouched(&folder, "a.flow", &flow);
+    }
+}
+
 #[test]
 fn number_11_is_marked_in_the_second_half_of_an_item() {
-    let [head, first, mut second] = rents();
-    // Before 92-96 stand the kind and 6, 13 and 17 bytes.
-    assert_eq!(&second[37..42], b"AB123");
-    second[41] = b'4';
-    refused_list(
-        &[head, first, second].concat(),
-        "\
-refused 11 at record 9, position 92: the company code differs from the one before it.
+    // A list of requests, and one of recalls whose first code is blank.
+    for (letter, code, told) in [(b'H', b"AB123", "\"AB123\""), (b'Q', b"     ", "blanks")] {
+        let [mut head, mut first, mut second] = rents();
+        head[0] = letter;
+        // Before 92-96 stand the kind and 6, 13 and 17 bytes.
+        assert_eq!(&second[37..42], b"AB123");
+        first[37..42].copy_from_slice(code);
+        second[41] = b'4';
+        refused_list(
+            &[head, first, second].concat(),
+            &format!(
+                "\
+refused 11 at record 9, position 92: the company code differs from that of the first disposition.
 Item 9, kind D, at the positions of its record 14:
    ----+----1----+----2----+----3----+----4----+----5----+----6
   | 14                   310326     0000000038050      02400000|
    ----+----7----+----8----+----9----+---10----+---11----+---12
   |000123456                      AB1242S0023                  |
                                   ^ 92
-",
-    );
+At 92-96 it has \"AB124\", and item 2, the first of its kind, has {told}.
+"
+            ),
+        );
+    }
 }
 
 #[test]

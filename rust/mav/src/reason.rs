@@ -52,7 +52,7 @@ pub enum Reason {
     DispositionNumber = 9,
     /// 10: a field differs from the header.
     DiffersFromHeader = 10,
-    /// 11: a company code differs from the latest one present.
+    /// 11: a company code differs from that of the first record 14; blanks are a code like any other.
     CompanyCode = 11,
     /// 12: the trailer's count of dispositions is wrong.
     DispositionCount = 12,
@@ -162,7 +162,7 @@ impl Reason {
             Reason::NotADate => "the digits of this field are not a date of the calendar",
             Reason::DispositionNumber => "the disposition number is not the one due here",
             Reason::DiffersFromHeader => "this field differs from the header",
-            Reason::CompanyCode => "the company code differs from the one before it",
+            Reason::CompanyCode => "the company code differs from that of the first disposition",
             Reason::DispositionCount => "the trailer's count of dispositions is wrong",
             Reason::Total => "this total of the trailer is wrong",
             Reason::RecordCount => "the trailer's count of records is wrong",

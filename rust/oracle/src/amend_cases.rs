@@ -1,5 +1,5 @@
 //! Named cases for amount change and withdrawal (document 01, "Questions and
-//! changes"; document 02, E1 and E5): a flow, and the calls on it, each lent
+//! changes"; document 02, E1, E4 and E5): a flow, and the calls on it, each lent
 //! what the one before left.
 //!
 //! Where records move, every record of a disposition is tagged
@@ -13,7 +13,7 @@ use crate::kind::FlowKind;
 use crate::ledger::{Call, Ledger};
 use crate::list::{is_canonical, write_list};
 use crate::list_cases::fill;
-use crate::reader_cases::{Change, Flow, AND_14, EVERY, ONE, THREE, TWO};
+use crate::reader_cases::{Change, Flow, ABSENT, AND_14, EVERY, ONE, THREE, TWO};
 use crate::record::{put, record_type};
 use crate::rng::Rng;
 
@@ -164,11 +164,20 @@ impl Cases {
         self.push("36 rents of one amount", flow.bytes(), &MANY_EQUAL);
     }
 
-    /// Company codes that stand in some of three dispositions.
+    /// Company codes in all of three dispositions, in none, or in some. With
+    /// codes in some the flow is refused, also by a call that would make them
+    /// equal.
     fn company_codes(&mut self) {
+        let without = |flow: Flow, absent: &[usize]| {
+            let blank = |flow: Flow, &record| flow.with_all(&[(record, 92, ABSENT)]);
+            absent.iter().fold(flow, blank)
+        };
         for (name, absent, asked) in COMPANY_CODES {
-            let blank = |flow: Flow, &record| flow.with_all(&[(record, 92, b"     ")]);
-            let flow = absent.iter().fold(Flow::of(THREE), blank);
+            let flow = without(Flow::of(THREE), absent);
+            self.push(name, flow.bytes(), asked);
+        }
+        for (name, absent, asked) in RECALL_CODES {
+            let flow = without(Flow::of(THREE).recalled(), absent);
             self.push(name, flow.bytes(), asked);
         }
     }
@@ -195,7 +204,9 @@ impl Cases {
         for (name, changes) in find_cases::LOOK_ALIKES {
             let flow = Flow::of(EVERY).with_all(changes).with_header_copied();
             self.push(format!("{name}: 1 withdrawn"), flow.bytes(), &first);
-            self.push(format!("{name}: 2 withdrawn"), flow.bytes(), &last);
+            if !ONLY_FIRST.contains(&name) {
+                self.push(format!("{name}: 2 withdrawn"), flow.bytes(), &last);
+            }
         }
     }
 
@@ -205,7 +216,6 @@ impl Cases {
         push("no byte", Vec::new());
         let flow = Flow::of(TWO).bytes();
         push("a byte short", flow[..1_919].to_vec());
-        push("a record short", flow[..1_800].to_vec());
         push(
             "a record of blanks behind EF",
             [&flow[..], &[b' '; 120]].concat(),
@@ -349,13 +359,31 @@ const MANY_EQUAL: [Asked; 7] = [
 
 /// The records 14 of `THREE` that have no company code, and what is asked.
 #[rustfmt::skip]
-const COMPANY_CODES: [(&str, &[usize], &[Asked]); 5] = [
-    ("company code in 1 alone", &[9, 16], &[withdraw(1), show(2), show(9)]),
-    ("company code in 2 alone", &[2, 16], &[withdraw(2), withdraw(1), show(2)]),
-    ("company code in 3 alone", &[2, 9], &[withdraw(3), change(1, 1)]),
-    ("company code in 1 and 3", &[9], &[withdraw(1), withdraw(2), show(2)]),
-    ("company code in none", &[2, 9, 16], &[withdraw(2), change(2, 1)]),
+const COMPANY_CODES: [(&str, &[usize], &[Asked]); 7] = [
+    ("company code in 1 alone", &[9, 16], &[withdraw(1), change(1, 1), withdraw(0)]),
+    ("company code in 2 alone", &[2, 16], &[withdraw(2), withdraw(1), change(2, 0)]),
+    ("company code in 3 alone", &[2, 9], &[withdraw(3), change(1, 1), change(4, 1)]),
+    ("company code in 1 and 3", &[9], &[withdraw(2), withdraw(1), withdraw(u64::MAX)]),
+    ("company code in none", &[2, 9, 16],
+        &[withdraw(1), show(2), show(9), change(2, 1), withdraw(2), show(2), withdraw(1)]),
+    ("company code in all: 1 withdrawn", &[],
+        &[withdraw(1), show(2), show(9), change(1, 5), withdraw(1), show(2), change(1, 7), withdraw(1)]),
+    ("company code in all: 2 withdrawn", &[],
+        &[change(2, 1), show(9), withdraw(2), show(9), withdraw(2), show(2), change(1, 0)]),
 ];
+
+/// The same of recalls.
+#[rustfmt::skip]
+const RECALL_CODES: [(&str, &[usize], &[Asked]); 2] = [
+    ("recalls: company code in all", &[],
+        &[withdraw(1), show(2), change(2, 1), withdraw(2), show(2), withdraw(1)]),
+    ("recalls: company code in none", &[2, 9, 16],
+        &[withdraw(1), show(2), change(1, 3), withdraw(1), show(2), change(2, 3)]),
+];
+
+/// Those of `find_cases::LOOK_ALIKES` of which the first disposition alone is
+/// withdrawn, to keep the input short.
+const ONLY_FIRST: [&str; 3] = ["14 at 10-11", "14 at 11-12", "14 at 12-13"];
 
 #[rustfmt::skip]
 const FIRST_FILLED: [Asked; 13] = [

@@ -4,7 +4,7 @@ use std::fmt;
 
 use crate::kind::FlowKind;
 
-/// The refusal numbers of document 01's table and of document 02, E1, E5
+/// The refusal numbers of document 01's table and of document 02, E1, E4, E5
 /// and E7. Number 19 is not used.
 pub mod number {
     pub const LENGTH: u8 = 1;

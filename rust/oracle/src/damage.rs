@@ -3,11 +3,11 @@
 use std::ops::Range;
 
 use crate::fields::{digits, write_digits};
-use crate::generate::{cents_of, kind_of, unused};
+use crate::generate::{cents_of, code, kind_of, unused, NO_CODE};
 use crate::kind::FlowKind;
 use crate::ledger::CENTS;
 use crate::list::{items, Item};
-use crate::record::{field_mut, put, record_type, Record, RECORD_LEN};
+use crate::record::{field, field_mut, put, record_type, Record, RECORD_LEN};
 use crate::rng::Rng;
 
 /// First and last position of a field.
@@ -58,7 +58,7 @@ const OUTSIDE: [u8; 6] = [0, 31, 127, 128, 255, b'\n'];
 
 /// Damages a flow once. At times nothing that is checked has changed.
 pub fn damage_flow(rng: &mut Rng, flow: &mut Vec<u8>) {
-    match rng.below(41) {
+    match rng.below(43) {
         0..=13 => damage_record(rng, flow, 1),
         14..=17 => damage_record(rng, flow, 2),
         18 => change_type(rng, flow),
@@ -72,11 +72,11 @@ pub fn damage_flow(rng: &mut Rng, flow: &mut Vec<u8>) {
         26 => append_record(rng, flow),
         27..=28 => shift_trailer(rng, flow),
         29 => crowd_details(rng, flow),
-        30 => change_company(rng, flow),
-        31..=33 => damage_kind(rng, flow),
-        34 => turn_kind(rng, flow),
-        35..=36 => damage_totals(rng, flow),
-        37..=39 => zero_amount(rng, flow),
+        30..=32 => damage_company(rng, flow),
+        33..=35 => damage_kind(rng, flow),
+        36 => turn_kind(rng, flow),
+        37..=38 => damage_totals(rng, flow),
+        39..=41 => zero_amount(rng, flow),
         _ => put_anywhere(rng, flow),
     }
 }
@@ -313,16 +313,89 @@ fn shift_trailer(rng: &mut Rng, flow: &mut [u8]) {
     }
 }
 
-/// Gives one or two records 14 a company code.
-fn change_company(rng: &mut Rng, flow: &mut [u8]) {
+/// The records 14 of the flow.
+fn openings(flow: &mut [u8]) -> Vec<&mut Record> {
     let kind = |record: &&mut Record| record_type(record) == *b"14";
-    let mut openings: Vec<&mut Record> = records_of(flow).iter_mut().filter(kind).collect();
-    for _ in 0..rng.within(1, 2) {
-        let index = rng.index(openings.len());
-        let code = rng.pick(&[b"AB124", b"A    ", b"    A"]);
-        if let Some(opening) = openings.get_mut(index) {
-            field_mut(opening, 92, 96).copy_from_slice(code);
+    records_of(flow).iter_mut().filter(kind).collect()
+}
+
+/// Makes the company codes of the records 14 differ, if there are several, but
+/// for a draw that leaves them equal. Mostly nothing else is wrong; at times the first record that differs, or any
+/// record, is spoiled besides.
+pub(crate) fn damage_company(rng: &mut Rng, flow: &mut [u8]) {
+    let mut openings = openings(flow);
+    let code_of = |opening: &&mut Record| code_in(field(opening, 92, 96));
+    let mut codes: Vec<[u8; 5]> = openings.iter().map(code_of).collect();
+    mix_codes(rng, &mut codes);
+    for (opening, code) in openings.iter_mut().zip(&codes) {
+        put(opening, 92, code);
+    }
+    let differs = codes.iter().position(|code| *code != codes[0]);
+    match rng.below(5) {
+        0 => {
+            if let Some(index) = differs {
+                spoil_beside(rng, openings[index], (92, 96));
+            }
         }
+        1 => damage_record(rng, flow, 1),
+        _ => {}
+    }
+}
+
+/// Five bytes as a company code.
+fn code_in(bytes: &[u8]) -> [u8; 5] {
+    let mut code = NO_CODE;
+    code.copy_from_slice(bytes);
+    code
+}
+
+/// Makes company codes differ, if there are several: a code on some (by chance
+/// on all or on none), on the first or the last alone, on all but the first, on all but one or on one
+/// alone; or one that is changed in a byte, or moved by a place.
+fn mix_codes(rng: &mut Rng, codes: &mut [[u8; 5]]) {
+    let (Some(&first), Some(last)) = (codes.first(), codes.len().checked_sub(1)) else {
+        return;
+    };
+    let code = if first == NO_CODE { code(rng) } else { first };
+    let one = any_index(rng, codes.len());
+    let (others, index, single) = match rng.below(10) {
+        0 | 1 => {
+            codes.iter_mut().for_each(|place| {
+                *place = rng.pick(&[code, NO_CODE]);
+            });
+            return;
+        }
+        2 => (NO_CODE, 0, code),
+        3 => (code, 0, NO_CODE),
+        4 => (NO_CODE, last, code),
+        5 => (code, one, NO_CODE),
+        6 => (NO_CODE, one, code),
+        7 | 8 => (code, one, with_other_byte(rng, code)),
+        _ => (code, one, moved(rng, code)),
+    };
+    codes.fill(others);
+    codes[index] = single;
+}
+
+/// A code with another byte at one place: a letter's other case, a blank, or
+/// any.
+fn with_other_byte(rng: &mut Rng, mut code: [u8; 5]) -> [u8; 5] {
+    let byte = &mut code[rng.index(5)];
+    let any = rng.within(33, 126) as u8;
+    *byte = match rng.below(3) {
+        0 if byte.is_ascii_alphabetic() => *byte ^ 32,
+        1 if *byte != b' ' => b' ',
+        _ if any == *byte => b' ',
+        _ => any,
+    };
+    code
+}
+
+/// A code moved by one place, with a blank at its end or before it.
+fn moved(rng: &mut Rng, [a, b, c, d, e]: [u8; 5]) -> [u8; 5] {
+    match rng.one_in(2) {
+        true => [b' ', a, b, c, d],
+        false => [b, c, d, e, b' '],
     }
 }
 
@@ -335,8 +408,7 @@ const NO_CAUSALES: [&[u8; 5]; 12] = [
 
 /// A record 14 of the flow; the first and the last come more often than others.
 fn any_opening<'a>(rng: &mut Rng, flow: &'a mut [u8]) -> Option<&'a mut Record> {
-    let kind = |record: &&mut Record| record_type(record) == *b"14";
-    let mut openings: Vec<&mut Record> = records_of(flow).iter_mut().filter(kind).collect();
+    let mut openings = openings(flow);
     let index = any_index(rng, openings.len());
     (index < openings.len()).then(|| openings.swap_remove(index))
 }
@@ -359,7 +431,7 @@ pub(crate) fn zero_amount(rng: &mut Rng, flow: &mut [u8]) {
     field_mut(opening, 34, 46).fill(b'0');
     let besides = rng.below(5);
     if besides == 0 {
-        spoil_beside(rng, opening);
+        spoil_beside(rng, opening, (34, 46));
     }
     if !rng.one_in(3) {
         if let Some(trailer) = records_of(flow).last_mut() {
@@ -371,11 +443,11 @@ pub(crate) fn zero_amount(rng: &mut Rng, flow: &mut [u8]) {
     }
 }
 
-/// Spoils a record 14 once more: its amount, another checked field, or where
-/// nothing is checked.
-fn spoil_beside(rng: &mut Rng, opening: &mut Record) {
+/// Spoils a record 14 once more: the field that is wrong already, another
+/// checked one, or where nothing is checked.
+fn spoil_beside(rng: &mut Rng, opening: &mut Record, wrong: Field) {
     let (first, last) = match rng.below(6) {
-        0 => (34, 46),
+        0 => wrong,
         1 => rng.pick(unused(opening)),
         _ => rng.pick(checked(*b"14")),
     };
@@ -467,7 +539,7 @@ pub fn damage_list(rng: &mut Rng, list: &mut Vec<u8>) {
     let spans = item_spans(list);
     let item = rng.index(spans.len());
     let Range { start, end } = spans.get(item).cloned().unwrap_or(0..list.len());
-    match rng.below(19) {
+    match rng.below(21) {
         0 => list.truncate(rng.index(list.len() + 1)),
         1 => list.truncate(start + 1),
         2 => list.clear(),
@@ -483,6 +555,7 @@ pub fn damage_list(rng: &mut Rng, list: &mut Vec<u8>) {
         12 => add_header(rng, list, start),
         13 => move_header(list, end),
         14..=15 => zero_item(rng, list),
+        16..=17 => mix_items(rng, list),
         _ => spoil_body(rng, list, start + 1, end),
     }
 }
@@ -535,10 +608,36 @@ fn move_header(list: &mut [u8], end: usize) {
     }
 }
 
-/// Makes the amount of an item D zero; at times its body is spoiled besides.
-fn zero_item(rng: &mut Rng, list: &mut [u8]) {
+/// Where the items D of a list stand.
+fn opening_spans(list: &[u8]) -> Vec<Range<usize>> {
     let mut openings = item_spans(list);
     openings.retain(|span| list[span.start] == b'D');
+    openings
+}
+
+/// Where 92-96 stand in an item D: after the kind and 36 carried bytes.
+const CODE: Range<usize> = 37..42;
+
+/// Makes the company codes of the items D differ, if there are several, but for
+/// a draw that leaves them equal; at times the body of the first that differs is spoiled besides.
+fn mix_items(rng: &mut Rng, list: &mut [u8]) {
+    let openings = opening_spans(list);
+    let code_of = |span: &Range<usize>| code_in(&list[span.clone()][CODE]);
+    let mut codes: Vec<[u8; 5]> = openings.iter().map(code_of).collect();
+    mix_codes(rng, &mut codes);
+    for (span, code) in openings.iter().zip(&codes) {
+        list[span.clone()][CODE].copy_from_slice(code);
+    }
+    let differs = codes.iter().position(|code| *code != codes[0]);
+    if let Some(index) = differs.filter(|_| rng.one_in(3)) {
+        let Range { start, end } = openings[index].clone();
+        spoil_body(rng, list, start + 1, end);
+    }
+}
+
+/// Makes the amount of an item D zero; at times its body is spoiled besides.
+fn zero_item(rng: &mut Rng, list: &mut [u8]) {
+    let openings = opening_spans(list);
     let index = any_index(rng, openings.len());
     if let Some(Range { start, end }) = openings.get(index).cloned() {
         list[start..end][CENTS].fill(b'0');

@@ -1,19 +1,20 @@
-//! Cases for what differs between two evenings (document 02, E7; amounts of zero
-//! by E5): named ones, and generated pairs of flows.
+//! Cases for what differs between two evenings (document 02, E7; company codes
+//! by E4, amounts of zero by E5): named ones, and generated pairs of flows.
 //!
 //! Most named flows are set down by letters, one for each request, the same
 //! letter for the same request. The letters b and c have more records than the
 //! others, so that the number of a record 14 tells which request it opens.
-//! The others differ in a single byte, far from the record 14.
+//! The others differ in a single byte, far from the record 14. A capital letter
+//! is the same request without a company code.
 
-use crate::damage::{damage_flow, zero_amount};
+use crate::damage::{damage_company, damage_flow, zero_amount};
 use crate::evenings::{account, MIN_WORK};
 use crate::fields::{write_digits, MIN_AMOUNT};
 use crate::find_cases::{LARGE, LOOK_ALIKES};
 use crate::generate::{self, cents_of, kind_of, unused, Draft, Size};
 use crate::kind::FlowKind;
 use crate::list::layout_of_record;
-use crate::reader_cases::{Change, Flow, EVERY, ONE, ZERO};
+use crate::reader_cases::{Change, Flow, ABSENT, EVERY, ONE, ZERO};
 use crate::record::{field_mut, put, record_type, Record, BLANK_RECORD, RECORD_LEN};
 use crate::rng::Rng;
 use crate::samples;
@@ -72,6 +73,10 @@ pub fn flow_of_letters(letters: &str) -> Vec<u8> {
 /// The request of a letter.
 fn request(letter: u8) -> Vec<Record> {
     let mut block = samples::two_rents().dispositions.swap_remove(0);
+    if letter.is_ascii_uppercase() {
+        put(&mut block[0], 92, ABSENT);
+    }
+    let letter = letter.to_ascii_lowercase();
     put(&mut block[2], 40, &[letter]);
     match letter {
         b'b' => block.insert(1, samples::account()),
@@ -228,12 +233,18 @@ impl Cases {
         let third = Flow::of(ONE).recalled().with_all(&[TEN]).bytes();
         let zero = flow_with(ONE, &[ZERO_CENTS]);
         let zero_recall = turned(zero.clone(), FlowKind::Recalls);
+        let mixed = flow_of_letters("aD");
+        let mixed_recalls = recalls_of_letters("Ad");
         for (name, old, new) in [
             ("both right", &right[..], &right[..]),
             ("a zero in old", &zero, &right),
             ("a zero in new", &right, &zero),
             ("old refused, a zero in new", &first, &zero),
             ("a zero in old, new refused", &zero, &first),
+            ("codes that differ in old, new refused", &mixed, &first),
+            ("old refused, codes that differ in new", &first, &mixed),
+            ("codes that differ in new", &right, &mixed),
+            ("codes that differ in old", &mixed, &right),
             ("old refused", &first, &right),
             ("new refused", &right, &first),
             ("both refused", &second, &first),
@@ -243,6 +254,16 @@ impl Cases {
             ("both of recalls", &recalls, &recalls),
             ("a zero in new, both of recalls", &recalls, &zero_recall),
             ("a zero in old, both of recalls", &zero_recall, &recalls),
+            (
+                "codes that differ in old, of recalls",
+                &mixed_recalls,
+                &recalls,
+            ),
+            (
+                "codes that differ in new, of recalls",
+                &recalls,
+                &mixed_recalls,
+            ),
             ("new of recalls", &right, &recalls),
             ("old of recalls", &recalls, &right),
             ("no byte and recalls", &[], &recalls),
@@ -291,18 +312,17 @@ impl Cases {
 }
 
 /// Two evenings by letters, to be compared both ways.
-const LETTERS: [(&str, &str); 14] = [
+const LETTERS: [(&str, &str); 13] = [
     ("a", "a"),
     ("a", "d"),
     ("a", "ad"),
     ("a", "da"),
     ("a", "bac"),
     ("aa", "a"),
-    ("aa", "aaa"),
     ("ab", "ba"),
     ("ab", "cb"),
     ("abc", "cab"),
-    ("abc", "def"),
+    ("abc", "ABC"),
     ("aad", "ad"),
     ("adeadda", "edadae"),
     ("dad", "ada"),
@@ -341,7 +361,6 @@ type Of = (&'static str, &'static [Change]);
 /// One request with a 59, and with more.
 const WITH_59: &str = "IM 14 20 30 40 59 51 70 EF";
 const TWO_59: &str = "IM 14 20 30 40 59 59 51 70 EF";
-const FOUR_59: &str = "IM 14 20 30 40 59 59 59 59 51 70 EF";
 const FIVE_59: &str = "IM 14 20 30 40 59 59 59 59 59 51 70 EF";
 
 /// Positions 11 to 120 of a 50 or a 59.
@@ -350,8 +369,8 @@ const DETAIL: &[u8] = b"RETTA MARZO 2026                                       \
 
 /// Pairs of one request each.
 #[rustfmt::skip]
-const SAME: [(&str, Of, Of); 15] = [
-    ("company code and none", (ONE, &[]), (ONE, &[(2, 92, b"     ")])),
+const SAME: [(&str, Of, Of); 13] = [
+    ("company code and none", (ONE, &[]), (ONE, &[(2, 92, ABSENT)])),
     ("a byte up, a byte down", (ONE, &[]), (ONE, &[(4, 11, b"S"), (4, 15, b"H")])),
     ("upper and lower case", (ONE, &[]), (ONE, &[(4, 11, b"r")])),
     ("the header's fields", (ONE, &[]),
@@ -365,9 +384,7 @@ const SAME: [(&str, Of, Of); 15] = [
     ("50 and 59 of the same bytes", (ONE, &[(6, 11, DETAIL)]), (WITH_59, &[(6, 11, DETAIL)])),
     ("59 of the same bytes", (WITH_59, &[(6, 11, DETAIL)]), (WITH_59, &[(6, 11, DETAIL)])),
     ("two 59s exchanged", (TWO_59, &[(6, 11, b"ONE")]), (TWO_59, &[(7, 11, b"ONE")])),
-    ("four 59s and five", (FOUR_59, &[]), (FIVE_59, &[])),
     ("the fifth 59 differs", (FIVE_59, &[]), (FIVE_59, &[(10, 120, b"~")])),
-    ("two bytes exchanged", (ONE, &[(5, 119, b"12")]), (ONE, &[(5, 119, b"21")])),
     ("40 and 51 exchanged", (ONE, &[(5, 111, b"TEXT"), (7, 111, b"NOTE")]),
         (ONE, &[(5, 111, b"NOTE"), (7, 111, b"TEXT")])),
 ];
@@ -496,28 +513,33 @@ fn flows(rng: &mut Rng, most: usize) -> (Vec<u8>, Vec<u8>) {
     if rng.one_in(14) {
         turn(&mut new);
     }
+    if rng.one_in(14) {
+        change_code(rng, &mut new);
+    }
     let (mut old, mut new) = (old.flow(), new.flow());
     damage(rng, &mut old, &mut new);
     (old, new)
 }
 
-/// Damages one of two flows or both at times; at times an amount of one or of
-/// both is zero.
+/// Damages one of two flows or both at times: in any way, by an amount of zero
+/// or by company codes that differ.
 fn damage(rng: &mut Rng, old: &mut Vec<u8>, new: &mut Vec<u8>) {
-    let (of_old, of_new, zero) = match rng.below(48) {
-        0 | 1 => (true, false, false),
-        2 | 3 => (false, true, false),
-        4 | 5 => (true, true, false),
-        6 => (true, false, true),
-        7 => (false, true, true),
-        8 => (true, true, true),
+    let ways: [fn(&mut Rng, &mut Vec<u8>); 4] = [
+        damage_flow,
+        damage_flow,
+        |rng, flow| zero_amount(rng, flow),
+        |rng, flow| damage_company(rng, flow),
+    ];
+    let (of_old, of_new) = match rng.below(16) {
+        0 => (true, false),
+        1 => (false, true),
+        2 => (true, true),
         _ => return,
     };
+    let way = rng.pick(&ways);
     for (flow, damaged) in [(old, of_old), (new, of_new)] {
-        match (damaged, zero) {
-            (true, true) => zero_amount(rng, flow),
-            (true, false) => damage_flow(rng, flow),
-            _ => {}
+        if damaged {
+            way(rng, flow);
         }
     }
 }
@@ -653,6 +675,14 @@ fn change_abi(rng: &mut Rng, draft: &mut Draft) {
             b"16" => put(record, 16, abi),
             _ => {}
         }
+    }
+}
+
+/// Gives every record 14 one company code, or none.
+fn change_code(rng: &mut Rng, draft: &mut Draft) {
+    let code = rng.pick(&[b"AB123", b"ab123", b"    A", b"     ", b"     "]);
+    for opening in draft.dispositions.iter_mut().filter_map(|d| d.first_mut()) {
+        put(opening, 92, code);
     }
 }
 

@@ -7,7 +7,7 @@
 //! that was not read to its end would be told.
 
 use crate::fields::{write_digits, MAX_AMOUNT, MIN_AMOUNT};
-use crate::reader_cases::{Change, Flow, AND_14, EVERY, ONE, TWO, ZERO};
+use crate::reader_cases::{Change, Flow, ABSENT, AND_14, EVERY, ONE, TWO, ZERO};
 use crate::record::{field_mut, record_type};
 
 /// One flow and the numbers of the dispositions to be found in it.
@@ -198,10 +198,11 @@ impl Cases {
         self.push("14 after EF", flow.bytes(), ASKED_OF_REFUSED.to_vec());
     }
 
-    /// Flows of recalls: two dispositions, of which one has text like a record
-    /// 14 of a request, and faults.
+    /// Flows of recalls: two dispositions without company codes, of which one
+    /// has text like a record 14 of a request, and faults.
     fn recalls(&mut self) {
-        let flow = Flow::of(TWO).recalled().with_all(&[(4, 11, OPENING)]);
+        let changes: [Change; 3] = [(4, 11, OPENING), (2, 92, ABSENT), (9, 92, ABSENT)];
+        let flow = Flow::of(TWO).recalled().with_all(&changes);
         let asked = [0, 1, 2, 3, u64::MAX];
         self.push("recalls", flow.bytes(), asked.to_vec());
         for (name, changes) in RECALL_FAULTS {
@@ -263,7 +264,7 @@ pub(crate) const CUT: [(&str, &str); 4] = [
 /// Bytes put into `TWO`, whose second 14 is record 9 and whose EF is
 /// record 16.
 #[rustfmt::skip]
-pub(crate) const FAULTS: [(&str, &[Change]); 17] = [
+pub(crate) const FAULTS: [(&str, &[Change]); 18] = [
     ("6 in IM", &[(1, 114, b"L")]),
     ("2 in the last byte", &[(16, 120, b"\x7f")]),
     ("3 in the second 70", &[(15, 2, b"14")]),
@@ -273,7 +274,8 @@ pub(crate) const FAULTS: [(&str, &[Change]); 17] = [
     ("8 in the second 14", &[(9, 23, b"290227")]),
     ("9 in the second 14", &[(9, 4, b"0000003")]),
     ("10 in EF", &[(16, 114, b"L")]),
-    ("11 in the second 14", &[(9, 92, b"AB124")]),
+    ("11 in the second 14", &[(9, 92, ABSENT)]),
+    ("11 in the second 14, blanks first", &[(2, 92, ABSENT)]),
     ("12 in EF", &[(16, 46, b"0000003")]),
     ("13 in EF", &[(16, 53, b"000000000083051")]),
     ("13 in EF at 68", &[(16, 68, b"000000000000001")]),
@@ -285,8 +287,9 @@ pub(crate) const FAULTS: [(&str, &[Change]); 17] = [
 
 /// Bytes put into `TWO` of recalls.
 #[rustfmt::skip]
-pub(crate) const RECALL_FAULTS: [(&str, &[Change]); 3] = [
+pub(crate) const RECALL_FAULTS: [(&str, &[Change]); 4] = [
     ("recalls: 22 in the second 14", &[(9, 29, b"07000"), (9, 47, b"-")]),
     ("recalls: EF as of requests", &[(16, 53, b"000000000083050000000000000000")]),
+    ("recalls: 11 in the second 14", &[(2, 92, ABSENT)]),
     ("recalls: 25 in the second 14", &[(9, 34, ZERO), (16, 68, b"000000000045000")]),
 ];

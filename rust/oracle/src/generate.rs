@@ -106,15 +106,8 @@ pub(crate) fn blank(kind: &[u8; 2]) -> Record {
 struct Style {
     kind: FlowKind,
     canonical: bool,
-    company: Company,
-}
-
-/// Which records 14 have a company code.
-#[derive(Clone, Copy)]
-enum Company {
-    Absent,
-    Everywhere([u8; 5]),
-    Some([u8; 5]),
+    /// The company code of every record 14, or blanks.
+    company: [u8; 5],
 }
 
 /// How many dispositions a draft is to have.
@@ -155,9 +148,8 @@ pub fn draft(rng: &mut Rng, size: Size) -> Draft {
         kind: rng.pick(&FlowKind::ALL),
         canonical: rng.one_in(2),
         company: match rng.below(3) {
-            0 => Company::Absent,
-            1 => Company::Everywhere(code(rng)),
-            _ => Company::Some(code(rng)),
+            0 => NO_CODE,
+            _ => code(rng),
         },
     };
     let mut draft = Draft {
@@ -288,11 +280,7 @@ fn record_14(rng: &mut Rng, header: &Record, style: Style) -> Record {
         put(&mut record, 53, &digits(rng, 5));
     }
     put(&mut record, 58, &text(rng, 12));
-    match style.company {
-        Company::Everywhere(code) => put(&mut record, 92, &code),
-        Company::Some(code) if rng.one_in(2) => put(&mut record, 92, &code),
-        _ => {}
-    }
+    put(&mut record, 92, &style.company);
     put(&mut record, 97, &[rng.pick(b" 1234569")]);
     put(&mut record, 98, &text(rng, 16));
     put(&mut record, 120, b"E");
@@ -387,9 +375,15 @@ fn digits(rng: &mut Rng, len: usize) -> Vec<u8> {
     }
 }
 
+/// No company code.
+pub(crate) const NO_CODE: [u8; 5] = *b"     ";
+
 /// A company code, with blanks inside or around it at times.
-fn code(rng: &mut Rng) -> [u8; 5] {
-    *rng.pick(&[b"AB123", b"Q7 XZ", b"    1", b"~    ", b"00000"])
+pub(crate) fn code(rng: &mut Rng) -> [u8; 5] {
+    *rng.pick(&[
+        b"AB123", b"AB123", b"Q7 XZ", b"A    ", b"    A", b"A   B", b"~    ", b"    1", b"00000",
+        b"aBc d",
+    ])
 }
 
 /// Any text, blank at times.
@@ -467,7 +461,7 @@ pub fn flow(rng: &mut Rng) -> Vec<u8> {
         _ => Size::any(rng, 300),
     };
     let mut flow = draft(rng, size).flow();
-    for _ in 0..rng.pick(&[0, 0, 1, 1, 1, 1, 1, 1, 2, 2, 2, 3]) {
+    for _ in 0..rng.pick(&[0, 0, 0, 1, 1, 1, 1, 1, 1, 2, 2, 2, 3]) {
         damage_flow(rng, &mut flow);
     }
     flow

@@ -1,6 +1,6 @@
 //! M.Av. flows of 120-byte records, requests and recalls, by the rules of
-//! document 01 and of requests E1, E5 and E7 of document 02: the field rules,
-//! the reader, where a disposition is, request lists, amount change and
+//! document 01 and of requests E1, E4, E5 and E7 of document 02: the field
+//! rules, the reader, where a disposition is, request lists, amount change and
 //! withdrawal, the ledger that says what a list of calls leaves, and what
 //! differs between two evenings. Beside them stand generated cases and sample
 //! files.

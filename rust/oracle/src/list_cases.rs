@@ -1,5 +1,5 @@
 //! Named cases for request lists (document 01, "Our request list"; document
-//! 02, E1 and E5): a list to be written or a flow to be read back, and the room
+//! 02, E1, E4 and E5): a list to be written or a flow to be read back, and the room
 //! of each output.
 //!
 //! A list is set down by the kinds of its items, each of them right
@@ -11,7 +11,7 @@
 use crate::damage::checked;
 use crate::fields::MAX_AMOUNT;
 use crate::find_cases;
-use crate::reader_cases::{Change, Flow, AND_14, EVERY, ONE, TWO, ZERO};
+use crate::reader_cases::{Change, Flow, ABSENT, AND_14, EVERY, ONE, TWO, ZERO};
 use crate::record::{field, field_mut, record_type, Record, BLANK_RECORD, RECORD_LEN};
 
 /// A list or a flow, and what is asked of it.
@@ -53,6 +53,7 @@ pub fn cases() -> Vec<Case> {
     cases.bytes_outside();
     cases.changes();
     cases.zeros();
+    cases.codes();
     cases.many();
     cases.limit();
     cases.back();
@@ -302,7 +303,7 @@ impl Cases {
             self.push(format!("kind {byte}"), list, &[Write(1_200)]);
         }
         let right = List::of(ONE_RENT);
-        for byte in [b'E', b'h', b'Q', b' ', b'1', 0, 255] {
+        for byte in [b'E', b'h', b'Q', b' ', 0] {
             for (place, at) in [
                 ("first", 0),
                 ("second", 1),
@@ -395,12 +396,15 @@ impl Cases {
         self.push("20 behind 2 and 3", bad, &[Write(0), Write(480)]);
         let two = [b"Y", &List::of("H").bytes()[..], b"Q"].concat();
         self.push("20 twice", two, &[Write(0), Write(480)]);
-        let many = List::of(&format!("H {}", [RENT; 12].join(" ")));
+        let many = List::of(&format!("H {}", [RENT; 5].join(" ")));
         let behind = [&many.bytes()[..], b"W"].concat();
-        self.push("20 behind 85 items", behind, &[Write(many.room())]);
+        self.push("20 behind 36 items", behind, &[Write(many.room())]);
         let zero = List::of(ONE_RENT).with(2, 34, ZERO).bytes();
         let cut = zero[..zero.len() - 1].to_vec();
         self.push("20 at the end, 25 in D", cut, &[Write(0), Write(1_080)]);
+        let mixed = List::of(SECOND_D).with(9, 92, ABSENT).bytes();
+        let cut = mixed[..mixed.len() - 1].to_vec();
+        self.push("20 at the end, 11 in D", cut, &[Write(0), Write(1_200)]);
     }
 
     /// 21 comes before the reader's refusals and before 3.
@@ -412,6 +416,9 @@ impl Cases {
         self.push("2 in Z, at several rooms", byte.bytes(), &rooms);
         let zero = List::of(ONE_RENT).with(2, 34, ZERO);
         self.push("25 in D, at several rooms", zero.bytes(), &rooms);
+        let mixed = List::of(TWO_RENTS).with(2, 92, ABSENT);
+        let of_two = [0, 1_919, 1_920, 1_921].map(Write);
+        self.push("11 in D, at several rooms", mixed.bytes(), &of_two);
         let alone = List::of("H");
         let rooms = [0, 120, 239, 240, 241].map(Write);
         self.push("H alone, at several rooms", alone.bytes(), &rooms);
@@ -423,7 +430,7 @@ impl Cases {
 /// Lists in which only the order of the items is wrong, or that end too early;
 /// and right ones.
 #[rustfmt::skip]
-const ORDERS: [(&str, &str); 37] = [
+const ORDERS: [(&str, &str); 36] = [
     ("two X", "H D C B A X X K Z"),
     ("three X", "H D C B A X X X K Z"),
     ("four X", "H D C B A X X X X K Z"),
@@ -448,7 +455,6 @@ const ORDERS: [(&str, &str); 37] = [
     ("H twice", "H H D C B A R K Z"),
     ("H inside a disposition", "H D C B H A R K Z"),
     ("H between dispositions", "H D C B A R K Z H D C B A R K Z"),
-    ("H at the end", "H D C B A R K Z H"),
     ("two whole lists", "H D C B A R K Z D C B A R K Z H D C B A R K Z"),
     ("D before H", "D H C B A R K Z"),
     ("no H", "D C B A R K Z"),
@@ -546,6 +552,65 @@ impl Cases {
     }
 }
 
+/// Company codes on all or on none (document 02, E4).
+impl Cases {
+    /// Codes of D that differ, alone and with other faults; and codes with
+    /// blanks in them that are all equal.
+    fn codes(&mut self) {
+        for (name, kinds, changes) in RIGHT_CODES {
+            self.right(format!("code: {name}"), &List::of(kinds).with_all(changes));
+        }
+        for (name, kinds, changes) in CODES {
+            self.list(format!("code: {name}"), &List::of(kinds).with_all(changes));
+        }
+    }
+}
+
+/// A list that ends with the second D.
+const SECOND_D: &str = "H D C B A R K Z D";
+const SECOND_D_OF_RECALLS: &str = "Q D C B A R K Z D";
+
+/// Right lists with company codes put into them.
+#[rustfmt::skip]
+const RIGHT_CODES: [(&str, &str, &[Change]); 3] = [
+    ("blanks in both", TWO_RENTS, &[(2, 92, ABSENT), (9, 92, ABSENT)]),
+    ("'  A  ' in both", TWO_RENTS, &[(2, 92, b"  A  "), (9, 92, b"  A  ")]),
+    ("blanks in both recalls", TWO_RECALLS, &[(2, 92, ABSENT), (9, 92, ABSENT)]),
+];
+
+/// Lists with a D whose company code differs from the first one's, AB123 where
+/// nothing else is put.
+#[rustfmt::skip]
+const CODES: [(&str, &str, &[Change]); 26] = [
+    ("blanks, then a code", TWO_RENTS, &[(2, 92, ABSENT)]),
+    ("a code, then blanks", TWO_RENTS, &[(9, 92, ABSENT)]),
+    ("a code, blanks, the same code", THREE_RENTS, &[(9, 92, ABSENT)]),
+    ("twice a code, then blanks", THREE_RENTS, &[(16, 92, ABSENT)]),
+    ("twice blanks, then a code", THREE_RENTS, &[(2, 92, ABSENT), (9, 92, ABSENT)]),
+    ("other in byte 1", SECOND_D, &[(9, 92, b"BB123")]),
+    ("other in byte 2", SECOND_D, &[(9, 92, b"AC123")]),
+    ("other in byte 3", SECOND_D, &[(9, 92, b"AB223")]),
+    ("other in byte 4", SECOND_D, &[(9, 92, b"AB133")]),
+    ("other in byte 5", SECOND_D, &[(9, 92, b"AB124")]),
+    ("lower case in byte 1", SECOND_D, &[(9, 92, b"aB123")]),
+    ("a blank for byte 5", SECOND_D, &[(9, 92, b"AB12 ")]),
+    ("moved by a place", SECOND_D, &[(9, 92, b" AB12")]),
+    ("blanks, then byte 5 alone", SECOND_D, &[(2, 92, ABSENT), (9, 92, b"    A")]),
+    ("byte 1 alone, then blanks", SECOND_D, &[(2, 92, b"A    "), (9, 92, ABSENT)]),
+    // Other faults of the item that differs, and of others.
+    ("2 in it", SECOND_D, &[(9, 92, b"AB1\x7f3")]),
+    ("8 at 23", SECOND_D, &[(9, 23, b"290227"), (9, 92, ABSENT)]),
+    ("5 at 53", SECOND_D, &[(9, 53, b":"), (9, 92, ABSENT)]),
+    ("6 at 97", SECOND_D, &[(9, 92, ABSENT), (9, 97, b"0")]),
+    ("6 at 97 of the first D", SECOND_D, &[(2, 97, b"0"), (9, 92, ABSENT)]),
+    ("3 in the next item", "H D C B A R K Z D B", &[(9, 92, ABSENT)]),
+    ("a D that may not stand there", "H D D", &[(3, 92, ABSENT)]),
+    ("recalls: blanks, then a code", TWO_RECALLS, &[(2, 92, ABSENT)]),
+    ("recalls: a code, then blanks", SECOND_D_OF_RECALLS, &[(9, 92, ABSENT)]),
+    ("recalls: 5 at 53", SECOND_D_OF_RECALLS, &[(9, 53, b":"), (9, 92, ABSENT)]),
+    ("recalls: 6 at 97", SECOND_D_OF_RECALLS, &[(9, 92, ABSENT), (9, 97, b"0")]),
+];
+
 /// Lists with a D whose amount is zero.
 #[rustfmt::skip]
 const ZEROS: [(&str, &str, &[Change]); 17] = [
@@ -556,7 +621,7 @@ const ZEROS: [(&str, &str, &[Change]); 17] = [
     ("8 and 25 in D", "H D", &[(2, 23, b"290227"), (2, 34, ZERO)]),
     ("25 and 5 in D", "H D", &[(2, 34, ZERO), (2, 53, b":")]),
     ("25 and 6 in D", "H D", &[(2, 34, ZERO), (2, 97, b"0")]),
-    ("25 and 11 in the second D", "H D C B A R K Z D", &[(9, 34, ZERO), (9, 92, b"AB124")]),
+    ("25 and 11 in the second D", SECOND_D, &[(9, 34, ZERO), (9, 92, ABSENT)]),
     ("25 and a byte outside in D", "H D", &[(2, 34, ZERO), (2, 113, b"\0")]),
     ("a byte outside in an amount of zero", "H D", &[(2, 34, ZERO), (2, 46, b"\x1f")]),
     ("7 in H then 25 in D", "H D", &[(1, 20, &[b' '; 20]), (2, 34, ZERO)]),
@@ -624,12 +689,11 @@ const CARRIED_ENDS: [(&str, &str, usize, &[usize]); 12] = [
     ("the second Z", TWO_RENTS, 15, &[120]),
 ];
 
-const ABSENT: &[u8] = b"     ";
 const THREE_RENTS: &str = "H D C B A R K Z D C B A R K Z D C B A R K Z";
 
 /// Right lists with bytes put into them.
 #[rustfmt::skip]
-const RIGHT: [(&str, &str, &[Change]); 13] = [
+const RIGHT: [(&str, &str, &[Change]); 9] = [
     ("amount 1", ONE_RENT, &[(2, 34, b"0000000000001")]),
     ("amount 9999999999999", ONE_RENT, &[(2, 34, b"9999999999999")]),
     ("amount 1234567890123", ONE_RENT, &[(2, 34, b"1234567890123")]),
@@ -637,10 +701,6 @@ const RIGHT: [(&str, &str, &[Change]); 13] = [
     ("H 40-45 used", ONE_RENT, &[(1, 40, b"CASE40")]),
     ("H at 45 used", ONE_RENT, &[(1, 45, b"~")]),
     ("H 105-111 used", ONE_RENT, &[(1, 105, b"1$05678"), (1, 20, b"                   ~")]),
-    ("company code absent in all", TWO_RENTS, &[(2, 92, ABSENT), (9, 92, ABSENT)]),
-    ("company code absent then present", TWO_RENTS, &[(2, 92, ABSENT)]),
-    ("company code present then absent", TWO_RENTS, &[(9, 92, ABSENT)]),
-    ("company code present, absent, equal", THREE_RENTS, &[(9, 92, ABSENT)]),
     ("A R K blank", ONE_RENT, &[(5, 11, &[b' '; 110]), (6, 11, &[b' '; 110]), (7, 11, &[b' '; 110])]),
     ("another ABI in H and S", FULL, &[(1, 9, b"98765"), (3, 16, b"98765")]),
 ];
@@ -648,10 +708,7 @@ const RIGHT: [(&str, &str, &[Change]); 13] = [
 /// Lists with faults of more than one item or field, or of the second
 /// disposition.
 #[rustfmt::skip]
-const FAULTS: [(&str, &str, &[Change]); 25] = [
-    ("company code different", TWO_RENTS, &[(9, 92, b"AB124")]),
-    ("company code different by a blank", TWO_RENTS, &[(9, 92, b"AB12 ")]),
-    ("company code present, absent, different", THREE_RENTS, &[(9, 92, ABSENT), (16, 92, b"AB124")]),
+const FAULTS: [(&str, &str, &[Change]); 22] = [
     ("S with the ABI of another H", FULL, &[(1, 9, b"98765")]),
     ("C 11-34 blank", ONE_RENT, &[(3, 11, &[b' '; 24])]),
     ("B 11-40 blank and text behind", ONE_RENT, &[(4, 11, &[b' '; 30]), (4, 41, b"X")]),
@@ -685,8 +742,6 @@ impl Cases {
         let kinds = format!("H {}", [RENT, RENT_X].repeat(6).join(" "));
         let list = List::of(&kinds).with_bodies(b'D', |i| opening(1_001 * (i as u64 + 1)));
         self.right("12 dispositions", &list);
-        let wrong = list.clone().with(91, 94, b"A");
-        self.list("6 in the last of 91 items", &wrong);
     }
 
     /// A total of 999,999,999,999,999, and one cent more: 17, after 21 and
@@ -861,9 +916,9 @@ impl Cases {
                 &List::of(kinds).with_all(changes),
             );
         }
-        let kinds = format!("Q {}", [RENT, RENT_X].repeat(5).join(" "));
+        let kinds = format!("Q {}", [RENT, RENT_X].repeat(2).join(" "));
         let list = List::of(&kinds).with_bodies(b'D', |i| opening(MAX_AMOUNT - i as u64));
-        self.right("recalls: ten near the largest amount", &list);
+        self.right("recalls: four near the largest amount", &list);
     }
 
     /// Lists with Q that are refused: at 20 and 21 first, for the order of the
@@ -918,18 +973,17 @@ impl Cases {
 
 /// Right lists of recalls with bytes put into them.
 #[rustfmt::skip]
-const RIGHT_RECALLS: [(&str, &str, &[Change]); 6] = [
+const RIGHT_RECALLS: [(&str, &str, &[Change]); 5] = [
     ("amount 1", ONE_RECALL, &[(2, 34, b"0000000000001")]),
     ("amounts that carry", TWO_RECALLS, &[(2, 34, b"9999999999999"), (9, 34, b"0000000000001")]),
     ("Q 40-45 and 105-111 used", ONE_RECALL, &[(1, 40, b"CASE40"), (1, 105, b"1$05678")]),
-    ("company code absent then present", TWO_RECALLS, &[(2, 92, ABSENT)]),
     ("another ABI in Q and S", FULL_RECALL, &[(1, 9, b"98765"), (3, 16, b"98765")]),
     ("keys in Z", ONE_RECALL, &[(8, 94, b"P"), (8, 96, b"NOTTEKEYS OF THE RECALL")]),
 ];
 
 /// Lists with Q in which only the order of the items is wrong.
 #[rustfmt::skip]
-const ORDERS_WITH_Q: [(&str, &str); 17] = [
+const ORDERS_WITH_Q: [(&str, &str); 16] = [
     ("Q twice", "Q Q D C B A R K Z"),
     ("Q after H", "H Q D C B A R K Z"),
     ("H after Q", "Q H D C B A R K Z"),
@@ -937,7 +991,6 @@ const ORDERS_WITH_Q: [(&str, &str); 17] = [
     ("H inside a disposition of recalls", "Q D C B H A R K Z"),
     ("Q between dispositions", "H D C B A R K Z Q D C B A R K Z"),
     ("H between recalls", "Q D C B A R K Z H D C B A R K Z"),
-    ("Q at the end", "H D C B A R K Z Q"),
     ("H at the end of recalls", "Q D C B A R K Z H"),
     ("D before Q", "D Q C B A R K Z"),
     ("D before Q and H", "D Q H D C B A R K Z"),
@@ -951,7 +1004,7 @@ const ORDERS_WITH_Q: [(&str, &str); 17] = [
 
 /// Lists with Q and wrong values.
 #[rustfmt::skip]
-const FAULTS_WITH_Q: [(&str, &str, &[Change]); 19] = [
+const FAULTS_WITH_Q: [(&str, &str, &[Change]); 18] = [
     ("Q 4-8 is ''", "Q", &[(1, 4, b"     ")]),
     ("Q 9-13 is '0123:'", "Q", &[(1, 9, b"0123:")]),
     ("Q date is '290227'", "Q", &[(1, 14, b"290227")]),
@@ -965,7 +1018,6 @@ const FAULTS_WITH_Q: [(&str, &str, &[Change]); 19] = [
     ("recalls: D amount is '0000000000000'", "Q D", &[(2, 34, ZERO)]),
     ("recalls: D at 97 is '0'", "Q D", &[(2, 97, b"0")]),
     ("recalls: Z at 94 is 'A'", ONE_RECALL, &[(8, 94, b"A")]),
-    ("recalls: company code different", TWO_RECALLS, &[(9, 92, b"AB124")]),
     ("recalls: S with the ABI of another Q", FULL_RECALL, &[(1, 9, b"98765")]),
     ("7 in Q then 2 in D", "Q D", &[(1, 20, &[b' '; 20]), (2, 23, b"\0")]),
     ("a byte outside in D before Q", "D Q", &[(1, 113, b"\x80")]),

@@ -98,8 +98,8 @@ pub(crate) struct Walk {
     cents: u64,
     /// The kind of the flow, once the first record 14 has told it.
     kind: Option<FlowKind>,
-    /// The latest company code present; blanks while there is none.
-    company: [u8; 5],
+    /// The company code of the first record 14, blanks or not, once it is there.
+    company: Option<[u8; 5]>,
 }
 
 /// A fault of one record, as number and position.
@@ -114,7 +114,7 @@ impl Walk {
             dispositions: 0,
             cents: 0,
             kind: None,
-            company: [b' '; 5],
+            company: None,
         }
     }
 
@@ -200,8 +200,8 @@ impl Walk {
         Ok(())
     }
 
-    /// Document 01, table of checks, row 14; the amount above zero by document
-    /// 02, E5.
+    /// Document 01, table of checks, row 14; the company code by document 02,
+    /// E4, the amount above zero by E5.
     #[inline]
     fn check_14(&mut self, header: &Record, record: &Record) -> Result<(), Fault> {
         check_date(record, 23, 28)?;
@@ -232,18 +232,15 @@ impl Walk {
         Ok(kind)
     }
 
-    /// 92-96 of record 14 (row 11 of the numbers). A blank code is never
-    /// refused and does not replace the latest one present.
+    /// 92-96 of record 14 (document 02, E4): the five bytes that the flow's
+    /// first record 14 has there, or 11. Blanks are a content like any other.
     #[inline]
     fn check_company(&mut self, record: &Record) -> Result<(), Fault> {
-        let company = field(record, 92, 96);
-        if is_blank(company) || company == self.company {
-            return Ok(());
-        }
-        if !is_blank(&self.company) {
+        let mut company = [b' '; 5];
+        company.copy_from_slice(field(record, 92, 96));
+        if *self.company.get_or_insert(company) != company {
             return Err((number::COMPANY, 92));
         }
-        self.company.copy_from_slice(company);
         Ok(())
     }
 

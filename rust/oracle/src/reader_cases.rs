@@ -1,5 +1,6 @@
 //! Named cases for the reader: right flows, and flows that break the rules of
-//! document 01, or of document 02, E1 and E5, one at a time or two together.
+//! document 01, or of document 02, E1, E4 and E5, one at a time or two
+//! together.
 //!
 //! A flow is set down by the types of its records, each of them right for its
 //! place in a flow of requests (`Flow::of`) or of recalls (`Flow::recalled`),
@@ -8,7 +9,7 @@
 //! are many that end with the record at fault.
 
 use crate::damage::checked;
-use crate::generate::{blank, fill_trailer};
+use crate::generate::{blank, fill_trailer, NO_CODE};
 use crate::record::{field, field_mut, put, record_type, Record, BLANK_RECORD, RECORD_LEN};
 use crate::samples;
 
@@ -36,6 +37,7 @@ pub fn cases() -> Vec<Case> {
     cases.large_total();
     cases.recalls();
     cases.zeros();
+    cases.codes();
     cases.0
 }
 
@@ -219,7 +221,7 @@ impl Cases {
     /// The bounds of a byte, where nothing else is checked.
     fn bytes(&mut self) {
         let name = |byte| format!("byte {byte} in 20 at 107");
-        for byte in [32, 92, 126] {
+        for byte in [92, 126] {
             self.push(name(byte), Flow::of(ONE).with(3, 107, &[byte]).bytes());
         }
         for byte in [0, 10, 31, 127, 128, 255] {
@@ -283,7 +285,11 @@ impl Cases {
                 record,
                 position: 4,
                 whole: &["000000:", "0000000"],
-                cut: &["0000002", "0000010"],
+                cut: if record == 2 {
+                    &["0000002", "0000010"]
+                } else {
+                    &["0000002"]
+                },
             });
         }
     }
@@ -360,6 +366,22 @@ impl Cases {
     }
 }
 
+/// Company codes on all or on none (document 02, E4).
+impl Cases {
+    /// Codes that differ, alone and with other faults; and codes with blanks in
+    /// them that are all equal.
+    fn codes(&mut self) {
+        for (name, types, changes) in CODES {
+            let flow = Flow::of(types).with_all(changes);
+            self.push(format!("code: {name}"), flow.bytes());
+        }
+        for (name, types, changes) in RECALL_CODES {
+            let flow = Flow::of(types).recalled().with_all(changes);
+            self.push(format!("code recall: {name}"), flow.bytes());
+        }
+    }
+}
+
 /// Fills the positions of a record that are not checked.
 fn fill(record: &mut Record, byte: u8) {
     let mut filled = [byte; RECORD_LEN];
@@ -371,7 +393,7 @@ fn fill(record: &mut Record, byte: u8) {
 
 /// Flows in which at most the order of the records is wrong.
 #[rustfmt::skip]
-const SEQUENCES: [(&str, &str); 34] = [
+const SEQUENCES: [(&str, &str); 32] = [
     ("one disposition", ONE),
     ("two dispositions", TWO),
     ("two 59s", "IM 14 20 30 40 59 59 51 70 EF"),
@@ -399,8 +421,6 @@ const SEQUENCES: [(&str, &str); 34] = [
     ("ends after 40", "IM 14 20 30 40"),
     ("ends after 50", "IM 14 20 30 40 50"),
     ("ends after one 59", "IM 14 20 30 40 59"),
-    ("ends after two 59s", "IM 14 20 30 40 59 59"),
-    ("ends after three 59s", "IM 14 20 30 40 59 59 59"),
     ("ends after four 59s", "IM 14 20 30 40 59 59 59 59"),
     ("ends after five 59s", "IM 14 20 30 40 59 59 59 59 59"),
     ("ends after 50 and 51", "IM 14 20 30 40 50 51"),
@@ -513,20 +533,20 @@ static VALUES: [Values; 30] = [
     values("16 21-25", FULL, 3, 21, &["0240:", "00000"], &[
         "00001", "99999", "10000", "/0000", "0000 ", "     ",
     ]),
-    values("70 at 94", ONE, 8, 94, &["P", "A"], &["B", " ", "!", "p"]),
+    values("70 at 94", ONE, 8, 94, &["P", "A"], &["B", "!", "p"]),
     values("EF 4-8", ONE, 9, 4, &[], &["AB124"]),
     values("EF 9-13", ONE, 9, 9, &[], &["11234", "0123A"]),
     values("EF date", ONE, 9, 14, &[], &["150327", "290227"]),
     values("EF 20-39", ONE, 9, 20, &[], &["SENT-MARCH"]),
     values("EF at 39", ONE, 9, 39, &[], &["X"]),
-    values("EF count", ONE, 9, 46, &[], &["0000000", "0000002", "000000:", "       "]),
+    values("EF count", ONE, 9, 46, &[], &["0000000", "0000002", "000000:"]),
     values("EF total", ONE, 9, 53, &[], &[
-        "000000000044999", "000000000045001", "00000000004500:", "000000000000000",
+        "000000000045001", "00000000004500:", "000000000000000",
     ]),
     values("EF zeros", ONE, 9, 68, &[], &[
-        "000000000000001", "100000000000000", "00000000000000:", "000000000045000",
+        "000000000000001", "00000000000000:", "000000000045000",
     ]),
-    values("EF records", ONE, 9, 83, &[], &["0000007", "0000008", "0000010", "000000:"]),
+    values("EF records", ONE, 9, 83, &[], &["0000008", "0000010", "000000:"]),
     values("EF at 114", ONE, 9, 114, &[], &["L"]),
     values("EF 40-45", ONE, 9, 40, &[], &["OTHER "]),
 ];
@@ -547,13 +567,13 @@ const NUMBERED: [(&str, &str, usize); 9] = [
 /// An amount of zero.
 pub(crate) const ZERO: &[u8] = b"0000000000000";
 /// No company code.
-const ABSENT: &[u8] = b"     ";
+pub(crate) const ABSENT: &[u8] = &NO_CODE;
 /// The fields of a 40, 50 or 51 blank.
 const NO_TEXT: &[u8] = &[b' '; 110];
 
 /// Flows with bytes put into them.
 #[rustfmt::skip]
-const CHANGES: [(&str, &str, &[Change]); 90] = [
+const CHANGES: [(&str, &str, &[Change]); 74] = [
     // Right flows.
     ("40 50 51 blank", ONE, &[(5, 11, NO_TEXT), (6, 11, NO_TEXT), (7, 11, NO_TEXT)]),
     ("amount 1", ONE, &[(2, 34, b"0000000000001"), (9, 53, b"000000000000001")]),
@@ -561,10 +581,7 @@ const CHANGES: [(&str, &str, &[Change]); 90] = [
     // Amounts of zero, with the total that agrees and with another.
     ("amount 0", ONE, &[(2, 34, ZERO), (9, 53, b"000000000000000")]),
     ("amount 0 and the old total", ONE, &[(2, 34, ZERO)]),
-    ("amount 0 in the first of two", TWO, &[(2, 34, ZERO), (16, 53, b"000000000038050")]),
-    ("amount 0 in the middle of three", THREE, &[(9, 34, ZERO), (23, 53, b"000000000090000")]),
-    ("amount 0 in the last of two", TWO, &[(9, 34, ZERO), (16, 53, b"000000000045000")]),
-    ("amount 0 in the second 14, wrong at 92", UP_TO_9, &[(9, 34, ZERO), (9, 92, b"AB124")]),
+    ("amount 0 in the second 14, wrong at 92", UP_TO_9, &[(9, 34, ZERO), (9, 92, ABSENT)]),
     // Types that are none.
     ("IM as im", "IM", &[(1, 2, b"im")]),
     ("IM as MI", "IM", &[(1, 2, b"MI")]),
@@ -613,15 +630,12 @@ const CHANGES: [(&str, &str, &[Change]); 90] = [
     ("9 in 20 then 5 in 30", "IM 14 20 30", &[(3, 4, b"0000000"), (4, 4, b"000000:")]),
     ("6 in 70 then 2 in EF", ONE, &[(8, 94, b"A"), (9, 60, b"\x7f")]),
     ("11 in the second 14 then 2 in 20", "IM 14 20 30 40 50 51 70 14 20", &[
-        (9, 92, b"AB124"), (10, 50, b"\0"),
+        (9, 92, ABSENT), (10, 50, b"\0"),
     ]),
-    ("2 in 70 then 11 in the second 14", UP_TO_9, &[(8, 50, b"\0"), (9, 92, b"AB124")]),
+    ("2 in 70 then 11 in the second 14", UP_TO_9, &[(8, 50, b"\0"), (9, 92, ABSENT)]),
     // Records after EF.
     ("a bad byte in a 14 after EF", AND_14, &[(10, 50, b"\0")]),
     ("a bad byte in an unknown type after EF", AND_XX, &[(10, 120, b"\xff")]),
-    ("a bad byte in the second record after EF", "IM 14 20 30 40 50 51 70 EF 14 20", &[
-        (11, 50, b"\0"),
-    ]),
     ("EF counts the record after it", AND_14, &[(9, 83, b"0000010")]),
     ("12 in EF then 2 after it", AND_14, &[(9, 46, b"0000002"), (10, 7, b"\x7f")]),
     // The trailer.
@@ -629,28 +643,14 @@ const CHANGES: [(&str, &str, &[Change]); 90] = [
         (9, 4, b"BB12311234250326S"), (9, 46, b"0000002"), (9, 53, b"000000000045001"),
         (9, 68, b"000000000000001"), (9, 83, b"0000010"), (9, 114, b"L"),
     ]),
-    ("EF counts and sums all wrong", ONE, &[
-        (9, 46, b"0000002"), (9, 53, b"000000000045001"), (9, 68, b"000000000000001"),
-        (9, 83, b"0000010"),
-    ]),
     ("EF total and zeros swapped", ONE, &[
         (9, 53, b"000000000000000"), (9, 68, b"000000000045000"),
     ]),
     ("EF count of the 59s", "IM 14 20 30 40 59 59 51 70 EF", &[(10, 46, b"0000002")]),
-    ("EF count of 14 and 16", FULL, &[(10, 46, b"0000002")]),
     ("EF total of the first disposition", TWO, &[(16, 53, b"000000000045000")]),
     // Numbers of the second disposition.
     ("second 14 has number 3", UP_TO_9, &[(9, 4, b"0000003")]),
     ("second 20 has number 1", "IM 14 20 30 40 50 51 70 14 20", &[(10, 4, b"0000001")]),
-    // Company codes.
-    ("company code absent in all", TWO, &[(2, 92, ABSENT), (9, 92, ABSENT)]),
-    ("company code absent then present", TWO, &[(2, 92, ABSENT)]),
-    ("company code present then different", TWO, &[(9, 92, b"AB124")]),
-    ("company code different by a blank", UP_TO_9, &[(9, 92, b"AB12 ")]),
-    ("company code of one byte at another place", UP_TO_9, &[(2, 92, b"    X"), (9, 92, b"X    ")]),
-    ("company code unlike IM 4-8", "IM 14", &[(2, 92, b"~~~~~")]),
-    ("company code present, absent, equal", THREE, &[(9, 92, ABSENT)]),
-    ("company code present, absent, different", UP_TO_16, &[(9, 92, ABSENT), (16, 92, b"AB124")]),
     // Causale and sign of the first 14.
     ("07200 and '+' in 14", "IM 14", &[(2, 29, b"07200"), (2, 47, b"+")]),
     ("07100, 5 at 34 and '-' in 14", "IM 14", &[(2, 29, b"07100"), (2, 34, b":")]),
@@ -663,12 +663,10 @@ const CHANGES: [(&str, &str, &[Change]); 90] = [
     ("a recall second, signed as a request", UP_TO_9, &[(9, 29, b"07100")]),
     ("a recall second, 5 at 34", UP_TO_9, &[(9, 29, b"07100"), (9, 34, b":"), (9, 47, b"+")]),
     ("a recall second, 25 at 34", UP_TO_9, &[(9, 29, b"07100"), (9, 34, ZERO), (9, 47, b"+")]),
-    ("a recall second, signed as neither", UP_TO_9, &[(9, 29, b"07100"), (9, 47, b" ")]),
-    ("a recall second, numbered 3", UP_TO_9, &[(9, 4, b"0000003"), (9, 29, b"07100"), (9, 47, b"+")]),
     ("a recall second, no date", UP_TO_9, &[(9, 23, b"290227"), (9, 29, b"07100"), (9, 47, b"+")]),
     ("a recall second, a bad byte at 120", UP_TO_9, &[(9, 29, b"07100"), (9, 120, b"\x7f")]),
     ("a recall second, wrong at 48, 92 and 120", UP_TO_9, &[
-        (9, 29, b"07100"), (9, 47, b"+"), (9, 48, b"01235"), (9, 92, b"AB124"), (9, 120, b"L"),
+        (9, 29, b"07100"), (9, 47, b"+"), (9, 48, b"01235"), (9, 92, ABSENT), (9, 120, b"L"),
     ]),
     ("a recall third", UP_TO_16, &[(16, 29, b"07100"), (16, 47, b"+")]),
     ("07200 in the second 14", UP_TO_9, &[(9, 29, b"07200")]),
@@ -677,18 +675,17 @@ const CHANGES: [(&str, &str, &[Change]); 90] = [
 
 /// Flows of recalls with bytes put into them.
 #[rustfmt::skip]
-const RECALLS: [(&str, &str, &[Change]); 36] = [
+const RECALLS: [(&str, &str, &[Change]); 33] = [
     // Right flows. The keys at 101-120 of 70 may be others than the request's.
     ("one disposition", ONE, &[(8, 101, b"KEYS OF THE RECALL")]),
     ("two dispositions", TWO, &[]),
     ("amount 1", ONE, &[(2, 34, b"0000000000001"), (9, 68, b"000000000000001")]),
     // Amounts of zero, with the total that agrees.
     ("amount 0", ONE, &[(2, 34, ZERO), (9, 68, b"000000000000000")]),
-    ("amount 0 in the last of two", TWO, &[(9, 34, ZERO), (16, 68, b"000000000045000")]),
+    ("amount 0 in the second 14", UP_TO_9, &[(9, 34, ZERO)]),
     // Causale and sign of the first 14.
     ("ends after 14", "IM 14", &[]),
     ("14 29-33 is '07000'", "IM 14", &[(2, 29, b"07000")]),
-    ("14 29-33 is '07200'", "IM 14", &[(2, 29, b"07200")]),
     ("14 29-33 is '07101'", "IM 14", &[(2, 29, b"07101")]),
     ("14 29-33 is '17100'", "IM 14", &[(2, 29, b"17100")]),
     ("14 29-33 is '0710O'", "IM 14", &[(2, 29, b"0710O")]),
@@ -700,7 +697,6 @@ const RECALLS: [(&str, &str, &[Change]); 36] = [
     ("14 wrong at 23 and 29", "IM 14", &[(2, 23, b"290227"), (2, 29, b"07200")]),
     ("14 wrong at 29 and 34", "IM 14", &[(2, 29, b"07200"), (2, 34, b":")]),
     ("14 wrong at 29 and 47", "IM 14", &[(2, 29, b"07200"), (2, 47, b"-")]),
-    ("14 wrong at 34 and 47", "IM 14", &[(2, 34, b":"), (2, 47, b"-")]),
     ("14 wrong at 47 and 48", "IM 14", &[(2, 47, b"-"), (2, 48, b"01235")]),
     // Causale and sign of a later 14, under a first one of a recall.
     ("a request second", UP_TO_9, &[(9, 29, b"07000"), (9, 47, b"-")]),
@@ -708,7 +704,6 @@ const RECALLS: [(&str, &str, &[Change]); 36] = [
     ("a request second, 25 at 34", UP_TO_9, &[(9, 29, b"07000"), (9, 34, ZERO), (9, 47, b"-")]),
     ("07200 in the second 14", UP_TO_9, &[(9, 29, b"07200")]),
     ("a request's sign in the second 14", UP_TO_9, &[(9, 47, b"-")]),
-    ("a request first", UP_TO_9, &[(2, 29, b"07000"), (2, 47, b"-")]),
     // The trailer's totals.
     ("EF as of requests", ONE, &[(9, 53, b"000000000045000000000000000000")]),
     ("EF with the total at both", ONE, &[(9, 53, b"000000000045000")]),
@@ -755,6 +750,56 @@ const ZEROS: [(&str, &str, &[Change]); 25] = [
     ("9 in 20", "IM 14 20", &[(2, 34, ZERO), (3, 4, b"0000000")]),
 ];
 
+/// Flows with company codes put into them: the first 14 is record 2, the later
+/// ones are 9 and 16, and the code that stands there is AB123.
+#[rustfmt::skip]
+const CODES: [(&str, &str, &[Change]); 28] = [
+    // Right flows. The first 14 alone never differs.
+    ("blanks in both", TWO, &[(2, 92, ABSENT), (9, 92, ABSENT)]),
+    ("'    ~' in both", TWO, &[(2, 92, b"    ~"), (9, 92, b"    ~")]),
+    ("unlike IM 4-8", "IM 14", &[(2, 92, b"~~~~~")]),
+    ("blanks in the first 14", "IM 14", &[(2, 92, ABSENT)]),
+    // A code and none.
+    ("blanks, then a code", TWO, &[(2, 92, ABSENT)]),
+    ("a code, then blanks", UP_TO_9, &[(9, 92, ABSENT)]),
+    ("a code, blanks, the same code", UP_TO_16, &[(9, 92, ABSENT)]),
+    ("twice a code, then blanks", UP_TO_16, &[(16, 92, ABSENT)]),
+    ("twice blanks, then a code", UP_TO_16, &[(2, 92, ABSENT), (9, 92, ABSENT)]),
+    // Codes that differ in one byte, in case, or by a place.
+    ("other in byte 1", UP_TO_9, &[(9, 92, b"BB123")]),
+    ("other in byte 2", UP_TO_9, &[(9, 92, b"AC123")]),
+    ("other in byte 3", UP_TO_9, &[(9, 92, b"AB223")]),
+    ("other in byte 4", UP_TO_9, &[(9, 92, b"AB133")]),
+    ("other in byte 5", UP_TO_9, &[(9, 92, b"AB124")]),
+    ("lower case in byte 2", UP_TO_9, &[(9, 92, b"Ab123")]),
+    ("a blank for byte 5", UP_TO_9, &[(9, 92, b"AB12 ")]),
+    ("moved by a place", UP_TO_9, &[(9, 92, b" AB12")]),
+    ("one byte at another place", UP_TO_9, &[(2, 92, b"    X"), (9, 92, b"X    ")]),
+    // One byte that is not blank, and blanks.
+    ("blanks, then byte 1 alone", UP_TO_9, &[(2, 92, ABSENT), (9, 92, b"A    ")]),
+    ("blanks, then byte 2 alone", UP_TO_9, &[(2, 92, ABSENT), (9, 92, b" A   ")]),
+    ("blanks, then byte 3 alone", UP_TO_9, &[(2, 92, ABSENT), (9, 92, b"  A  ")]),
+    ("blanks, then byte 4 alone", UP_TO_9, &[(2, 92, ABSENT), (9, 92, b"   A ")]),
+    ("blanks, then byte 5 alone", UP_TO_9, &[(2, 92, ABSENT), (9, 92, b"    A")]),
+    ("byte 5 alone, then blanks", UP_TO_9, &[(2, 92, b"    A"), (9, 92, ABSENT)]),
+    // Other faults of the record that differs, and of others.
+    ("2 in it", UP_TO_9, &[(9, 92, b"AB1\x7f3")]),
+    ("5 at 53", UP_TO_9, &[(9, 53, b":"), (9, 92, ABSENT)]),
+    ("6 at 120", UP_TO_9, &[(9, 92, ABSENT), (9, 120, b"L")]),
+    ("3 in the next record", "IM 14 20 30 40 50 51 70 14 30", &[(9, 92, ABSENT)]),
+];
+
+/// The same of recalls.
+#[rustfmt::skip]
+const RECALL_CODES: [(&str, &str, &[Change]); 6] = [
+    ("blanks, then a code", UP_TO_9, &[(2, 92, ABSENT)]),
+    ("a code, then blanks", UP_TO_9, &[(9, 92, ABSENT)]),
+    ("other in byte 3", UP_TO_9, &[(9, 92, b"AB-23")]),
+    ("10 at 48", UP_TO_9, &[(9, 48, b"01235"), (9, 92, ABSENT)]),
+    ("5 at 53", UP_TO_9, &[(9, 53, b":"), (9, 92, ABSENT)]),
+    ("6 at 97", UP_TO_9, &[(9, 92, ABSENT), (9, 97, b"0")]),
+];
+
 /// Bytes put into a record: position, bytes.
 type Fault = (usize, &'static [u8]);
 
@@ -769,7 +814,7 @@ const FAULTS: [(&str, &str, usize, &[Fault]); 11] = [
         (4, b"0000000"), (23, b"290227"), (29, b"07200"), (34, b":"), (47, b"+"), (48, b"01235"),
         (53, b":"), (97, b"0"), (120, b"L"),
     ]),
-    ("second 14", UP_TO_9, 9, &[(48, b"01235"), (92, b"AB124"), (97, b"0")]),
+    ("second 14", UP_TO_9, 9, &[(48, b"01235"), (92, ABSENT), (97, b"0")]),
     ("16", "IM 14 16", 3, &[
         (4, b"0000000"), (11, b"DE"), (13, b":"), (15, b" "), (16, b"01235"), (21, b"00000"),
         (26, b"            "),

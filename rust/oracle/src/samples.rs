@@ -234,9 +234,6 @@ fn full_rent(index: u64) -> Vec<Record> {
     write_digits(field_mut(opening, 34, 46), 30_000 + 1_250 * index);
     put(opening, 97, &[b" 1234569"[place % 8]]);
     put(opening, 98, customer.as_bytes());
-    if index.is_multiple_of(7) {
-        put(opening, 92, b"     ");
-    }
     let debtor = field_mut(&mut block[2], 11, 86);
     debtor.fill(b' ');
     put(&mut block[2], 11, name.as_bytes());
@@ -375,7 +372,7 @@ const RIGHT: [Row; 10] = [
         "the first of the two rents alone",
         "accepted dispositions 1 cents 45000 records 9 kind requests"),
     ("forty-rents.flow", Flow, || forty_rents().flow(),
-        "forty rents, canonical, with 16, one 50 or one to five 59, the header's 105-111, and the company code on most",
+        "forty rents, canonical, with 16, one 50 or one to five 59, the header's 105-111, and the company code on all",
         "accepted dispositions 40 cents 2225000 records 368 kind requests"),
     ("forty-rents.list", List(44_160), || forty_rents().list(),
         "the request list of forty-rents.flow",
@@ -411,8 +408,9 @@ const REFUSED_FLOWS: [Row; 16] = [
         "the first rent stands twice, and the trailer agrees", "refused 9 record 9 position 4"),
     ("refused-10-header.flow", Flow, || spoiled(9, 48, b"01235"),
         "the ABI of a 14 is not the header's", "refused 10 record 9 position 48"),
-    ("refused-11-company.flow", Flow, || spoiled(9, 92, b"AB124"),
-        "two company codes", "refused 11 record 9 position 92"),
+    ("refused-11-company.flow", Flow, || spoiled(2, 92, b"     "),
+        "blanks on the first request and the company code on the second",
+        "refused 11 record 9 position 92"),
     ("refused-12-dispositions.flow", Flow, || spoiled(16, 46, b"0000003"),
         "the trailer counts three dispositions", "refused 12 record 16 position 46"),
     ("refused-13-total.flow", Flow, || spoiled(16, 53, b"000000000083051"),
@@ -568,7 +566,7 @@ pub fn table(samples: &[Sample]) -> String {
          Files ending in `.flow` are flows to be read, files ending in `.list` are request\n\
          lists to be written to an output of the length given. A row that names a call\n\
          is about that call on the flow. The rules are those of document 01 and of\n\
-         requests E1, E5 and E7 of document 02. The files are written by `oracle sample`.\n\n\
+         requests E1, E4, E5 and E7 of document 02. The files are written by `oracle sample`.\n\n\
          | file | what it shows | answer due |\n|---|---|---|\n",
     );
     for sample in samples {

@@ -1,5 +1,5 @@
 //! The cases of `oracle vectors amend`, against literal answers from documents
-//! 01 and 02 (E1, E5), against a flow amended disposition by disposition, and
+//! 01 and 02 (E1, E4, E5), against a flow amended disposition by disposition, and
 //! ledger against amendments.
 //!
 //! What the lines would catch:
@@ -9,6 +9,8 @@
 //!   wraps: "15 before 16 and 18", "amounts", "a total of 999999999999999";
 //! - an amount changed to 0, or 16 for it before 15: "amounts", "15 before 16 and
 //!   18"; a flow with an amount of zero amended after all: the refused flows of 25;
+//! - company codes on some requests amended after all, or another code after the
+//!   first request is withdrawn: "company code in ..";
 //! - a call that answers before the flow is read to its end: the refused flows;
 //! - a block moved twice, lost, or overwritten before it is read: the tagged
 //!   flows, whose lists tell each record, also where all totals agree;
@@ -47,7 +49,7 @@ type Due = (
 
 /// The cases made by hand, but the look-alikes and the refused flows.
 #[rustfmt::skip]
-const DUE: [Due; 40] = [
+const DUE: [Due; 44] = [
     ("two rents: 2 changed to 40000", "accepted dispositions 2 cents 83050 records 16 kind requests", &[
         ("!2 40000", "accepted dispositions 2 cents 85000 records 16 kind requests"),
     ]),
@@ -242,24 +244,57 @@ const DUE: [Due; 40] = [
         ("-33", "accepted dispositions 32 cents 1439999 records 226 kind requests length 27120"),
         ("-1", "accepted dispositions 31 cents 1395000 records 219 kind requests length 26280"),
     ]),
-    ("company code in 1 alone", "accepted dispositions 3 cents 128050 records 23 kind requests", &[
-        ("-1", "accepted dispositions 2 cents 83050 records 16 kind requests length 1920"),
+    // Three rents of 45000, 38050 and 45000 cents.
+    ("company code in 1 alone", "refused 11 record 9 position 92", &[
+        ("-1", "refused 11 record 9 position 92 length 2760"),
+        ("!1 1", "refused 11 record 9 position 92"),
+        ("-0", "refused 11 record 9 position 92 length 2760"),
     ]),
-    ("company code in 2 alone", "accepted dispositions 3 cents 128050 records 23 kind requests", &[
-        ("-2", "accepted dispositions 2 cents 90000 records 16 kind requests length 1920"),
-        ("-1", "accepted dispositions 1 cents 45000 records 9 kind requests length 1080"),
+    ("company code in 2 alone", "refused 11 record 9 position 92", &[
+        ("-2", "refused 11 record 9 position 92 length 2760"),
+        ("-1", "refused 11 record 9 position 92 length 2760"),
+        ("!2 0", "refused 11 record 9 position 92"),
     ]),
-    ("company code in 3 alone", "accepted dispositions 3 cents 128050 records 23 kind requests", &[
-        ("-3", "accepted dispositions 2 cents 83050 records 16 kind requests length 1920"),
-        ("!1 1", "accepted dispositions 2 cents 38051 records 16 kind requests"),
+    ("company code in 3 alone", "refused 11 record 16 position 92", &[
+        ("-3", "refused 11 record 16 position 92 length 2760"),
+        ("!1 1", "refused 11 record 16 position 92"),
+        ("!4 1", "refused 11 record 16 position 92"),
     ]),
-    ("company code in 1 and 3", "accepted dispositions 3 cents 128050 records 23 kind requests", &[
-        ("-1", "accepted dispositions 2 cents 83050 records 16 kind requests length 1920"),
-        ("-2", "accepted dispositions 1 cents 38050 records 9 kind requests length 1080"),
+    ("company code in 1 and 3", "refused 11 record 9 position 92", &[
+        ("-2", "refused 11 record 9 position 92 length 2760"),
+        ("-1", "refused 11 record 9 position 92 length 2760"),
+        ("-18446744073709551615", "refused 11 record 9 position 92 length 2760"),
     ]),
     ("company code in none", "accepted dispositions 3 cents 128050 records 23 kind requests", &[
+        ("-1", "accepted dispositions 2 cents 83050 records 16 kind requests length 1920"),
+        ("!2 1", "accepted dispositions 2 cents 38051 records 16 kind requests"),
+        ("-2", "accepted dispositions 1 cents 38050 records 9 kind requests length 1080"),
+        ("-1", "refused 18 record 0 position 0 length 1080"),
+    ]),
+    ("company code in all: 1 withdrawn", "accepted dispositions 3 cents 128050 records 23 kind requests", &[
+        ("-1", "accepted dispositions 2 cents 83050 records 16 kind requests length 1920"),
+        ("!1 5", "accepted dispositions 2 cents 45005 records 16 kind requests"),
+        ("-1", "accepted dispositions 1 cents 45000 records 9 kind requests length 1080"),
+        ("!1 7", "accepted dispositions 1 cents 7 records 9 kind requests"),
+        ("-1", "refused 18 record 0 position 0 length 1080"),
+    ]),
+    ("company code in all: 2 withdrawn", "accepted dispositions 3 cents 128050 records 23 kind requests", &[
+        ("!2 1", "accepted dispositions 3 cents 90001 records 23 kind requests"),
         ("-2", "accepted dispositions 2 cents 90000 records 16 kind requests length 1920"),
-        ("!2 1", "accepted dispositions 2 cents 45001 records 16 kind requests"),
+        ("-2", "accepted dispositions 1 cents 45000 records 9 kind requests length 1080"),
+        ("!1 0", "refused 16 record 0 position 0"),
+    ]),
+    ("recalls: company code in all", "accepted dispositions 3 cents 128050 records 23 kind recalls", &[
+        ("-1", "accepted dispositions 2 cents 83050 records 16 kind recalls length 1920"),
+        ("!2 1", "accepted dispositions 2 cents 38051 records 16 kind recalls"),
+        ("-2", "accepted dispositions 1 cents 38050 records 9 kind recalls length 1080"),
+        ("-1", "refused 18 record 0 position 0 length 1080"),
+    ]),
+    ("recalls: company code in none", "accepted dispositions 3 cents 128050 records 23 kind recalls", &[
+        ("-1", "accepted dispositions 2 cents 83050 records 16 kind recalls length 1920"),
+        ("!1 3", "accepted dispositions 2 cents 45003 records 16 kind recalls"),
+        ("-1", "accepted dispositions 1 cents 45000 records 9 kind recalls length 1080"),
+        ("!2 3", "refused 15 record 0 position 0"),
     ]),
     ("unchecked bytes: 1 withdrawn", "accepted dispositions 2 cents 83050 records 17 kind requests", &[
         ("!1 12345", "accepted dispositions 2 cents 50395 records 17 kind requests"),
@@ -408,6 +443,9 @@ const LOOK_ALIKES: [&str; 11] = [
     "14 in fields of 14",
     "position 1 not blank",
 ];
+
+/// Those of which the first disposition alone is withdrawn.
+const ONLY_FIRST: [&str; 3] = ["14 at 10-11", "14 at 11-12", "14 at 12-13"];
 const TWO_RENTS_OF_17: &str = "accepted dispositions 2 cents 83050 records 17 kind requests";
 #[rustfmt::skip]
 const FIRST_WITHDRAWN: &[(&str, &str)] = &[
@@ -431,10 +469,9 @@ const FOURTEENS_CHANGED: &str = "accepted dispositions 2 cents 14024 records 17 
 /// The flows that the reader refuses, and its answer: every call has that
 /// answer, and a withdrawal the length lent.
 #[rustfmt::skip]
-const REFUSED: [(&str, &str, usize); 33] = [
+const REFUSED: [(&str, &str, usize); 34] = [
     ("no byte", "refused 1 record 0 position 0", 0),
     ("a byte short", "refused 1 record 0 position 0", 1_919),
-    ("a record short", "refused 4 record 16 position 0", 1_800),
     ("a record of blanks behind EF", "refused 3 record 17 position 2", 2_040),
     ("a line feed at the end", "refused 1 record 0 position 0", 1_921),
     ("14 after EF", "refused 3 record 10 position 2", 1_200),
@@ -452,6 +489,7 @@ const REFUSED: [(&str, &str, usize); 33] = [
     ("9 in the second 14", "refused 9 record 9 position 4", 1_920),
     ("10 in EF", "refused 10 record 16 position 114", 1_920),
     ("11 in the second 14", "refused 11 record 9 position 92", 1_920),
+    ("11 in the second 14, blanks first", "refused 11 record 9 position 92", 1_920),
     ("12 in EF", "refused 12 record 16 position 46", 1_920),
     ("13 in EF", "refused 13 record 16 position 53", 1_920),
     ("13 in EF at 68", "refused 13 record 16 position 68", 1_920),
@@ -461,6 +499,7 @@ const REFUSED: [(&str, &str, usize); 33] = [
     ("25 in the second 14", "refused 25 record 9 position 34", 1_920),
     ("recalls: 22 in the second 14", "refused 22 record 9 position 29", 1_920),
     ("recalls: EF as of requests", "refused 13 record 16 position 53", 1_920),
+    ("recalls: 11 in the second 14", "refused 11 record 9 position 92", 1_920),
     ("recalls: 25 in the second 14", "refused 25 record 9 position 34", 1_920),
     ("recalls: the total at both", "refused 13 record 16 position 53", 1_920),
     ("recalls: zeros at both", "refused 13 record 16 position 68", 1_920),
@@ -539,6 +578,9 @@ fn every_answer_is_the_literal_one() {
         }
         let case = find(&format!("{name}: 1 withdrawn"));
         assert_eq!((reads_as(case), calls_of(case)), (reads, first), "{name}");
+        if ONLY_FIRST.contains(&name) {
+            continue;
+        }
         let case = find(&format!("{name}: 2 withdrawn"));
         let last = LAST_WITHDRAWN.to_vec();
         assert_eq!((reads_as(case), calls_of(case)), (reads, last), "{name}");
@@ -561,7 +603,8 @@ fn every_answer_is_the_literal_one() {
     for name in GENERATED {
         find(name);
     }
-    let all = DUE.len() + 2 * LOOK_ALIKES.len() + REFUSED.len() + GENERATED.len();
+    let alike = 2 * LOOK_ALIKES.len() - ONLY_FIRST.len();
+    let all = DUE.len() + alike + REFUSED.len() + GENERATED.len();
     assert_eq!(given.len(), all);
 }
 
@@ -597,6 +640,60 @@ fn the_two_rents_in_clear() {
             assert_eq!(*line, format!("\"{}\"", String::from_utf8(due).unwrap()));
         }
     }
+}
+
+/// Document 02, E4: after each withdrawal and change the records 14 shown have
+/// the code that all of them had, also where the first was withdrawn.
+#[test]
+fn company_codes_in_clear() {
+    let (input, output) = amend_files();
+    let given = given(&input, &output);
+    for (name, code, shown) in [
+        (
+            "company code in none",
+            "     ",
+            &["0000001", "0000002", "0000001"][..],
+        ),
+        (
+            "company code in all: 1 withdrawn",
+            "AB123",
+            &["0000001", "0000002", "0000001"],
+        ),
+        (
+            "company code in all: 2 withdrawn",
+            "AB123",
+            &["0000002", "0000002", "0000001"],
+        ),
+        (
+            "recalls: company code in all",
+            "AB123",
+            &["0000001", "0000001"],
+        ),
+        (
+            "recalls: company code in none",
+            "     ",
+            &["0000001", "0000001"],
+        ),
+    ] {
+        let case = given.iter().find(|case| case.name == name).unwrap();
+        let records = case.asked.iter().filter(|(line, _)| line.starts_with('@'));
+        let records: Vec<&str> = records.map(|(_, record)| *record).collect();
+        assert_eq!(records.len(), shown.len(), "{name}");
+        for (record, number) in records.iter().zip(shown) {
+            assert!(record.starts_with(&format!("\" 14{number} ")), "{name}");
+            // After the quote.
+            assert_eq!(&record[92..97], code, "{name}");
+        }
+    }
+    // Each call on a flow with codes on some is refused by 11.
+    let refused = given
+        .iter()
+        .filter(|case| reads_as(case).starts_with("refused 11 "));
+    let refused: Vec<_> = refused.flat_map(calls_of).collect();
+    assert!(refused.len() >= 30);
+    assert!(refused
+        .iter()
+        .all(|(_, line)| line.starts_with("refused 11 ")));
 }
 
 /// A flow by its parts. The trailer's numbers come from them.

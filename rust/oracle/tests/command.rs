@@ -44,6 +44,8 @@ fn judge_prints_one_line() {
     assert_eq!(judged(&wrong), "refused 9 record 10 position 4\n");
     let zero = two_rents().with(9, 34, b"0000000000000").bytes();
     assert_eq!(judged(&zero), "refused 25 record 9 position 34\n");
+    let codes = two_rents().with(2, 92, b"     ").bytes();
+    assert_eq!(judged(&codes), "refused 11 record 9 position 92\n");
     let none = "refused 1 record 0 position 0\n";
     assert_eq!(judged(b""), none);
     assert_eq!(judged(&[&flow[..], b"\n"].concat()), none);
@@ -110,6 +112,10 @@ fn samples_are_written() {
     let mixed = fs::read(dir.join("refused-22-kind.flow")).unwrap();
     let second = two_rents().with(9, 29, b"07100").with(9, 47, b"+");
     assert_eq!(mixed, second.bytes());
+    let company = fs::read(dir.join("refused-11-company.flow")).unwrap();
+    assert_eq!(company, two_rents().with(2, 92, b"     ").bytes());
+    let forty = fs::read(dir.join("forty-rents.flow")).unwrap();
+    assert_eq!(in_openings(&forty, 92, 96), [b"AB123"; 40]);
     let nothing = fs::read(dir.join("refused-25-nothing.flow")).unwrap();
     let second = two_rents()
         .with(9, 34, b"0000000000000")
@@ -127,7 +133,7 @@ fn samples_are_written() {
     for number in NUMBERS {
         assert!(table.contains(&format!("`refused {number} record")));
     }
-    assert!(table.contains("requests E1, E5 and E7 of document 02"));
+    assert!(table.contains("requests E1, E4, E5 and E7 of document 02"));
     let row = "| `two-rents.flow`, change of 2 to 0 cents | an amount of nothing | \
         `refused 16 record 0 position 0` |";
     assert!(table.contains(row));

@@ -1,5 +1,5 @@
 //! The cases of `oracle vectors evenings`, against accounts and refusals from
-//! document 02 (E7, E5) by hand.
+//! document 02 (E7, E4, E5) by hand.
 //!
 //! What the lines would catch:
 //! - an account that is not shortest, drops or adds from the wrong end, or adds
@@ -18,8 +18,10 @@
 //! - a limit of 255 or 257 requests, of 66,048 numbers, of one line less or more:
 //!   the cases of 256 and 257, "working memories", "rooms";
 //! - line numbers from 0, or cut to fewer bits: "numbers of lines";
-//! - refusals in another order, or an amount of zero compared like any other: six
-//!   questions of every two that fit at once;
+//! - refusals in another order, or an amount of zero or company codes that differ
+//!   compared like any other: six questions of every two that fit at once;
+//! - the company code left out of what is compared: "abc and ABC", where a capital
+//!   letter is the same request without one;
 //! - working memory not zero up to its end, touched by a refused call, or written
 //!   behind its end, and the same of the account: the numbers behind each answer.
 
@@ -80,7 +82,7 @@ line A record 16 part 120 " 140000003" at 1800 of new zero 66200 as before 64
 
 /// The account of each case in which one is due, in the order of the file.
 #[rustfmt::skip]
-const ACCOUNTS: [(&str, &str); 94] = [
+const ACCOUNTS: [(&str, &str); 90] = [
     ("two rents and the second", "DK"), ("two rents and the second, exchanged", "AK"),
     ("recalls a and da", "AK"), ("recalls a and da, exchanged", "DK"),
     ("a and a", "K"),
@@ -89,11 +91,10 @@ const ACCOUNTS: [(&str, &str); 94] = [
     ("a and da", "AK"), ("a and da, exchanged", "DK"),
     ("a and bac", "AKA"), ("a and bac, exchanged", "DKD"),
     ("aa and a", "KD"), ("aa and a, exchanged", "KA"),
-    ("aa and aaa", "KKA"), ("aa and aaa, exchanged", "KKD"),
     ("ab and ba", "DKA"), ("ab and ba, exchanged", "DKA"),
     ("ab and cb", "DAK"), ("ab and cb, exchanged", "DAK"),
     ("abc and cab", "AKKD"), ("abc and cab, exchanged", "DKKA"),
-    ("abc and def", "DDDAAA"), ("abc and def, exchanged", "DDDAAA"),
+    ("abc and ABC", "DDDAAA"), ("abc and ABC, exchanged", "DDDAAA"),
     ("aad and ad", "KDK"), ("aad and ad, exchanged", "KAK"),
     ("adeadda and edadae", "DDKDKAKKA"), ("adeadda and edadae, exchanged", "DAKAKKAKD"),
     ("dad and ada", "DKKA"), ("dad and ada, exchanged", "DKKA"),
@@ -121,9 +122,7 @@ const ACCOUNTS: [(&str, &str); 94] = [
     ("50 and 59 of the same bytes", "DA"),
     ("59 of the same bytes", "K"),
     ("two 59s exchanged", "DA"),
-    ("four 59s and five", "DA"),
     ("the fifth 59 differs", "DA"),
-    ("two bytes exchanged", "DA"),
     ("40 and 51 exchanged", "DA"),
     ("~ where nothing is carried", "KK"),
     ("14 across two records", "DAK"),
@@ -139,13 +138,19 @@ const ACCOUNTS: [(&str, &str); 94] = [
 
 /// The refusal of each case that has but one, whatever is asked.
 #[rustfmt::skip]
-const REFUSED: [(&str, &str); 26] = [
+const REFUSED: [(&str, &str); 32] = [
     ("a zero in old", "refused 25 record 2 position 34"),
     ("a zero in new", "refused 25 record 2 position 34"),
     ("old refused, a zero in new", "refused 9 record 3 position 4"),
     ("a zero in old, new refused", "refused 25 record 2 position 34"),
     ("a zero in new, both of recalls", "refused 25 record 2 position 34"),
     ("a zero in old, both of recalls", "refused 25 record 2 position 34"),
+    ("codes that differ in old, new refused", "refused 11 record 9 position 92"),
+    ("old refused, codes that differ in new", "refused 9 record 3 position 4"),
+    ("codes that differ in new", "refused 11 record 9 position 92"),
+    ("codes that differ in old", "refused 11 record 9 position 92"),
+    ("codes that differ in old, of recalls", "refused 11 record 9 position 92"),
+    ("codes that differ in new, of recalls", "refused 11 record 9 position 92"),
     ("old refused", "refused 9 record 3 position 4"),
     ("new refused", "refused 9 record 3 position 4"),
     ("both refused", "refused 13 record 9 position 53"),
@@ -401,7 +406,7 @@ fn the_input_keeps_its_limits() {
     assert_eq!(different.len(), names.len());
     assert!(names.iter().all(|name| name.is_ascii() && name.len() < 52));
     assert_eq!(names.len(), ACCOUNTS.len() + REFUSED.len());
-    for number in [1, 4, 9, 10, 13, 15, 21, 25, 27, 28, 34] {
+    for number in [1, 4, 9, 10, 11, 13, 15, 21, 25, 27, 28, 34] {
         let start = format!("refused {number} ");
         assert!(output.lines().filter(|l| l.starts_with(&start)).count() >= 6);
     }

@@ -1,5 +1,5 @@
 //! The cases of `oracle vectors flow` for where a disposition is, against
-//! literal answers from documents 01 and 02 (E1, E5).
+//! literal answers from documents 01 and 02 (E1, E4, E5).
 //!
 //! What the lines below would catch:
 //! - k counted from 0, k = 0 taken for 1, k cut to 8, 16 or 32 bits or taken as
@@ -179,7 +179,7 @@ const OF_30: [(u64, u64, u64); 30] = [
 /// The flows that the reader refuses, in the order of the file, and its line:
 /// the answer to every number is that line and an empty part.
 #[rustfmt::skip]
-const REFUSED: [(&str, &str); 29] = [
+const REFUSED: [(&str, &str); 31] = [
     ("no byte", "refused 1 record 0 position 0"),
     ("the header alone", "refused 4 record 2 position 0"),
     ("cut inside the first disposition", "refused 4 record 6 position 0"),
@@ -198,6 +198,7 @@ const REFUSED: [(&str, &str); 29] = [
     ("9 in the second 14", "refused 9 record 9 position 4"),
     ("10 in EF", "refused 10 record 16 position 114"),
     ("11 in the second 14", "refused 11 record 9 position 92"),
+    ("11 in the second 14, blanks first", "refused 11 record 9 position 92"),
     ("12 in EF", "refused 12 record 16 position 46"),
     ("13 in EF", "refused 13 record 16 position 53"),
     ("13 in EF at 68", "refused 13 record 16 position 68"),
@@ -208,6 +209,7 @@ const REFUSED: [(&str, &str); 29] = [
     ("14 after EF", "refused 3 record 10 position 2"),
     ("recalls: 22 in the second 14", "refused 22 record 9 position 29"),
     ("recalls: EF as of requests", "refused 13 record 16 position 53"),
+    ("recalls: 11 in the second 14", "refused 11 record 9 position 92"),
     ("recalls: 25 in the second 14", "refused 25 record 9 position 34"),
 ];
 

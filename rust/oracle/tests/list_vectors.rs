@@ -1,5 +1,5 @@
 //! The cases of `oracle vectors list`, against literal answers from documents 01
-//! and 02 (E1, E5), and against a second statement of what a list encodes and a flow
+//! and 02 (E1, E4, E5), and against a second statement of what a list encodes and a flow
 //! carries.
 //!
 //! What the lines would catch:
@@ -15,6 +15,8 @@
 //!   output written before the refusal: the number of bytes kept;
 //! - a refusal of the list's place instead of the record's: the refused values;
 //! - an amount of zero written, or its refusal out of its place: the cases of 25;
+//! - company codes on some D written, or the refusal at another D than the first
+//!   that differs: the codes;
 //! - a flow called canonical that is not, or the reverse: the round trips;
 //! - a Q taken for an H or for no kind, a recall with causale, sign or total of
 //!   a request, a list read back from recalls that opens with H: the recalls.
@@ -33,7 +35,7 @@ type Due = (&'static str, &'static [(&'static str, &'static str)]);
 
 /// The cases in the order of the file, but those of one byte that is no kind.
 #[rustfmt::skip]
-static DUE: [Due; 527] = [
+static DUE: [Due; 540] = [
     ("two rents", &[
         (">0", "refused 21 record 0 position 0"),
         (">1", "refused 21 record 0 position 0"),
@@ -95,18 +97,10 @@ static DUE: [Due; 527] = [
     ("kind 32 second", &[(">1200", "refused 20 record 2 position 0")]),
     ("kind 32 in the middle", &[(">1200", "refused 20 record 5 position 0")]),
     ("kind 32 last", &[(">1200", "refused 20 record 9 position 0")]),
-    ("kind 49 first", &[(">1200", "refused 20 record 1 position 0")]),
-    ("kind 49 second", &[(">1200", "refused 20 record 2 position 0")]),
-    ("kind 49 in the middle", &[(">1200", "refused 20 record 5 position 0")]),
-    ("kind 49 last", &[(">1200", "refused 20 record 9 position 0")]),
     ("kind 0 first", &[(">1200", "refused 20 record 1 position 0")]),
     ("kind 0 second", &[(">1200", "refused 20 record 2 position 0")]),
     ("kind 0 in the middle", &[(">1200", "refused 20 record 5 position 0")]),
     ("kind 0 last", &[(">1200", "refused 20 record 9 position 0")]),
-    ("kind 255 first", &[(">1200", "refused 20 record 1 position 0")]),
-    ("kind 255 second", &[(">1200", "refused 20 record 2 position 0")]),
-    ("kind 255 in the middle", &[(">1200", "refused 20 record 5 position 0")]),
-    ("kind 255 last", &[(">1200", "refused 20 record 9 position 0")]),
     ("a line feed behind each item", &[(">4000", "refused 20 record 2 position 0")]),
     ("a line feed at the end", &[
         (">1080", "refused 20 record 9 position 0"),
@@ -181,10 +175,14 @@ static DUE: [Due; 527] = [
         (">0", "refused 20 record 1 position 0"),
         (">480", "refused 20 record 1 position 0"),
     ]),
-    ("20 behind 85 items", &[(">10320", "refused 20 record 86 position 0")]),
+    ("20 behind 36 items", &[(">4440", "refused 20 record 37 position 0")]),
     ("20 at the end, 25 in D", &[
         (">0", "refused 20 record 8 position 0"),
         (">1080", "refused 20 record 8 position 0"),
+    ]),
+    ("20 at the end, 11 in D", &[
+        (">0", "refused 20 record 9 position 0"),
+        (">1200", "refused 20 record 9 position 0"),
     ]),
     ("7 in H, at several rooms", &[
         (">0", "refused 21 record 0 position 0"),
@@ -203,6 +201,12 @@ static DUE: [Due; 527] = [
         (">1079", "refused 21 record 0 position 0"),
         (">1080", "refused 25 record 2 position 34"),
         (">1081", "refused 25 record 2 position 34"),
+    ]),
+    ("11 in D, at several rooms", &[
+        (">0", "refused 21 record 0 position 0"),
+        (">1919", "refused 21 record 0 position 0"),
+        (">1920", "refused 11 record 9 position 92"),
+        (">1921", "refused 11 record 9 position 92"),
     ]),
     ("H alone, at several rooms", &[
         (">0", "refused 21 record 0 position 0"),
@@ -242,7 +246,6 @@ static DUE: [Due; 527] = [
     ("H twice", &[(">1200", "refused 3 record 2 position 2")]),
     ("H inside a disposition", &[(">1200", "refused 3 record 5 position 2")]),
     ("H between dispositions", &[(">2040", "refused 3 record 9 position 2")]),
-    ("H at the end", &[(">1200", "refused 3 record 9 position 2")]),
     ("two whole lists", &[(">2880", "refused 3 record 16 position 2")]),
     ("D before H", &[(">1080", "refused 3 record 1 position 2")]),
     ("no H", &[(">960", "refused 3 record 1 position 2")]),
@@ -460,22 +463,6 @@ static DUE: [Due; 527] = [
         (">1080", "accepted dispositions 1 cents 45000 records 9 kind requests length 1080"),
         ("><", "there 1080 back 643 same"),
     ]),
-    ("company code absent in all", &[
-        (">1920", "accepted dispositions 2 cents 83050 records 16 kind requests length 1920"),
-        ("><", "there 1920 back 1236 same"),
-    ]),
-    ("company code absent then present", &[
-        (">1920", "accepted dispositions 2 cents 83050 records 16 kind requests length 1920"),
-        ("><", "there 1920 back 1236 same"),
-    ]),
-    ("company code present then absent", &[
-        (">1920", "accepted dispositions 2 cents 83050 records 16 kind requests length 1920"),
-        ("><", "there 1920 back 1236 same"),
-    ]),
-    ("company code present, absent, equal", &[
-        (">2760", "accepted dispositions 3 cents 128050 records 23 kind requests length 2760"),
-        ("><", "there 2760 back 1829 same"),
-    ]),
     ("A R K blank", &[
         (">1080", "accepted dispositions 1 cents 45000 records 9 kind requests length 1080"),
         ("><", "there 1080 back 643 same"),
@@ -484,9 +471,6 @@ static DUE: [Due; 527] = [
         (">1200", "accepted dispositions 1 cents 45000 records 10 kind requests length 1200"),
         ("><", "there 1200 back 671 same"),
     ]),
-    ("company code different", &[(">1920", "refused 11 record 9 position 92")]),
-    ("company code different by a blank", &[(">1920", "refused 11 record 9 position 92")]),
-    ("company code present, absent, different", &[(">2760", "refused 11 record 16 position 92")]),
     ("S with the ABI of another H", &[(">1200", "refused 10 record 3 position 16")]),
     ("C 11-34 blank", &[(">1080", "refused 7 record 3 position 11")]),
     ("B 11-40 blank and text behind", &[(">1080", "refused 7 record 4 position 11")]),
@@ -526,11 +510,49 @@ static DUE: [Due; 527] = [
     ("an amount of zero behind D", &[(">480", "refused 3 record 3 position 2")]),
     ("recalls: 25 in the last D", &[(">1920", "refused 25 record 9 position 34")]),
     ("recalls: 8 and 25 in D", &[(">360", "refused 8 record 2 position 23")]),
+    // Company codes on all or on none.
+    ("code: blanks in both", &[
+        (">1920", "accepted dispositions 2 cents 83050 records 16 kind requests length 1920"),
+        ("><", "there 1920 back 1236 same"),
+    ]),
+    ("code: '  A  ' in both", &[
+        (">1920", "accepted dispositions 2 cents 83050 records 16 kind requests length 1920"),
+        ("><", "there 1920 back 1236 same"),
+    ]),
+    ("code: blanks in both recalls", &[
+        (">1920", "accepted dispositions 2 cents 83050 records 16 kind recalls length 1920"),
+        ("><", "there 1920 back 1236 same"),
+    ]),
+    ("code: blanks, then a code", &[(">1920", "refused 11 record 9 position 92")]),
+    ("code: a code, then blanks", &[(">1920", "refused 11 record 9 position 92")]),
+    ("code: a code, blanks, the same code", &[(">2760", "refused 11 record 9 position 92")]),
+    ("code: twice a code, then blanks", &[(">2760", "refused 11 record 16 position 92")]),
+    ("code: twice blanks, then a code", &[(">2760", "refused 11 record 16 position 92")]),
+    ("code: other in byte 1", &[(">1200", "refused 11 record 9 position 92")]),
+    ("code: other in byte 2", &[(">1200", "refused 11 record 9 position 92")]),
+    ("code: other in byte 3", &[(">1200", "refused 11 record 9 position 92")]),
+    ("code: other in byte 4", &[(">1200", "refused 11 record 9 position 92")]),
+    ("code: other in byte 5", &[(">1200", "refused 11 record 9 position 92")]),
+    ("code: lower case in byte 1", &[(">1200", "refused 11 record 9 position 92")]),
+    ("code: a blank for byte 5", &[(">1200", "refused 11 record 9 position 92")]),
+    ("code: moved by a place", &[(">1200", "refused 11 record 9 position 92")]),
+    ("code: blanks, then byte 5 alone", &[(">1200", "refused 11 record 9 position 92")]),
+    ("code: byte 1 alone, then blanks", &[(">1200", "refused 11 record 9 position 92")]),
+    ("code: 2 in it", &[(">1200", "refused 2 record 9 position 95")]),
+    ("code: 8 at 23", &[(">1200", "refused 8 record 9 position 23")]),
+    ("code: 5 at 53", &[(">1200", "refused 5 record 9 position 53")]),
+    ("code: 6 at 97", &[(">1200", "refused 11 record 9 position 92")]),
+    ("code: 6 at 97 of the first D", &[(">1200", "refused 6 record 2 position 97")]),
+    ("code: 3 in the next item", &[(">1320", "refused 11 record 9 position 92")]),
+    ("code: a D that may not stand there", &[(">480", "refused 3 record 3 position 2")]),
+    ("code: recalls: blanks, then a code", &[(">1920", "refused 11 record 9 position 92")]),
+    ("code: recalls: a code, then blanks", &[(">1200", "refused 11 record 9 position 92")]),
+    ("code: recalls: 5 at 53", &[(">1200", "refused 5 record 9 position 53")]),
+    ("code: recalls: 6 at 97", &[(">1200", "refused 11 record 9 position 92")]),
     ("12 dispositions", &[
         (">11040", "accepted dispositions 12 cents 78078 records 92 kind requests length 11040"),
         ("><", "there 11040 back 7334 same"),
     ]),
-    ("6 in the last of 91 items", &[(">11040", "refused 6 record 91 position 94")]),
     ("a total of 999999999999999", &[
         (">85079", "refused 21 record 0 position 0"),
         (">85080", "accepted dispositions 101 cents 999999999999999 records 709 kind requests length 85080"),
@@ -691,6 +713,12 @@ static DUE: [Due; 527] = [
         ("<>", "refused 10 record 16 position 114"),
     ]),
     ("back: 11 in the second 14", &[
+        ("<0", "refused 11 record 9 position 92"),
+        ("<1235", "refused 11 record 9 position 92"),
+        ("<2000", "refused 11 record 9 position 92"),
+        ("<>", "refused 11 record 9 position 92"),
+    ]),
+    ("back: 11 in the second 14, blanks first", &[
         ("<0", "refused 11 record 9 position 92"),
         ("<1235", "refused 11 record 9 position 92"),
         ("<2000", "refused 11 record 9 position 92"),
@@ -970,10 +998,6 @@ static DUE: [Due; 527] = [
         (">1080", "accepted dispositions 1 cents 45000 records 9 kind recalls length 1080"),
         ("><", "there 1080 back 643 same"),
     ]),
-    ("recalls: company code absent then present", &[
-        (">1920", "accepted dispositions 2 cents 83050 records 16 kind recalls length 1920"),
-        ("><", "there 1920 back 1236 same"),
-    ]),
     ("recalls: another ABI in Q and S", &[
         (">1200", "accepted dispositions 1 cents 45000 records 10 kind recalls length 1200"),
         ("><", "there 1200 back 671 same"),
@@ -982,10 +1006,10 @@ static DUE: [Due; 527] = [
         (">1080", "accepted dispositions 1 cents 45000 records 9 kind recalls length 1080"),
         ("><", "there 1080 back 643 same"),
     ]),
-    // 10 * 9999999999999 less 0 to 9 cents; 50 + 5 * 593 + 5 * 621 bytes.
-    ("recalls: ten near the largest amount", &[
-        (">9240", "accepted dispositions 10 cents 99999999999945 records 77 kind recalls length 9240"),
-        ("><", "there 9240 back 6120 same"),
+    // 4 * 9999999999999 less 0 to 3 cents; 50 + 2 * 593 + 2 * 621 bytes.
+    ("recalls: four near the largest amount", &[
+        (">3840", "accepted dispositions 4 cents 39999999999990 records 32 kind recalls length 3840"),
+        ("><", "there 3840 back 2478 same"),
     ]),
     ("7 in Q, at several rooms", &[
         (">0", "refused 21 record 0 position 0"),
@@ -1017,7 +1041,6 @@ static DUE: [Due; 527] = [
     ("H inside a disposition of recalls", &[(">1200", "refused 3 record 5 position 2")]),
     ("Q between dispositions", &[(">2040", "refused 3 record 9 position 2")]),
     ("H between recalls", &[(">2040", "refused 3 record 9 position 2")]),
-    ("Q at the end", &[(">1200", "refused 3 record 9 position 2")]),
     ("H at the end of recalls", &[(">1200", "refused 3 record 9 position 2")]),
     ("D before Q", &[(">1080", "refused 3 record 1 position 2")]),
     ("D before Q and H", &[(">1320", "refused 3 record 1 position 2")]),
@@ -1040,7 +1063,6 @@ static DUE: [Due; 527] = [
     ("recalls: D amount is '0000000000000'", &[(">360", "refused 25 record 2 position 34")]),
     ("recalls: D at 97 is '0'", &[(">360", "refused 6 record 2 position 97")]),
     ("recalls: Z at 94 is 'A'", &[(">1080", "refused 6 record 8 position 94")]),
-    ("recalls: company code different", &[(">1920", "refused 11 record 9 position 92")]),
     ("recalls: S with the ABI of another Q", &[(">1200", "refused 10 record 3 position 16")]),
     ("7 in Q then 2 in D", &[(">360", "refused 7 record 1 position 20")]),
     ("a byte outside in D before Q", &[(">360", "refused 2 record 1 position 113")]),
@@ -1095,6 +1117,11 @@ static DUE: [Due; 527] = [
         ("<0", "refused 13 record 16 position 53"),
         ("<2000", "refused 13 record 16 position 53"),
         ("<>", "refused 13 record 16 position 53"),
+    ]),
+    ("back: recalls: 11 in the second 14", &[
+        ("<0", "refused 11 record 9 position 92"),
+        ("<2000", "refused 11 record 9 position 92"),
+        ("<>", "refused 11 record 9 position 92"),
     ]),
     ("back: recalls: 25 in the second 14", &[
         ("<0", "refused 25 record 9 position 34"),
@@ -1341,6 +1368,55 @@ fn every_number_comes() {
             let given = |line: &&Line| line.0.starts_with(sign) && line.1.starts_with(&start);
             assert!(lines.iter().filter(given).count() >= 2, "{sign} {number}");
         }
+    }
+}
+
+/// The codes of the D items of a list of whole items.
+fn codes(mut list: &[u8]) -> Vec<String> {
+    let mut codes = Vec::new();
+    while let Some((&kind, rest)) = list.split_first() {
+        if kind == b'D' {
+            codes.push(String::from_utf8_lossy(&rest[36..41]).into_owned());
+        }
+        list = &rest[table(kind).1.len()..];
+    }
+    codes
+}
+
+/// Document 02, E4, in writing: a code and none in either order, under H and
+/// under Q; each byte, and the second and the last of three, under H.
+#[test]
+fn company_codes_differ_in_every_way() {
+    let (input, output) = list_files();
+    let given = given(&input, &output);
+    let shown = |letter: u8, codes_due: &[&str], due: &str| {
+        let named = |case: &&Given| case.name.starts_with("code: ");
+        let mut named = given.iter().filter(named);
+        named.any(|case| {
+            let line = case.asked[0].1;
+            case.bytes[0] == letter && codes(&case.bytes) == codes_due && line.starts_with(due)
+        })
+    };
+    let (code, none) = ("AB123", "     ");
+    let at_9 = "refused 11 record 9 position 92 ";
+    for letter in *b"HQ" {
+        assert!(shown(letter, &[none, none], "accepted "));
+        assert!(shown(letter, &[none, code], at_9));
+        assert!(shown(letter, &[code, none], at_9));
+        assert!(shown(
+            letter,
+            &[code, none],
+            "refused 5 record 9 position 53 "
+        ));
+    }
+    for other in [
+        "BB123", "AC123", "AB223", "AB133", "AB124", "aB123", "AB12 ", " AB12",
+    ] {
+        assert!(shown(b'H', &[code, other], at_9), "{other}");
+    }
+    assert!(shown(b'H', &[code, none, code], at_9));
+    for codes in [[code, code, none], [none, none, code]] {
+        assert!(shown(b'H', &codes, "refused 11 record 16 position 92 "));
     }
 }
 

@@ -33,18 +33,6 @@ fn with_zero(record: usize) -> [Flow; 2] {
     ]
 }
 
-/// Three rents of 45000 cents, requests or recalls.
-fn three(recalls: bool) -> Flow {
-    let mut records = vec![header()];
-    for number in ["0000001", "0000002", "0000003"] {
-        let rent = first_rent(number);
-        records.extend(if recalls { recall(rent) } else { rent });
-    }
-    let end = if recalls { recall_trailer } else { trailer };
-    records.push(end("0000003", "000000000135000", "0000023"));
-    Flow(records)
-}
-
 #[test]
 fn number_25_at_the_record_and_34() {
     for record in [2, 9] {
@@ -59,15 +47,21 @@ fn number_25_at_the_record_and_34() {
     }
     for recalls in [false, true] {
         let place = if recalls { 68 } else { 53 };
-        for record in [2, 9, 16] {
-            let flow = three(recalls).with(record, 34, ZERO);
-            let agreed = flow.clone().with(23, place, b"000000000090000");
+        for (record, total) in [
+            (2, b"000000000083050"),
+            (9, b"000000000090000"),
+            (16, b"000000000083050"),
+        ] {
+            let flow = three_rents(recalls).with(record, 34, ZERO);
+            let agreed = flow.clone().with(23, place, total);
             assert_eq!(flow.read(), refused(25, record as u64, 34));
             assert_eq!(agreed.read(), refused(25, record as u64, 34));
         }
-        let all = [2, 9, 16].into_iter().fold(three(recalls), |flow, record| {
-            flow.with(record, 34, ZERO).with(23, place, &[b'0'; 15])
-        });
+        let all = [2, 9, 16]
+            .into_iter()
+            .fold(three_rents(recalls), |flow, record| {
+                flow.with(record, 34, ZERO).with(23, place, &[b'0'; 15])
+            });
         assert_eq!(all.read(), refused(25, 2, 34));
     }
 }
@@ -213,22 +207,11 @@ fn other_zeros_are_as_before() {
 }
 
 /// The list of the two rents with bytes put into the D of the first or of the
-/// second, by the position in the record: 34-46 stand 7 bytes after its kind.
+/// second.
 fn list_with(rent: usize, position: usize, bytes: &[u8]) -> Vec<u8> {
     let mut list = two_rents_list();
     put_item(&mut list, rent, position, bytes);
     list
-}
-
-fn put_item(list: &mut [u8], rent: usize, position: usize, bytes: &[u8]) {
-    let offset = match position {
-        23..=28 => position - 22,
-        34..=46 => position - 27,
-        53..=69 => position - 33,
-        _ => position - 55,
-    };
-    let at = 50 + 593 * (rent - 1) + offset;
-    list[at..at + bytes.len()].copy_from_slice(bytes);
 }
 
 #[test]
@@ -471,9 +454,7 @@ fn evenings_have_the_old_flows_25_then_the_new_flows() {
 
 /// The amounts of the records 14 of a flow, as texts.
 fn amounts(flow: &[u8]) -> Vec<&[u8]> {
-    let records = flow.chunks(120);
-    let openings = records.filter(|record| record.len() == 120 && record[1..3] == *b"14");
-    openings.map(|record| &record[33..46]).collect()
+    in_openings(flow, 34, 46)
 }
 
 /// Right flows have no amount of zero, and the least and the largest often.

@@ -280,28 +280,13 @@ fn number_11_company_codes() {
     assert_eq!(two_rents().with(9, 92, b"AB124").read(), refused(11, 9, 92));
     assert_eq!(two_rents().with(9, 92, b"    A").read(), refused(11, 9, 92));
     assert_eq!(two_rents().with(2, 92, b"AB12 ").read(), refused(11, 9, 92));
+    // Document 02, E4: blanks are a content like any other.
     for record in [2, 9] {
         let flow = two_rents().with(record, 92, b"     ");
-        assert_eq!(flow.read(), accepted(2, 83_050, 16));
+        assert_eq!(flow.read(), refused(11, 9, 92));
     }
-    // A blank code between two others does not reset the latest one present.
-    let three = |codes: [&[u8]; 3]| {
-        let mut records = vec![header()];
-        for (number, code) in ["0000001", "0000002", "0000003"].into_iter().zip(codes) {
-            let mut block = first_rent(number);
-            block[0][91..96].copy_from_slice(code);
-            records.extend(block);
-        }
-        records.push(trailer("0000003", "000000000135000", "0000023"));
-        Flow(records).read()
-    };
-    let right = accepted(3, 135_000, 23);
-    assert_eq!(three([b"AB123", b"     ", b"AB123"]), right);
-    assert_eq!(three([b"     ", b"     ", b"XY999"]), right);
-    assert_eq!(three([b"     ", b"     ", b"     "]), right);
-    assert_eq!(three([b"AB123", b"     ", b"AB124"]), refused(11, 16, 92));
-    assert_eq!(three([b"     ", b"AB123", b"AB124"]), refused(11, 16, 92));
-    assert_eq!(three([b"AB124", b"AB123", b"AB123"]), refused(11, 9, 92));
+    let none = two_rents().with(2, 92, b"     ").with(9, 92, b"     ");
+    assert_eq!(none.read(), accepted(2, 83_050, 16));
 }
 
 #[test]

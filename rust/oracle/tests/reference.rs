@@ -1,6 +1,6 @@
 //! The reader against a second statement of the same rules: all faults of a
 //! record are gathered in no order at all, and the first is chosen by the
-//! order of documents 01 and 02 (E1, E5). Compared on every single byte put
+//! order of documents 01 and 02 (E1, E4, E5). Compared on every single byte put
 //! anywhere, and on generated flows. The digit and date rules are those of
 //! `fields`, which has tests of its own.
 
@@ -171,11 +171,7 @@ impl<'a> Found<'a> {
                     _ => self.fault_if(true, 6, 29),
                 }
                 self.fault_if(causale != &openings[0][28..33], 22, 29);
-                let codes = openings.iter().rev().skip(1).map(|o| &o[91..96]);
-                let latest = codes.clone().find(|code| *code != b"     ");
-                let code = self.at(92, 96);
-                let differs = code != b"     " && latest.is_some_and(|l| l != code);
-                self.fault_if(differs, 11, 92);
+                self.equal(92, 96, &openings[0][91..96], 11);
                 if self.at(53, 57) != b"     " {
                     self.digits(53, 57);
                 }
@@ -300,6 +296,39 @@ fn zeros_in_every_mixture() {
                     .clone()
                     .with(2, 34, one)
                     .with(9, 34, other)
+                    .with(9, position, bytes);
+                let due = reference(&flow.bytes());
+                assert_eq!(flow.read(), due, "{one:?} {other:?} {position}");
+            }
+        }
+    }
+}
+
+/// Two dispositions with every mixture of codes, blanks among them, beside a
+/// wrong causale, ABI or other field of the second.
+#[test]
+fn codes_in_every_mixture() {
+    let codes = [
+        b"AB123", b"ab123", b" AB12", b"AB12 ", b"     ", b"A    ", b"    A", b"  A  ", b"0    ",
+    ];
+    let beside: [(usize, &[u8]); 9] = [
+        (1, b" "),
+        (4, b"0000003"),
+        (29, b"07200"),
+        (34, b"0000000000000"),
+        (48, b"01235"),
+        (53, b"     "),
+        (57, b" "),
+        (97, b"0"),
+        (120, b"\n"),
+    ];
+    for right in [two_rents(), two_recalls()] {
+        for (one, other) in codes.into_iter().flat_map(|o| codes.map(|p| (o, p))) {
+            for (position, bytes) in beside {
+                let flow = right
+                    .clone()
+                    .with(2, 92, one)
+                    .with(9, 92, other)
                     .with(9, position, bytes);
                 let due = reference(&flow.bytes());
                 assert_eq!(flow.read(), due, "{one:?} {other:?} {position}");

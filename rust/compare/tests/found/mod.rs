@@ -10,7 +10,7 @@ pub fn found(wrong: Side) -> String {
         proved: &second,
         second: wrong,
     };
-    run(&sides, 1, 100_000).expect_err("the fault is found")
+    run(&sides, 1, 1_000_000).expect_err("the fault is found")
 }
 
 /// What is printed when both sides are wrong in the same way.
@@ -19,7 +19,7 @@ pub fn found_in_both(wrong: Side) -> String {
         proved: wrong,
         second: wrong,
     };
-    run(&sides, 1, 100_000).expect_err("the fault is found")
+    run(&sides, 1, 1_000_000).expect_err("the fault is found")
 }
 
 /// All the texts are printed, at most so many rows of bytes, and at the end

@@ -218,6 +218,42 @@ pub fn two_recalls() -> Flow {
     Flow(records)
 }
 
+/// Three rents of 45000, 38050 and 45000 cents, requests or recalls: 23 records.
+pub fn three_rents(recalls: bool) -> Flow {
+    let rents = [
+        first_rent("0000001"),
+        second_rent("0000002"),
+        first_rent("0000003"),
+    ];
+    let mut records = vec![header()];
+    for rent in rents {
+        records.extend(if recalls { recall(rent) } else { rent });
+    }
+    let end = if recalls { recall_trailer } else { trailer };
+    records.push(end("0000003", "000000000128050", "0000023"));
+    Flow(records)
+}
+
+/// What the records 14 of a flow have at these positions.
+pub fn in_openings(flow: &[u8], first: usize, last: usize) -> Vec<&[u8]> {
+    let records = flow.chunks(120);
+    let openings = records.filter(|record| record.len() == 120 && record[1..3] == *b"14");
+    openings.map(|record| &record[first - 1..last]).collect()
+}
+
+/// Puts bytes into the D of a rent, by the position in the record. Each rent of
+/// the list has 593 bytes.
+pub fn put_item(list: &mut [u8], rent: usize, position: usize, bytes: &[u8]) {
+    let offset = match position {
+        23..=28 => position - 22,
+        34..=46 => position - 27,
+        53..=69 => position - 33,
+        _ => position - 55,
+    };
+    let at = 50 + 593 * (rent - 1) + offset;
+    list[at..at + bytes.len()].copy_from_slice(bytes);
+}
+
 /// One rent recalled.
 pub fn one_recall() -> Flow {
     let mut records = vec![header()];

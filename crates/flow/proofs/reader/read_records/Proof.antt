@@ -75,7 +75,7 @@ loop-again c =
     let numbered : NumberBefore (walked .result) (recordAt (suc i - 1) flow) = rw (walk-so, back) (numbered-saturated _ _ _ _ _ _ _ (record-whole flow i (within .loop-test .taken)) told) in (
       passed .ensures .within,
       at .loop .inv .1,
-      rw (c .before .before .before .latest-company .ensures .0, c .before .before .before .before .field .ensures .0, handed at)
+      rw (c .before .before .before .first-company .ensures .0, c .before .before .before .before .field .ensures .0, handed at)
           (pass-on flow (walked .result) (rw walk-so (go-on (at .loop .inv .2) _ _ (cut-next _ _ _ (within .loop-test .taken)) _ _ told)) numbered (rw add-one at (passed .ensures))),
     )
 

@@ -8,13 +8,13 @@ use native.Mathlib.Omega.{arith}
 use lib.ListN.{length}
 use borrow.Author.Needs.{needs}
 use Rattle.fields.specs.Digits.{digits}
+use Rattle.records.specs.Company.{companySpan}
 use Rattle.records.specs.Context.{Header, headerOf}
-use Rattle.records.specs.Field.{_to_, field}
+use Rattle.records.specs.Field.{field}
 use Rattle.records.specs.Kinds.{opened}
 use Rattle.records.specs.RecordVerdict.{judgedVerdict}
 use Rattle.records.specs.Limits.{mostRecords}
-use Rattle.records.specs.declared.kind.RecordKind.{RecordKind}
-use Rattle.flow.specs.Walking.{step, latestOf, judgeRecord, saturated}
+use Rattle.flow.specs.Walking.{step, firstCompany, judgeRecord, saturated}
 use Rattle.list.specs.Encode.{carriedAt, HeaderMeant, encodeItem, bodyMeant, headerAfter}
 use Rattle.list.specs.Items.{item, itemsIn}
 use Rattle.list.specs.Table.{recordOf, bodyLength}
@@ -118,28 +118,28 @@ returns c =
     rw add-one (judging-refused (l .loop .inv .2) (c .before .before .before .before .before .before .before .before .before .before .before .before .before .loop-test .taken) _ (c .before .before .before .before .before .before .before .before .before .before .before .kind-of .ensures) _ _ told)
 
 loop-less : tie.Need-loop-less Inv-loop μ-loop
-loop-less c = omega (arith, turn-so (c .before .before .before .before .before .before .before .before .before .before .before .before .before .before .before .before .before) .ends, c .before .before .before .before .before .before .before .before .before .before .before .before .before .before .before .before .before .before .before .before .loop-test .taken)
+loop-less c = omega (arith, turn-so (c .before .before .before .before .before .before .before .before .before .before .before .before .before .before .before) .ends, c .before .before .before .before .before .before .before .before .before .before .before .before .before .before .before .before .before .before .loop-test .taken)
 
 loop-again : tie.Need-loop-again Inv-loop μ-loop
 loop-again c =
-    let l = c .before .before .before .before .before .before .before .before .before .before .before .before .before .before .before .before .before .before .before .before .before in
+    let l = c .before .before .before .before .before .before .before .before .before .before .before .before .before .before .before .before .before .before .before in
     let list = list-of l in
     let i = l .loop .at in
-    let b = c .before .before .before .before .before .before .before .before .before .before .before .before .before .before .before .before .before in
+    let b = c .before .before .before .before .before .before .before .before .before .before .before .before .before .before .before in
     let k = b .before .kind-of .result in
     let t = turn-so b in
-    let told = found (c .before .before .before .before .before .before .before .before .before .before) ∙ ap judgedVerdict (c .before .before .before .before .before .before .before .before .right .given .1) in
-    let on = judging-on (l .loop .inv .2) (c .before .before .before .before .before .before .before .before .before .before .before .before .before .before .before .before .before .before .before .before .loop-test .taken) k (b .before .kind-of .ensures) _ _ told in
+    let told = found (c .before .before .before .before .before .before .before .before) ∙ ap judgedVerdict (c .before .before .before .before .before .before .right .given .1) in
+    let on = judging-on (l .loop .inv .2) (c .before .before .before .before .before .before .before .before .before .before .before .before .before .before .before .before .before .before .loop-test .taken) k (b .before .kind-of .ensures) _ _ told in
     let end : i + 1 + bodyLength k ≡ i + 1 + b .body-length .result = omega (arith, t .size-so) in
-    let number : l .loop .dispositions + opened (recordOf k) ≡ c .before .before .before .before .before .before .before .before .before .before .before .before .before .before .before .dispositions-with .result = sym (c .before .before .before .before .before .before .before .before .before .before .before .before .before .before .before .dispositions-with .ensures) in
+    let number : l .loop .dispositions + opened (recordOf k) ≡ c .before .before .before .before .before .before .before .before .before .before .before .before .before .dispositions-with .result = sym (c .before .before .before .before .before .before .before .before .before .before .before .before .before .dispositions-with .ensures) in
     let body : bodyMeant (l .loop .header .now) (itemAt list i k) ≡ c .body-meant .result .now = sym (c .body-meant .ensures ∙ ap (λ (body : List ℕ). bodyMeant (l .loop .header .now) (item k body)) (t .body-so)) in
     let meant : headerAfter (header-at l) (itemAt list i k) ≡ record { kind = c .before .kind-meant .result; body = c .body-meant .result .now } = λ j. record { kind = sym (c .before .kind-meant .ensures) j; body = body j } in
-    let right = c .before .before .before .before .before .before .before .before .right .given .0 .0 in
+    let right = c .before .before .before .before .before .before .right .given .0 .0 in
     let walk-so : c .before .before .next .result ≡ saturated (step (l .loop .walk) (right .kind) (right .cents) (encodeItem (l .loop .dispositions + opened (recordOf k)) (header-at l) (itemAt list i k))) =
-    c .before .before .next .ensures ∙ ap (λ (rec : List ℕ). saturated (step (l .loop .walk) (right .kind) (right .cents) rec)) (built (c .before .before .before .before .before .before .before .before .before .before .before .before)) in
-    let company : latestOf (recordOf k) (l .loop .company .now) (carriedAt D (92 to 96) (itemAt list i k .body)) ≡ c .before .before .before .before .latest-company .result .now =
-    sym (c .before .before .before .before .latest-company .ensures .0 ∙ ap₂ (λ (m : RecordKind) (code : List ℕ). latestOf m (l .loop .company .now) code) (c .before .before .before .before .before .record-of .ensures) (c .before .before .before .before .before .before .field .ensures .0 ∙ ap (field 37 41) (t .body-so))) in
-    (omega (arith, t .ends), l .loop .inv .1, subst (λ (A : Type 0). A) (λ j. JudgingAt (header-of l) list (end j) (sym (add-one (l .loop .n)) j) (number j) (meant j) (sym walk-so j) (company j)) on, c .before .before .before .before .before .before .before .before .before .before .before .before .before .before .shown-with .ensures)
+    c .before .before .next .ensures ∙ ap (λ (rec : List ℕ). saturated (step (l .loop .walk) (right .kind) (right .cents) rec)) (built (c .before .before .before .before .before .before .before .before .before .before)) in
+    let company : firstCompany (l .loop .company .now) (recordOf k) (carriedAt D companySpan (itemAt list i k .body)) ≡ c .before .before .before .before .company-after .result .now =
+    sym (c .before .before .before .before .company-after .ensures ∙ ap (λ (code : List ℕ). firstCompany (l .loop .company .now) (recordOf k) (field 37 41 code)) (t .body-so)) in
+    (omega (arith, t .ends), l .loop .inv .1, subst (λ (A : Type 0). A) (λ j. JudgingAt (header-of l) list (end j) (sym (add-one (l .loop .n)) j) (number j) (meant j) (sym walk-so j) (company j)) on, c .before .before .before .before .before .before .before .before .before .before .before .before .shown-with .ensures)
 
 close-requires : tie.Need-close-requires Inv-loop μ-loop
 close-requires c κs = few-so (c .before) .1
@@ -179,8 +179,6 @@ judge-records-spec =
     (search needs)
     (search needs)
     returns
-    (search needs)
-    (search needs)
     (search needs)
     (search needs)
     (search needs)

@@ -1,20 +1,19 @@
 -- `records::judge_disposition` meets its contract: each return is the first check that fails, and `past-p` is the place after the checks of position p. Assumes nothing.
-use Prim.Native.Nat.{ℕ}
 use mathlib.Core.List.{List, [], _++_}
 use mathlib.Core.Path.{_≡_, refl, sym, _∙_, ap}
-use native.Mathlib.Omega.{arith}
 use borrow.Author.Needs.{needs}
 use borrow.Author.Tests.{not-true, not-false}
 use Rattle.fields.specs.FieldVerdict.{numberVerdict}
 use Rattle.fields.specs.Digits.{number}
 use Rattle.records.specs.Amount.{amountIn}
-use Rattle.records.specs.Checks.{agrees, numberChecks, paymentChecks, codeChecks}
+use Rattle.records.specs.Checks.{numberChecks, paymentChecks, codeChecks}
+use Rattle.records.specs.Company.{companyIn, agrees}
 use Rattle.records.specs.Context.{headerOf}
 use Rattle.records.specs.RecordVerdict.{RecordVerdict, right, Check, firstFault, judgedVerdict}
 use Rattle.records.specs.declared.judged.Judged.the-variants.{Right, Refused}
 use Rattle.records.specs.declared.kind.RecordKind.the-variants.{R14}
 use Rattle.records.proofs.FirstFault.{Reached, enter, pass, pass-row, pass-all, stop, stop-all, done, kept-front, kept-all}
-use Rattle.records.proofs.FieldTests.{fits, digits-both, stop-digits}
+use Rattle.records.proofs.FieldTests.{digits-both, stop-digits}
 use Rattle.records.proofs.RightOrBroken.{broken}
 use Rattle.records.proofs.disposition.judge_disposition.Statement.{statement}
 use Rattle.records.proofs.disposition.judge_disposition.Tie as tie
@@ -62,11 +61,15 @@ returns-3 c = stop (past-48 (c .before .before)) (sym (c .before .blank-or-digit
 abbrev past-53 : tie.Else1 → Reached
 past-53 c = pass (past-48 (c .before .before)) (sym (c .before .blank-or-digits .ensures) ∙ not-false _ (c .if1 .left))
 
+-- its company code, as it stands in the record
+code-tested : (c : tie.After-agreeing) → let a = c .before .before .before .before .before .before .before .before .before .before .before .before .before .before .args in c .agreeing .result ≡ agrees (a .company .now) (companyIn (a .rec .now))
+code-tested c = c .agreeing .ensures ∙ ap (agrees (c .before .before .before .before .before .before .before .before .before .before .before .before .before .before .args .company .now)) (c .before .field .ensures .0)
+
 returns-4 : tie.Need-returns-4
-returns-4 c = stop (past-53 (c .before .before .before)) (sym (c .before .agreeing .ensures ∙ ap (agrees _) (c .before .before .field .ensures .0)) ∙ not-true _ (c .if2 .taken))
+returns-4 c = stop (past-53 (c .before .before .before)) (sym (code-tested (c .before)) ∙ not-true _ (c .if2 .taken))
 
 abbrev past-92 : tie.Else2 → Reached
-past-92 c = pass (past-53 (c .before .before .before)) (sym (c .before .agreeing .ensures ∙ ap (agrees _) (c .before .before .field .ensures .0)) ∙ not-false _ (c .if2 .left))
+past-92 c = pass (past-53 (c .before .before .before)) (sym (code-tested (c .before)) ∙ not-false _ (c .if2 .left))
 
 returns-5 : tie.Need-returns-5
 returns-5 c = stop (past-92 (c .before .before .before)) (sym (c .before .listed .ensures) ∙ not-true _ (c .if3 .taken))
