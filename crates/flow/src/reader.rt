@@ -20,6 +20,8 @@ use crate::fast_path::pass_over;
 use crate::limits::MOST_BYTES;
 use crate::refusals::ENDED;
 use crate::walk::Walk;
+use records::COMPANY_FIRST;
+use records::COMPANY_LAST;
 use records::Judged;
 use records::RecordKind;
 use records::WRONG_LENGTH;
@@ -72,7 +74,8 @@ fn read_records(flow: &[u8], header: &[u8]) -> Answer
             }
             Judged::Right(right) => {
                 let kind = right.kind;
-                let first = first_company(company, field(rec, 92, 96), kind);
+                let code = field(rec, COMPANY_FIRST, COMPANY_LAST);
+                let first = first_company(company, code, kind);
                 company = first;
                 walk = walk.next(right, rec);
             }

@@ -1,6 +1,6 @@
 // The fixed contents of records, compared when a record is read and written when a list is encoded
-// (document 01, "Language forms in the code"), and the positions of the amount. What depends on the
-// kind of flow is in `flow_kind`.
+// (document 01, "Language forms in the code"), and the positions of the amount and of the company code.
+// What depends on the kind of flow is in `flow_kind`.
 
 // The types, as they stand at 2-3; `type_of` gives them to other crates.
 pub(crate) const TYPE_IM: [u8; 2] = *b"IM";
@@ -31,3 +31,8 @@ pub const CURRENCY: [u8; 1] = *b"E";
 pub const AMOUNT_FIRST: usize = 34;
 
 pub const AMOUNT_LAST: usize = 46;
+
+// And of the company code.
+pub const COMPANY_FIRST: usize = 92;
+
+pub const COMPANY_LAST: usize = 96;

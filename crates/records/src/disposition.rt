@@ -8,6 +8,8 @@ ghost use Rattle.records.specs.Checks.{numberChecks, paymentChecks, disp
 ghost use Rattle.records.specs.Context.{headerOf};
 ghost use Rattle.records.specs.RecordVerdict.{right, firstFault, judgedVerdict};
 ghost use Rattle.records.specs.declared.kind.RecordKind.the-variants.{R14};
+use crate::constants::COMPANY_FIRST;
+use crate::constants::COMPANY_LAST;
 use crate::constants::CURRENCY;
 use crate::flow_kind::KindFound;
 use crate::flow_kind::is_of;
@@ -56,7 +58,7 @@ pub(crate) fn judge_disposition(
     if !blank_or_digits(rec, 53, 57) {
         return Judged::Refused(NOT_DIGITS, 53);
     }
-    if !agreeing(company, field(rec, 92, 96)) {
+    if !agreeing(company, field(rec, COMPANY_FIRST, COMPANY_LAST)) {
         return Judged::Refused(OTHER_COMPANY, 92);
     }
     if !listed(rec, 97, b" 1234569") {

@@ -25,6 +25,8 @@ mod trailer;
 pub use bytes::bad_byte;
 pub use constants::AMOUNT_FIRST;
 pub use constants::AMOUNT_LAST;
+pub use constants::COMPANY_FIRST;
+pub use constants::COMPANY_LAST;
 pub use constants::CURRENCY;
 pub use flow_kind::FlowKind;
 pub use flow_kind::KindFound;

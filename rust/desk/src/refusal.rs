@@ -100,7 +100,8 @@ pub fn in_flow(refusal: &Refusal, flow: &[u8]) -> String {
     let opening = nth(records.clone(), OPENING);
     match nth(records, number) {
         Some(record) => {
-            let note = note(refusal, record, opening, "record 2, the first of its type,");
+            let named = format!("record {OPENING}, the first of its type,");
+            let note = note(refusal, record, opening, &named);
             picture(&title, record, refusal.position, &note)
         }
         None => String::new(),
@@ -146,7 +147,8 @@ fn item(refusal: &Refusal, list: &[u8], title: impl Fn(&ItemKind) -> String) -> 
     let (kind, record) = placed(list, refusal.record)?;
     let opening = placed(list, OPENING).map(|(_, record)| record);
     let opening = opening.as_ref().map(|record| &record[..]);
-    let note = note(refusal, &record, opening, "item 2, the first of its kind,");
+    let named = format!("item {OPENING}, the first of its kind,");
+    let note = note(refusal, &record, opening, &named);
     Some(picture(&title(kind), &record, refusal.position, &note))
 }
 
