@@ -7,4 +7,4 @@ pub mod RecordsAround
 pub mod Renumbering
 pub mod RulesKept
 pub mod Unchanged
-pub mod Withdrawn
+pub mod WithdrawnLemmas

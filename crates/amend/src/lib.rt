@@ -5,6 +5,8 @@
 // come from the numbers that the reader has judged and from the call, never from bytes that were
 // moved: a block copied twice could not agree with the trailer. No public function has a `requires`,
 // and a refused call changes no byte.
+#![tactic(auto)]
+
 mod amount;
 mod digits;
 mod refusals;

@@ -17,7 +17,7 @@ use records::{seven_digits, total_first, total_last, write_number};
 
 // What a withdrawal answers: the totals of the flow left and its length; or the refusal, and the
 // length that it was lent.
-#[derive(Drop)]
+#[derive(Clone, Copy)]
 pub struct Withdrawn {
     pub answer: Answer,
     pub length: u64,

@@ -6,6 +6,8 @@
 // length where the call has one, else 0; then the kind of flow, 1 requests and 2 recalls, where an
 // accepted call tells it, else 0; then three zeros. No function has a `requires`, and a refused
 // call writes nothing but `answer`.
+#![tactic(auto)]
+
 ghost use Rattle.std.specs.Prelude.{◌≡◌, length};
 ghost use Rattle.fields.specs.Amount.{amount_field};
 ghost use Rattle.fields.specs.FieldVerdict.{number_verdict};

@@ -7,6 +7,8 @@
 // have the same number. The working memory holds, for each two places, how many requests can still be kept
 // from there on; it is zero after an accepted call. No public function has a `requires`, and a refused call
 // changes nothing.
+#![tactic(auto)]
+
 mod account;
 mod account_line;
 mod comparison;

@@ -9,14 +9,14 @@ use flow::{Answer, Refusal, Totals};
 use records::FlowKind;
 
 // The two flows are right and can be compared; or refused.
-#[derive(Drop)]
+#[derive(Clone, Copy)]
 pub(crate) enum Pair {
     Right(Sides),
     Refused(Refusal),
 }
 
 // The kind of both flows, and how many requests each has.
-#[derive(Drop)]
+#[derive(Clone, Copy)]
 pub(crate) struct Sides {
     pub kind: FlowKind,
     pub old: u64,

@@ -8,7 +8,7 @@ use crate::refusals::{NO_SUCH_DAY, NOT_DIGITS};
 use crate::{Number, read_digits};
 
 // What a date answers: its day of the calendar, or the number of the refusal.
-#[derive(Drop)]
+#[derive(Clone, Copy)]
 pub enum Date {
     On { day: u64, month: u64, year: u64 },
     Refused(u64),

@@ -8,7 +8,7 @@ use crate::limits::MOST_DIGITS;
 use crate::refusals::NOT_DIGITS;
 
 // What a digit field or an amount answers: its number, or the number of the refusal.
-#[derive(Drop)]
+#[derive(Clone, Copy)]
 pub enum Number {
     Value(u64),
     Refused(u64),

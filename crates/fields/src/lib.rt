@@ -3,6 +3,8 @@
 //
 // No public function has a `requires`: whatever bytes it is given, it ends with an answer, and its
 // contract says which. Only `write_digits` changes a byte. A refusal is its number alone.
+#![tactic(auto)]
+
 mod amount;
 mod calendar;
 mod compare;

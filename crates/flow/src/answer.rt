@@ -5,7 +5,7 @@ ghost use Rattle.flow.specs.Verdict.{of_call};
 use records::FlowKind;
 
 // Accepted, with the flow's totals; or refused, by its first fault.
-#[derive(Drop)]
+#[derive(Clone, Copy)]
 pub enum Answer {
     Accepted(Totals),
     Refused(Refusal),
@@ -13,7 +13,7 @@ pub enum Answer {
 
 // The kind of flow, the count of dispositions, the sum of their amounts in cents, and the count of
 // records.
-#[derive(Drop)]
+#[derive(Clone, Copy)]
 pub struct Totals {
     pub kind: FlowKind,
     pub dispositions: u64,
@@ -24,7 +24,7 @@ pub struct Totals {
 // The number of a refusal, and the record and the position of the fault: both 0 where it is of the call
 // and of no record. The position is 0 too where a record is missing (4), or where an item is none (20,
 // whose record is the item).
-#[derive(Drop)]
+#[derive(Clone, Copy)]
 pub struct Refusal {
     pub number: u64,
     pub record: u64,

@@ -10,7 +10,7 @@ use crate::walk::Walk;
 use records::{RecordKind, field};
 
 // The walk after the records that were passed over, and the index of the next one.
-#[derive(Drop)]
+#[derive(Clone, Copy)]
 pub(crate) struct Passed {
     pub walk: Walk,
     pub index: usize,

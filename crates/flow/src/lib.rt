@@ -5,6 +5,8 @@
 //
 // The flow is read in place: each record is handed to the record rules as the part of 120 bytes that
 // it is, and nothing of it is copied. No public function has a `requires`, and none changes a byte.
+#![tactic(auto)]
+
 mod answer;
 mod casts;
 mod fast_path;

@@ -13,14 +13,14 @@ use crate::refusals::NO_DISPOSITION;
 use fields::Number;
 
 // Where disposition k stands; or refused.
-#[derive(Drop)]
+#[derive(Clone, Copy)]
 pub enum Found {
     At(Location),
     Refused(Refusal),
 }
 
 // The first record of a disposition, counted from 1, the number of its records and its amount in cents.
-#[derive(Drop)]
+#[derive(Clone, Copy)]
 pub struct Location {
     pub first: u64,
     pub records: u64,
@@ -28,14 +28,14 @@ pub struct Location {
 }
 
 // The totals of an accepted flow, and where disposition k stands in it; or refused.
-#[derive(Drop)]
+#[derive(Clone, Copy)]
 pub enum FoundWithTotals {
     At(WithTotals),
     Refused(Refusal),
 }
 
 // The flow's totals, and where one of its dispositions is.
-#[derive(Drop)]
+#[derive(Clone, Copy)]
 pub struct WithTotals {
     pub totals: Totals,
     pub location: Location,

@@ -6,7 +6,7 @@ ghost use Rattle.flow.specs.Order.{permitted, place_after, among};
 use records::RecordKind;
 
 // What may come next: a type, one of two, or nothing after the trailer.
-#[derive(Drop)]
+#[derive(Clone, Copy)]
 pub enum Due {
     OnlyIm,
     OnlyR14,
@@ -24,14 +24,14 @@ pub enum Due {
 
 // A place in the flow: what may come next, and, where a further 59 may come, how many stand right
 // before it; else 0.
-#[derive(Drop)]
+#[derive(Clone, Copy)]
 pub struct Place {
     pub due: Due,
     pub further: u64,
 }
 
 // The kind that a record was found to be of, among those permitted.
-#[derive(Drop)]
+#[derive(Clone, Copy)]
 pub(crate) enum TypeFound {
     Of(RecordKind),
     Missing,

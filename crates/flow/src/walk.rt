@@ -18,7 +18,7 @@ use records::{Counts, Judged, KindFound, Record, RecordKind, WRONG_LENGTH};
 // What may come next; the kind of flow, unknown until the first record 14; the dispositions so far and
 // the cents so far. The counts stop one above what the trailer's digits hold, so that every state has a
 // next one; of an accepted flow they are exact.
-#[derive(Drop)]
+#[derive(Clone, Copy)]
 pub struct Walk {
     pub place: Place,
     pub kind: KindFound,

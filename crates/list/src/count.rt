@@ -6,7 +6,7 @@ use crate::table::{Row, body_length, row_of};
 
 // How many items a list has, or the number of the first that is none: its kind byte is unknown, or its
 // body is cut short.
-#[derive(Drop)]
+#[derive(Clone, Copy)]
 pub(crate) enum Count {
     Items(usize),
     Faulty(u64),

@@ -6,7 +6,7 @@ use flow::{Answer, Refusal, Totals};
 
 // The answer of the flow that was written or read back, and the length written: 0 where the call is
 // refused.
-#[derive(Drop)]
+#[derive(Clone, Copy)]
 pub struct Filled {
     pub answer: Answer,
     pub length: u64,

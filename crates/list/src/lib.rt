@@ -4,6 +4,8 @@
 // A list is judged before a byte of the output is written: each record is built in an array of 120
 // blanks and handed to the rules and the walk that read a flow. No public function has a `requires`; a
 // refused call changes no byte, and an accepted one none beyond the length that it answers.
+#![tactic(auto)]
+
 mod count;
 mod encode;
 mod filled;

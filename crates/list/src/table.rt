@@ -11,7 +11,7 @@ use records::{FlowKind, RecordKind};
 
 // The kinds of item, by their kind bytes. The header's item tells the kind of flow: H is one of
 // requests, Q one of recalls.
-#[derive(Drop)]
+#[derive(Clone, Copy)]
 pub(crate) enum ItemKind {
     H(FlowKind),
     D,
@@ -26,7 +26,7 @@ pub(crate) enum ItemKind {
 }
 
 // The row of the table that was looked for, by its kind of item; or the table has none.
-#[derive(Drop)]
+#[derive(Clone, Copy)]
 pub(crate) enum Row {
     Of(ItemKind),
     Missing,

@@ -9,14 +9,14 @@ ghost use Rattle.records.specs.FlowKinds.{causale, sign, total_span, total_at, k
 
 use crate::position::field;
 
-#[derive(Drop)]
+#[derive(Clone, Copy)]
 pub enum FlowKind {
     Requests,
     Recalls,
 }
 
 // The kind of a flow, as far as its records have told it; or the kind whose causale a record has.
-#[derive(Drop)]
+#[derive(Clone, Copy)]
 pub enum KindFound {
     Of(FlowKind),
     Unknown,

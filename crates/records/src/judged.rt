@@ -3,14 +3,14 @@ use crate::kind::RecordKind;
 
 // A record that keeps its rules: its kind, and the cents that it asks for, which is the amount of a
 // 14 and 0 of every other.
-#[derive(Drop)]
+#[derive(Clone, Copy)]
 pub struct Record {
     pub kind: RecordKind,
     pub cents: u64,
 }
 
 // A right record, or its first fault: the number of the refusal, then the field's first position.
-#[derive(Drop)]
+#[derive(Clone, Copy)]
 pub enum Judged {
     Right(Record),
     Refused(u64, u64),
@@ -18,7 +18,7 @@ pub enum Judged {
 
 // The dispositions up to and with a record, the cents of the amounts before it, and the records up
 // to and with it.
-#[derive(Drop)]
+#[derive(Clone, Copy)]
 pub struct Counts {
     pub dispositions: u64,
     pub cents: u64,

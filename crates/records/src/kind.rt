@@ -6,7 +6,7 @@ ghost use Rattle.records.specs.Kinds.{heads as Kinds-heads, opens as Kinds-opens
 use crate::constants;
 use crate::position::field;
 
-#[derive(Drop)]
+#[derive(Clone, Copy)]
 pub enum RecordKind {
     Im,
     R14,

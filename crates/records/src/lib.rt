@@ -5,6 +5,8 @@
 // A record is judged by its own bytes. What a rule needs from elsewhere in the flow, the header,
 // the company code, the kind of flow and the counts so far, is handed in. No public function has a
 // `requires`, and none but `write_number` changes a byte.
+#![tactic(auto)]
+
 mod bytes;
 mod constants;
 mod coordinates;

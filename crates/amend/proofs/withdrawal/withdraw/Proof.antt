@@ -14,7 +14,7 @@ use Rattle.flow.specs.declared.location.WithTotals.{WithTotals}
 use Rattle.amend.specs.Withdraw.{renumbered_from, totals_left, withdrawn}
 use Rattle.amend.proofs.FoundFacts.{FoundFacts, found_facts}
 use Rattle.amend.proofs.Unchanged.{withdraw-found, left-unchanged}
-use Rattle.amend.proofs.Withdrawn.{withdrawn_so}
+use Rattle.amend.proofs.WithdrawnLemmas.{withdrawn_so}
 use Rattle.amend.proofs.withdrawal.withdraw.Statement.{statement}
 use Rattle.amend.proofs.withdrawal.withdraw.Tie as tie
 
