@@ -1,0 +1,32 @@
+-- `fields::read_amount` meets its contract. Assumes nothing.
+use mathlib.Core.Path.{◌≡◌, sym, ◌∙◌, ap}
+use mathlib.Core.Bool.{Bool, cond}
+use mathlib.Core.List.{List}
+use Prim.Native.Nat.{ℕ}
+use lib.ListN.{length}
+use borrow.Author.Tests.{ne_eqb}
+use Rattle.fields.specs.Digits.{digit_field}
+use Rattle.fields.specs.Amount.{is_amount, amount_field}
+use Rattle.fields.specs.FieldVerdict.{accepted, refused, zero_amount, number_verdict}
+use Rattle.fields.proofs.Amounts.{amount_field-number, amount_decided, amount_field-refused}
+use Rattle.fields.proofs.amount.read_amount.Goals as goal
+
+pub returns-then-field-ne13 : goal.returns-then-field-ne13
+unfolding amount_field
+returns-then-field-ne13 c = simp (ne_eqb _ 13 c.if-field-ne13.true)
+
+pub returns-in_default : goal.returns-in_default
+returns-in_default c =
+    sym (amount_field-refused _ c.if-field-ne13.false _ (sym c.read_digits.ensures ∙ ap number_verdict c.in_default.is))
+
+-- of thirteen digits it decides whether they can be asked for
+decided :
+    (field : List ℕ) (n : ℕ) (right : Bool) → length field ≡ 13 → digit_field field ≡ accepted n → right ≡ is_amount n →
+    amount_field field ≡ cond right (accepted n) (refused zero_amount)
+decided field n right thirteen read held = rw (held, amount_decided field thirteen n read) (amount_field-number field thirteen n read)
+
+pub returns-then-is_amount : goal.returns-then-is_amount
+returns-then-is_amount c = rw (decided _ _ _ c.if-field-ne13.false (sym c.read_digits.ensures ∙ ap number_verdict c.in-Value.is) c.is_amount.ensures, c.if-is_amount.true)
+
+pub returns : goal.returns
+returns c = rw (decided _ _ _ c.if-field-ne13.false (sym c.read_digits.ensures ∙ ap number_verdict c.in-Value.is) c.is_amount.ensures, c.if-is_amount.false)
