@@ -14,32 +14,31 @@ use Rattle.records.proofs.FieldTests.{digits-both, stop_digits}
 use Rattle.records.proofs.detail.judge_control.Statement.{statement}
 use Rattle.records.proofs.detail.judge_control.Tie as tie
 
-abbrev entered : tie.After-shared-slice-known → Reached
+abbrev entered : tie.After-shared_slice_known-1 → Reached
 entered c = enter (number_checks c.before.args.n c.before.args.rec.now ++ (check (is_listed (byte_at 94 c.before.args.rec.now) (text " PB")) 6 94 ∷ [])) (right R70 0)
 
-returns : tie.Need-returns
-returns c = stop_digits (entered c.before.before.before.before) _ 4 _ _ refl (sym c.before.before.before.digits-equal-to.ensures ∙ ap number_verdict c.before.number.given.1)
+returns : tie.Need-returns-in-Refused
+returns c = stop_digits (entered c.before.before) _ 4 _ _ refl (sym c.before.digits_equal_to.ensures ∙ ap number_verdict c.in-Refused.is)
 
-abbrev past-4 : tie.After-enum-told → Reached
-past-4 c = pass_row (entered c.before.before.before) (digits-both _ _ _ (sym c.before.before.digits-equal-to.ensures ∙ ap number_verdict c.enum_told.given.1))
+abbrev past-4 : tie.In_default → Reached
+past-4 c = pass_row (entered c.before.before) (digits-both _ _ _ (sym c.before.digits_equal_to.ensures ∙ ap number_verdict c.in_default.is))
 
-returns-2 : tie.Need-returns-2
-returns-2 c = stop (past-4 c.before.before.before) (sym c.before.listed.ensures ∙ not-true _ c.if1.true)
+returns-2 : tie.Need-returns-then-not-listed
+returns-2 c = stop (past-4 c.before.before.before.before) (sym c.before.listed.ensures ∙ c.if-not-listed.true)
 
-abbrev past-94 : tie.Else1 → Reached
-past-94 c = pass (past-4 c.before.before.before) (sym c.before.listed.ensures ∙ not-false _ c.if1.false)
+abbrev past-94 : tie.Else-not-listed → Reached
+past-94 c = pass (past-4 c.before.before.before.before) (sym c.before.listed.ensures ∙ c.if-not-listed.false)
 
-returns-3 : tie.Need-returns-3
+returns-3 : tie.Need-returns
 returns-3 c = done (past-94 c) refl
 
-pub judge-control-spec : {M : Type 1} → statement M
-judge-control-spec =
+pub judge_control_spec : {M : Type 1} → statement M
+judge_control_spec =
     tie.close
     (tie.spec
     (search rules)
     (search rules)
     returns
-    (search rules)
     (search rules)
     (search rules)
     returns-2
