@@ -99,6 +99,7 @@ groups-counted (rec ∷ recs) = by (is_opening rec) (groups-counted recs)
 -- where one kind is permitted, a right record is of it
 only-kind : {k l : RecordKind} → In k (l ∷ []) → k ≡ l
 only-kind (inl e) = e
+only-kind (inr e) = elim e [ ]
 
 -- the header stands before the first disposition, and no other record does
 header-leads-all :
