@@ -85,8 +85,8 @@ module _ (f : List ℕ) (rs : List Typed) (walked : FromStart f rs) where
       let order : InOrder (kinds_of rs ++ (k ∷ follow.rest)) = subst (λ (ks : List RecordKind). InOrder (ks ++ (k ∷ follow.rest))) (same-kinds follow.kinds follow.have) follow.order in
       subst (λ (p : Place). In k (permitted p.due)) (sym (state_place start rs)) (went_on (kinds_of rs) k follow.rest order).1
 
-  context_after : (k : RecordKind) → asks (header_of (take 120 f)) (state_after start rs) (code_after [] rs) (suc (0 + length rs)) k ≡ context_after f (records_in rs) k
-  context_after k =
+  asks_after : (k : RecordKind) → asks (header_of (take 120 f)) (state_after start rs) (code_after [] rs) (suc (0 + length rs)) k ≡ context_after f (records_in rs) k
+  asks_after k =
       let counts = state_counts start [] rs formed_so in
       let opened : ℕ = cond (opens k) 1 0 in
       let dispositions : (state_after start rs).dispositions + opened ≡ opening_count (records_in rs) + opened = omega arith in
@@ -101,7 +101,7 @@ module _ (f : List ℕ) (rs : List Typed) (walked : FromStart f rs) where
         printable = r.formed.printable;
         type = r.formed.type;
         permitted = may_follow k r.may;
-        keeps = subst (λ (ctx : Context). Hold (checks k ctx rec)) (context_after k) r.keeps;
+        keeps = subst (λ (ctx : Context). Hold (checks k ctx rec)) (asks_after k) r.keeps;
       }
 
   pub right_next : (rec : List ℕ) → length rec ≡ 120 → (r : RightRecord f (records_in rs) rec) → RightNext f rs r.kind rec
@@ -109,14 +109,14 @@ module _ (f : List ℕ) (rs : List Typed) (walked : FromStart f rs) where
       record {
         may = follows_may r.kind r.permitted;
         formed = record { whole = whole; printable = r.printable; type = r.type };
-        keeps = subst (λ (ctx : Context). Hold (checks r.kind ctx rec)) (sym (context_after r.kind)) r.keeps;
+        keeps = subst (λ (ctx : Context). Hold (checks r.kind ctx rec)) (sym (asks_after r.kind)) r.keeps;
       }
 
   pub fault_after : (rec : List ℕ) (n p : ℕ) → FaultNext f rs rec n p → FaultAfter f (records_in rs) rec n p
-  fault_after rec n p fault = fault_same (λ k. (may_follow k, follows_may k)) context_after rec fault
+  fault_after rec n p fault = fault_same (λ k. (may_follow k, follows_may k)) asks_after rec fault
 
   pub fault_next : (rec : List ℕ) (n p : ℕ) → FaultAfter f (records_in rs) rec n p → FaultNext f rs rec n p
-  fault_next rec n p fault = fault_same (λ k. (follows_may k, may_follow k)) (λ k. sym (context_after k)) rec fault
+  fault_next rec n p fault = fault_same (λ k. (follows_may k, may_follow k)) (λ k. sym (asks_after k)) rec fault
 
   -- no record is both right and faulty
   pub not-both : (k : RecordKind) (rec : List ℕ) (n p : ℕ) → RightNext f rs k rec → ¬ FaultNext f rs rec n p

@@ -29,6 +29,7 @@ Early w = (is_known w.kind ≡ true) ⊎ ((w.place.due ≡ OnlyIm) ⊎ (w.place.
 
 only : {k l : RecordKind} → In k (l ∷ []) → k ≡ l
 only (inl e) = e
+only (inr e) = elim e [ ]
 
 early_on : (h : Header) (w : Walk) (code : List ℕ) (i : ℕ) (k : RecordKind) (rec : List ℕ) → RightAt h w code i k rec → Early w → Early (step w k (asked k rec) rec)
 unfolding checks

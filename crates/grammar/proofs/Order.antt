@@ -123,20 +123,32 @@ record_in_front d m k ks i = go d i
 
     go : (d : Due) → In k (permitted d) → Before k → MayRemain d m (k ∷ ks)
     go OnlyIm (inl e) = is Im OnlyIm e (λ l. subst InOrder (sym (cons Im l.2)) (in_order l.1))
+    go OnlyIm (inr e) = elim e [ ]
     go OnlyR14 (inl e) = is R14 OnlyR14 e one_more
+    go OnlyR14 (inr e) = elim e [ ]
     go R16OrR20 (inl e) = is R16 R16OrR20 e (λ l. (R16 ∷ [], ks, with_16, l, refl))
     go R16OrR20 (inr (inl e)) = is R20 R16OrR20 e (λ l. ([], R20 ∷ ks, no_16, from_reasons R20 (R30 ∷ R40 ∷ []) l, refl))
+    go R16OrR20 (inr (inr e)) = elim e [ ]
     go OnlyR20 (inl e) = is R20 OnlyR20 e (from_reasons R20 (R30 ∷ R40 ∷ []))
+    go OnlyR20 (inr e) = elim e [ ]
     go OnlyR30 (inl e) = is R30 OnlyR30 e (from_reasons R30 (R40 ∷ []))
+    go OnlyR30 (inr e) = elim e [ ]
     go OnlyR40 (inl e) = is R40 OnlyR40 e (from_reasons R40 [])
+    go OnlyR40 (inr e) = elim e [ ]
     go R50OrR59 (inl e) = is R50 R50OrR59 e (λ l. (R50 ∷ [], l.0, one_50, l.1, cons R50 l.2))
     go R50OrR59 (inr (inl e)) = is R59 R50OrR59 e (λ l. let o = further m ks (ltb m 4) refl l in (replicate (suc o.0) R59, o.1, some_59 (suc o.0) (omega arith) (omega (arith, o.2)), o.4, o.5))
+    go R50OrR59 (inr (inr e)) = elim e [ ]
     go R59OrR51 (inl e) = is R59 R59OrR51 e (λ l few. let o = further m ks (ltb m 4) refl l in (suc o.0, o.1, o.3 few, o.4, o.5))
     go R59OrR51 (inr (inl e)) = is R51 R59OrR51 e (λ l few. (0, l.0, omega arith, l.1, cons R51 l.2))
+    go R59OrR51 (inr (inr e)) = elim e [ ]
     go OnlyR51 (inl e) = is R51 OnlyR51 e (λ l. (l.0, l.1, cons R51 l.2))
+    go OnlyR51 (inr e) = elim e [ ]
     go OnlyR70 (inl e) = is R70 OnlyR70 e (λ l. (ks, l, refl))
+    go OnlyR70 (inr e) = elim e [ ]
     go R14OrEf (inl e) = is R14 R14OrEf e (λ l. inr (one_more l))
     go R14OrEf (inr (inl e)) = is Ef R14OrEf e (λ l. inl (cons Ef l))
+    go R14OrEf (inr (inr e)) = elim e [ ]
+    go Nothing e = elim e [ ]
 
 pub order_sound : (p : Place) (ks : List RecordKind) → Allowed p ks → (place_through p ks).due ≡ Nothing → MayRemain p.due p.further ks
 order_sound p [] a e = subst (λ (d : Due). MayRemain d p.further []) (sym e) refl
