@@ -8,7 +8,7 @@
 # name: `pub NAME : EntryPoint NAME-statement NAME-requires`.
 
 FNR == 1 {
-    type = name = in_record = ""
+    type = name = in_record = exporting = ""
     if (split(FILENAME, part, "/src/") == 2) {
         crate = part[1]
         sub(/.*\//, "", crate)
@@ -21,17 +21,17 @@ FNR == 1 {
 FILENAME == "crates.txt" {
     if (/^[a-z]/) {
         split($0, part, ":")
+        sub(/ .*/, "", part[1])
         rests_on[part[1]] = part[2]
     }
     next
 }
 
-# use Rattle·CRATE.proofs.PATH.Statement.{statement as NAME-statement}, and of Reads `requires` likewise; a
+# use Rattle.CRATE.proofs.PATH.Statement.{statement as NAME-statement}, and of Reads `requires` likewise; a
 # method's PATH is MODULE.TYPE.METHOD
-/^use Rattle·[a-z_]+\.proofs\..*\.(Statement\.\{statement as [^ ,}]*-statement|Reads\.\{requires as [^ ,}]*-requires)\}$/ {
+/^use Rattle\.[a-z_]+\.proofs\..*\.(Statement\.\{statement as [^ ,}]*-statement|Reads\.\{requires as [^ ,}]*-requires)\}$/ {
     n = split($0, part, ".")
-    cited = part[1] "::" (part[n - 3] ~ /^[A-Z]/ ? part[n - 3] "::" : "") part[n - 2]
-    sub(/^use Rattle·/, "", cited)
+    cited = part[2] "::" (part[n - 3] ~ /^[A-Z]/ ? part[n - 3] "::" : "") part[n - 2]
     field = $4
     sub(/-(statement|requires)}$/, "", field)
     if (part[n - 1] == "Reads") {
@@ -50,12 +50,17 @@ in_record && /^  [^ -]/ {
 }
 FILENAME ~ /\.antt$/ { next }
 
-/^pub (use|mod) / && module == "lib" {
-    if (!/^pub use [a-z_]+::[A-Za-z0-9_]+;$/) unread[crate] = $0
-    exported = crate "::" substr($3, 1, length($3) - 1)
-    exports[exported] = crate
-    sub(/::.*::/, "::", exported)
-    exports_type[exported "::"]
+# pub use MODULE::NAME; or pub use MODULE::{NAME, ..}; over one line or several
+exporting { exporting = exporting " " $0 }
+/^pub (use|mod) / && module == "lib" { exporting = $0 }
+exporting && /;$/ {
+    if (exporting !~ /^pub use [a-z_]+::([A-Za-z0-9_]+|\{[A-Za-z0-9_, ]+\});$/) unread[crate] = exporting
+    split(exporting, part, /[ :{},;]+/)
+    for (n = 4; part[n] != ""; n++) {
+        exports[crate "::" part[3] "::" part[n]] = crate
+        exports_type[crate "::" part[n] "::"]
+    }
+    exporting = ""
 }
 /^impl / { type = $2 "::" }
 /^}/ { type = "" }
