@@ -7,31 +7,26 @@ use mathlib.Core.Path.{◌≡◌, refl, sym, ◌∙◌, ap, ap₂, subst}
 use native.Mathlib.Omega.{arith}
 use lib.ListN.{length, take, drop, get_or, length-map}
 use Rattle.sequences.specs.All.{All}
-use Rattle.sequences.specs.Groups.{lead, groups}
 use Rattle.sequences.specs.Part.{part, put}
 use Rattle.sequences.proofs.Append.{parted}
-use Rattle.sequences.proofs.Flatten.{map-flatten}
-use Rattle.sequences.proofs.Groups.{Opens, lead_joined, groups_joined}
 use Rattle.sequences.proofs.Part.{part_length, part-put, put_at}
 use Rattle.fields.specs.Digits.{digits, number}
 use Rattle.fields.proofs.Decimal.{written-length}
 use Rattle.records.specs.Amount.{amount_span, amount_in}
 use Rattle.records.specs.Field.{Span, ◌to◌, first_of, last_of}
-use Rattle.records.specs.Kinds.{heads, opens}
+use Rattle.records.specs.Kinds.{heads}
 use Rattle.records.specs.declared.flow_kind.FlowKind.{FlowKind}
 use Rattle.records.specs.declared.kind.RecordKind.{RecordKind}
-use Rattle.records.specs.declared.kind.RecordKind.TheVariants.{Im, R14}
-use Rattle.flow.specs.declared.answer.Totals.{Totals}
+use Rattle.records.specs.declared.kind.RecordKind.TheVariants.{R14}
 use Rattle.flow.specs.declared.location.WithTotals.{WithTotals}
-use Rattle.grammar.specs.Grammar.{Typed, kinds_of, RightDispositions, RightDisposition, Grammar, disposition_amount}
-use Rattle.grammar.proofs.Dispositions.{Detail, each_detail, detail_opens, Opened, opened_by, opened_so, Member, InShape}
-use Rattle.grammar.proofs.Grammar.{grammar_shape}
+use Rattle.grammar.specs.Grammar.{Typed, kinds_of, RightDispositions, RightDisposition, disposition_amount}
+use Rattle.grammar.proofs.Dispositions.{Detail, Opened, opened_by, opened_so, Member}
 use Rattle.list.specs.Encode.{amount_index, amount_carried, item_amount, list_cents}
-use Rattle.list.specs.Items.{Item, item, record_kind, is_d}
+use Rattle.list.specs.Items.{Item, item, record_kind}
 use Rattle.list.specs.ReadBack.{gather, items_of}
 use Rattle.list.specs.Table.{record_of, carried}
 use Rattle.list.proofs.Carried.{gather_at}
-use Rattle.list.proofs.OwnDispositions.{items_by, item_of_header, detail_record, detail_shut, listed_so, head_so, dispositions_so}
+use Rattle.list.proofs.OwnDispositions.{items_by, item_of_header, detail_record, detail_shut, head_so, dispositions_so}
 use Rattle.list.proofs.RecordsAgain.{kind_for, own_item}
 use Rattle.list.proofs.TableSpans.{carried-within, carried_after_number}
 use Rattle.amend.specs.Withdraw.{renumbered}
@@ -39,7 +34,7 @@ use Rattle.amend.proofs.Neighbours.{Neighbours}
 use Rattle.amend.proofs.RulesKept.{over_kept}
 use Rattle.amend.proofs.RulesKept.{repriced_record}
 use Rattle.amend.proofs.PartsLeft.{amounts, retyped, typed_from, retold}
-use Rattle.claims.specs.Ledger.{leading, dispositions, repriced, first_repriced, with_amount, without_disposition}
+use Rattle.claims.specs.Ledger.{dispositions, repriced, first_repriced, with_amount, without_disposition}
 use Rattle.claims.proofs.Encoded.{detail_heads}
 
 -- disposition k among them
@@ -77,9 +72,9 @@ module _ (f : List ℕ) (k : ℕ) (v : WithTotals) (w : Neighbours f k v) where
 gather_kept :
     (ss : List Span) (rec other : List ℕ) → All (λ (t : Span). 10 ≤ first_of t - 1) ss → ((a n : ℕ) → 10 ≤ a → part a n other ≡ part a n rec) → gather ss other ≡ gather ss rec
 unfolding flatten
-gather_kept [] rec other after same = refl
-gather_kept ((a to e) ∷ ss) rec other after same =
-    ap₂ (λ (xs ys : List ℕ). xs ++ ys) (same (a - 1) (e - (a - 1)) after.0) (gather_kept ss rec other after.1 same)
+gather_kept [] rec other beyond same = refl
+gather_kept ((a to e) ∷ ss) rec other beyond same =
+    ap₂ (λ (xs ys : List ℕ). xs ++ ys) (same (a - 1) (e - (a - 1)) beyond.0) (gather_kept ss rec other beyond.1 same)
 
 carried_kept : (q : FlowKind) (r : Typed) (j : ℕ) → length r.bytes ≡ 120 → heads (record_kind (own_item q r)) ≡ false → own_item q (retyped j r) ≡ own_item q r
 carried_kept q r j whole member = ap (item (kind_for q r.kind)) (gather_kept (carried (kind_for q r.kind)) r.bytes (renumbered j r.bytes) (carried_after_number (kind_for q r.kind) member) (λ a n h. over_kept 3 7 j r.bytes whole (omega arith) a n (inr h)))

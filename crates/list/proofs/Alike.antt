@@ -2,7 +2,7 @@
 -- items are the same. Assumes nothing.
 use Prim.Native.Nat.{ℕ, ◌+◌, ◌<◌, ◌≤◌}
 use mathlib.Core.Bool.{Bool, true, false, ◌&&◌, and-eq-true_iff, false≢true}
-use mathlib.Core.List.{List, [], ◌∷◌, ◌++◌, map, flatten}
+use mathlib.Core.List.{List, [], ◌∷◌, ◌++◌, flatten}
 use mathlib.Core.Logic.{◌↔◌}
 use mathlib.Core.Path.{◌≡◌, refl, sym, ◌∙◌, ap, ap₂, subst}
 use native.Mathlib.Nat.{suc_inj, suc-ne-zero}
@@ -13,7 +13,7 @@ use Rattle.sequences.specs.All.{All}
 use Rattle.fields.specs.Bytes.{is_equal}
 use Rattle.fields.proofs.Bytes.{is_equal_true, is_equal_refl}
 use Rattle.records.specs.Field.{Span, ◌to◌, field_at}
-use Rattle.records.specs.Kinds.{type_of, has_type, closes}
+use Rattle.records.specs.Kinds.{has_type, closes}
 use Rattle.records.specs.declared.flow_kind.FlowKind.{FlowKind}
 use Rattle.records.specs.declared.kind.RecordKind.{RecordKind}
 use Rattle.records.proofs.ByKind.{type_tested, one_type}

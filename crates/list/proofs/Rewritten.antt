@@ -16,7 +16,6 @@ use Rattle.sequences.proofs.All.{all-before}
 use Rattle.sequences.proofs.DropLast.{drop_last_append}
 use Rattle.sequences.proofs.Flatten.{flatten-append}
 use Rattle.sequences.proofs.Part.{part_length, part-put}
-use Rattle.fields.specs.Digits.{number}
 use Rattle.records.specs.Checked.{checked, Alike}
 use Rattle.records.specs.Context.{Header, header_of}
 use Rattle.records.specs.Field.{field}
@@ -367,8 +366,8 @@ records-length : (f : List ℕ) (t : Totals) → judge f ≡ accepted t → leng
 records-length f t e = omega (arith, (accepted_exact f t e).2)
 
 own_pairs : (q : FlowKind) (rs : List Typed) → AllFormed rs → AllOpen rs → Pairs (OwnItem q) (records_in rs) (map (own_item q) rs)
-own_pairs q [] formed not_last = tt
-own_pairs q (r ∷ rs) formed not_last = ((own_row q r formed.0 not_last.0, refl), own_pairs q rs formed.1 not_last.1)
+own_pairs q [] formed_each open_each = tt
+own_pairs q (r ∷ rs) formed_each open_each = ((own_row q r formed_each.0 open_each.0, refl), own_pairs q rs formed_each.1 open_each.1)
 
 pub own_list : OwnList
 own_list f t e =

@@ -8,7 +8,7 @@ use lib.ListN.{length}
 use Rattle.sequences.specs.All.{All}
 use Rattle.sequences.specs.Part.{part}
 use Rattle.sequences.proofs.Part.{part-part}
-use Rattle.fields.specs.Digits.{number, digits}
+use Rattle.fields.specs.Digits.{digits}
 use Rattle.fields.proofs.Decimal.{written-digits}
 use Rattle.records.specs.Bytes.{bad_from, bad_byte}
 use Rattle.records.specs.Constants.{currency}
