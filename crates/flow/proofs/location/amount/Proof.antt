@@ -12,14 +12,14 @@ use Rattle.flow.proofs.location.amount.Tie as tie
 read : (c : tie.After-amount) → number_verdict c.amount.result ≡ accepted (number (amount_in c.before.before.args.rec.now))
 read c = c.amount.ensures ∙ c.before.before.requires
 
-returns : tie.Need-returns
-returns c = accepted-same (sym (ap number_verdict c.before.cents.given.1) ∙ read c.before.before.before)
+returns : tie.Need-returns-in-Value
+returns c = accepted-same (sym (ap number_verdict c.in-Value.is) ∙ read c.before)
 
 -- so it is never refused
-returns-2 : tie.Need-returns-2
-returns-2 c = absurd (accepted-not-refused (sym (read c.before.before) ∙ ap number_verdict c.enum_told.given.1))
+returns-2 : tie.Need-returns-in-Refused
+returns-2 c = absurd (accepted-not-refused (sym (read c.before) ∙ ap number_verdict c.in-Refused.is))
 
-pub amount-spec : {M : Type 1} → statement M
-amount-spec =
+pub amount_spec : {M : Type 1} → statement M
+amount_spec =
     tie.close
     (tie.spec (search rules) (search rules) (search rules) returns returns-2)

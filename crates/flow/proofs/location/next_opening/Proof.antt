@@ -13,37 +13,36 @@ use Rattle.flow.proofs.Cut.{record_part}
 use Rattle.flow.proofs.location.next_opening.Statement.{statement}
 use Rattle.flow.proofs.location.next_opening.Tie as tie
 
-abbrev invariant-loop : tie.invariant-loop
+abbrev invariant-loop : tie.invariant-loop-i
 invariant-loop flow from trailer i₀ i = opening_from flow i ≡ opening_from flow from
 
-abbrev decreases-loop : tie.decreases-loop
+abbrev decreases-loop : tie.decreases-loop-i
 decreases-loop flow from trailer i₀ i = trailer - i
 
-loop-holds : tie.Need-loop-init invariant-loop decreases-loop
+loop-holds : tie.Need-loop-i-init invariant-loop decreases-loop
 loop-holds c = refl
 
 -- the record's type decides whether it is the one
-decides :
-    (c : tie.After-is-opening invariant-loop decreases-loop) → let at = c.before.before.before in let f = at.before.before.before.args.flow.now in
-    opening_from f at.before.before.before.args.from ≡ cond c.is-opening.result at.loop.i (opening_from f (at.loop.i + 1))
+decides : (c : tie.After-is_opening invariant-loop decreases-loop) → let at = c.before.before.before in let f = at.before.before.before.args.flow.now in
+    opening_from f at.before.before.before.args.from ≡ cond c.is_opening.result at.loop-i.i (opening_from f (at.loop-i.i + 1))
 decides c =
     let at = c.before.before.before in
     let f = at.before.before.before.args.flow.now in
-    let i = at.loop.i in
-    let type : c.is-opening.result ≡ is_opening (record_at i f) = c.is-opening.ensures ∙ ap is_opening (record_part i f) in
-    sym at.loop.invariant ∙ rw (type, add-one) (opening_next f i (omega (arith, at.before.last-index.ensures)))
+    let i = at.loop-i.i in
+    let type : c.is_opening.result ≡ is_opening (record_at i f) = c.is_opening.ensures ∙ ap is_opening (record_part i f) in
+    sym at.loop-i.invariant ∙ rw (type, add-one) (opening_next f i (omega (arith, at.before.last_index-trailer.ensures)))
 
-returns : tie.Need-returns invariant-loop decreases-loop
-returns c = rw c.if1.true at (sym (decides c.before))
+returns : tie.Need-returns-then-is_opening invariant-loop decreases-loop
+returns c = rw c.if-is_opening.true at (sym (decides c.before))
 
-loop-again : tie.Need-loop-preserved invariant-loop decreases-loop
-loop-again c = rw c.if1.false at (sym (decides c.before))
+loop-again : tie.Need-loop-i-preserved invariant-loop decreases-loop
+loop-again c = rw c.if-is_opening.false at (sym (decides c.before))
 
-returns-2 : tie.Need-returns-2 invariant-loop decreases-loop
-returns-2 c = sym (opening_end c.before.before.before.before.args.flow.now c.before.loop.i (omega (arith, c.before.before.last-index.ensures))) ∙ c.before.loop.invariant
+returns-2 : tie.Need-returns invariant-loop decreases-loop
+returns-2 c = sym (opening_end c.before.before.before.before.args.flow.now c.before.loop-i.i (omega (arith, c.before.before.last_index-trailer.ensures))) ∙ c.before.loop-i.invariant
 
-pub next-opening-spec : {M : Type 1} → statement M
-next-opening-spec =
+pub next_opening_spec : {M : Type 1} → statement M
+next_opening_spec =
     tie.close
     (tie.spec
     invariant-loop

@@ -9,44 +9,44 @@ use Rattle.flow.proofs.Dispositions.{disposition_at, starts_next}
 use Rattle.flow.proofs.location.start_of.Statement.{statement}
 use Rattle.flow.proofs.location.start_of.Tie as tie
 
-abbrev invariant-loop : tie.invariant-loop
+abbrev invariant-loop : tie.invariant-loop-j
 invariant-loop flow k at₀ j₀ at j = (1 ≤ j) × (j ≤ k) × (at ≡ start_of (dispositions_in flow) j)
 
-abbrev decreases-loop : tie.decreases-loop
+abbrev decreases-loop : tie.decreases-loop-j
 decreases-loop flow k at₀ j₀ at j = k - j
 
-loop-holds : tie.Need-loop-init invariant-loop decreases-loop
+loop-holds : tie.Need-loop-j-init invariant-loop decreases-loop
 unfolding flatten
 loop-holds c = (omega arith, c.before.requires.some, refl)
 
 -- disposition j stands in the flow too
-known : (c : tie.At-loop invariant-loop decreases-loop) → HasDisposition c.before.before.args.flow.now c.loop.j
+known : (c : tie.At-loop-j invariant-loop decreases-loop) → HasDisposition c.before.before.args.flow.now c.loop-j.j
 known c =
     let s = c.before.before.requires in
     let below = s.within in
-    record { totals = s.totals; read = s.read; some = c.loop.invariant.0; within = omega arith }
+    record { totals = s.totals; read = s.read; some = c.loop-j.invariant.0; within = omega arith }
 
-add-next-opening : tie.Need-overflow-add-next-opening invariant-loop decreases-loop
+add-next-opening : tie.Need-overflow_add-at invariant-loop decreases-loop
 add-next-opening c =
     let d = disposition_at _ _ (known c.before) in
     let within = d.within in
     omega arith
 
-loop-again : tie.Need-loop-preserved invariant-loop decreases-loop
+loop-again : tie.Need-loop-j-preserved invariant-loop decreases-loop
 loop-again c =
     let at = c.before.before in
     let f = at.before.before.args.flow.now in
     let s = known at in
-    let on : opening_from f (at.loop.at + 1) ≡ start_of (dispositions_in f) (at.loop.j + 1) = ap (λ (i : ℕ). opening_from f (i + 1)) at.loop.invariant.2 ∙ (disposition_at f at.loop.j s).next ∙ sym (starts_next f at.loop.j s) in
-    (omega arith, omega arith, c.next-opening.ensures ∙ on)
+    let on : opening_from f (at.loop-j.at + 1) ≡ start_of (dispositions_in f) (at.loop-j.j + 1) = ap (λ (i : ℕ). opening_from f (i + 1)) at.loop-j.invariant.2 ∙ (disposition_at f at.loop-j.j s).next ∙ sym (starts_next f at.loop-j.j s) in
+    (omega arith, omega arith, c.next_opening-at.ensures ∙ on)
 
 returns : tie.Need-returns invariant-loop decreases-loop
 returns c =
-    let last : c.before.loop.j ≡ c.before.before.before.args.k = omega arith in
-    c.before.loop.invariant.2 ∙ ap (start_of _) last
+    let last : c.before.loop-j.j ≡ c.before.before.before.args.k = omega arith in
+    c.before.loop-j.invariant.2 ∙ ap (start_of _) last
 
-pub start-of-spec : {M : Type 1} → statement M
-start-of-spec =
+pub start_of_spec : {M : Type 1} → statement M
+start_of_spec =
     tie.close
     (tie.spec
     invariant-loop

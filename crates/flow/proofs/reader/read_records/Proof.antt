@@ -20,75 +20,74 @@ use Rattle.flow.proofs.Reading.{Reading, begin, go_on, refuse, finish, ended_ali
 use Rattle.flow.proofs.reader.read_records.Statement.{statement}
 use Rattle.flow.proofs.reader.read_records.Tie as tie
 
-abbrev invariant-loop : tie.invariant-loop
+abbrev invariant-loop : tie.invariant-loop-i
 invariant-loop flow header walk₀ company₀ i₀ walk company i = (i ≤ length flow / 120) × (length flow ≤ most_bytes) × Reading ended (header_of header) (records_of flow) walk company i (records_from i flow)
 
-abbrev decreases-loop : tie.decreases-loop
+abbrev decreases-loop : tie.decreases-loop-i
 decreases-loop flow header walk₀ company₀ i₀ walk company i = length flow / 120 - i
 
-loop-holds : tie.Need-loop-init invariant-loop decreases-loop
+loop-holds : tie.Need-loop-i-init invariant-loop decreases-loop
 loop-holds c =
     let flow : List ℕ = c.before.before.before.before.args.flow.now in
     let all : length flow / 120 - 0 ≡ length flow / 120 = omega arith in
-    (omega arith, (length-said _ c.before.before.before.before.requires).2, rw (c.before.start.ensures, all) (begin _ _ _))
+    (omega arith, (length-said _ c.before.before.before.before.requires).2, rw (c.before.start-walk.ensures, all) (begin _ _ _))
 
 -- the part handed on is the record, and its number is its index + 1
-abbrev flow-of : tie.At-loop invariant-loop decreases-loop → List ℕ
+abbrev flow-of : tie.At-loop-i invariant-loop decreases-loop → List ℕ
 flow-of at = at.before.before.before.before.before.args.flow.now
 
-handed : (at : tie.At-loop invariant-loop decreases-loop) → let i = at.loop.i in part (120 * i) (120 * i + 120 - 120 * i) (flow-of at) ≡ record_at i (flow-of at)
-handed at = record_part at.loop.i (flow-of at)
+handed : (at : tie.At-loop-i invariant-loop decreases-loop) → let i = at.loop-i.i in part (120 * i) (120 * i + 120 - 120 * i) (flow-of at) ≡ record_at i (flow-of at)
+handed at = record_part at.loop-i.i (flow-of at)
 
-found :
-    (c : tie.After-judge invariant-loop decreases-loop) → let at = c.before.before.before.before in let a = at.before.before.before.before.before.args in
-    judge_record (header_of a.header.now) at.loop.walk at.loop.company.now (suc at.loop.i) (record_at at.loop.i a.flow.now) ≡ judged_verdict c.judge.result
+found : (c : tie.After-judge invariant-loop decreases-loop) → let at = c.before.before.before.before in let a = at.before.before.before.before.before.args in
+    judge_record (header_of a.header.now) at.loop-i.walk at.loop-i.company.now (suc at.loop-i.i) (record_at at.loop-i.i a.flow.now) ≡ judged_verdict c.judge.result
 found c =
     let at = c.before.before.before.before in
-    let number : c.before.as-count.result ≡ suc at.loop.i = c.before.as-count.ensures ∙ add-one at.loop.i in
+    let number : c.before.as_count-n.result ≡ suc at.loop-i.i = c.before.as_count-n.ensures ∙ add-one at.loop-i.i in
     sym (c.judge.ensures ∙ ap₂ (judge_record _ _ _) number (handed at))
 
-returns : tie.Need-returns invariant-loop decreases-loop
+returns : tie.Need-returns-in-Refused invariant-loop decreases-loop
 returns c =
-    let at = c.before.before.before.before.before.before.before in
-    let told = found c.before.before.before ∙ ap judged_verdict c.before.number.given.1 in
-    rw (c.before.before.before.before.as-count.ensures, add-one) (refuse at.loop.invariant.2 _ _ (cut_next _ _ _ c.before.before.before.before.before.before.loop-test.true) _ _ told)
+    let at = c.before.before.before.before.before in
+    let told = found c.before ∙ ap judged_verdict c.in-Refused.is in
+    rw (c.before.before.as_count-n.ensures, add-one) (refuse at.loop-i.invariant.2 _ _ (cut_next _ _ _ c.before.before.before.before.loop-i-test.true) _ _ told)
 
-pass-over-requires : tie.Need-pass-over-requires invariant-loop decreases-loop
+pass-over-requires : tie.Need-pass_over-passed-requires invariant-loop decreases-loop
 pass-over-requires c κs = (omega arith, omega arith)
 
-loop-less : tie.Need-loop-smaller invariant-loop decreases-loop
-loop-less c = omega (arith, c.before.pass-over.ensures.on)
+loop-less : tie.Need-loop-i-smaller invariant-loop decreases-loop
+loop-less c = omega (arith, c.before.pass_over-passed.ensures.on)
 
-loop-again : tie.Need-loop-preserved invariant-loop decreases-loop
+loop-again : tie.Need-loop-i-preserved invariant-loop decreases-loop
 loop-again c =
-    let passed = c.before.pass-over in
-    let walked = c.before.before.next in
-    let judged = c.before.before.before.before.before.before.before.before in
+    let passed = c.before.pass_over-passed in
+    let walked = c.before.before.next-walk in
+    let judged = c.before.before.before.before.before.before in
     let within = judged.before.before.before in
     let at = within.before in
-    let i = at.loop.i in
+    let i = at.loop-i.i in
     let flow = flow-of at in
-    let told = found judged ∙ ap judged_verdict c.before.before.before.before.before.before.right.given.1 in
-    let right = c.before.before.before.before.before.before.right.given.0.0 in
-    let walk-so : walked.result ≡ saturated (step at.loop.walk right.kind right.cents (record_at i flow)) = walked.ensures ∙ ap (λ (rec : List ℕ). saturated (step at.loop.walk right.kind right.cents rec)) (handed at) in
+    let told = found judged ∙ ap judged_verdict c.before.before.before.before.before.in-Right.is in
+    let right = c.before.before.before.before.before.in-Right.right in
+    let walk-so : walked.result ≡ saturated (step at.loop-i.walk right.kind right.cents (record_at i flow)) = walked.ensures ∙ ap (λ (rec : List ℕ). saturated (step at.loop-i.walk right.kind right.cents rec)) (handed at) in
     let back : suc i - 1 ≡ i = omega arith in
-    let numbered : NumberBefore walked.result (record_at (suc i - 1) flow) = rw (walk-so, back) (numbered_saturated _ _ _ _ _ _ _ (record_whole flow i within.loop-test.true) told) in (
+    let numbered : NumberBefore walked.result (record_at (suc i - 1) flow) = rw (walk-so, back) (numbered_saturated _ _ _ _ _ _ _ (record_whole flow i within.loop-i-test.true) told) in (
       passed.ensures.within,
-      at.loop.invariant.1,
-      rw (c.before.before.before.first-company.ensures.0, c.before.before.before.before.field.ensures.0, handed at)
-          (pass_on flow walked.result (rw walk-so (go_on at.loop.invariant.2 _ _ (cut_next _ _ _ within.loop-test.true) _ _ told)) numbered (rw add-one at passed.ensures)),
+      at.loop-i.invariant.1,
+      rw (c.before.before.before.first_company-first.ensures.0, c.before.before.before.before.field-code.ensures.0, handed at)
+          (pass_on flow walked.result (rw walk-so (go_on at.loop-i.invariant.2 _ _ (cut_next _ _ _ within.loop-i-test.true) _ _ told)) numbered (rw add-one at passed.ensures)),
     )
 
 end-requires : tie.Need-end-requires invariant-loop decreases-loop
-end-requires c κs = omega (arith, c.as-count2.ensures)
+end-requires c κs = omega (arith, c.as_count.ensures)
 
-returns-2 : tie.Need-returns-2 invariant-loop decreases-loop
+returns-2 : tie.Need-returns invariant-loop decreases-loop
 returns-2 c =
     let at = c.before.before.before in
-    c.end.ensures ∙ rw c.before.as-count2.ensures (finish at.loop.invariant.2 (cut_end _ _ _ c.before.before.loop-test.false) (ended_alike at.loop.invariant.2))
+    c.end.ensures ∙ rw c.before.as_count.ensures (finish at.loop-i.invariant.2 (cut_end _ _ _ c.before.before.loop-i-test.false) (ended_alike at.loop-i.invariant.2))
 
-pub read-records-spec : {M : Type 1} → statement M
-read-records-spec =
+pub read_records_spec : {M : Type 1} → statement M
+read_records_spec =
     tie.close
     (tie.spec
     invariant-loop
