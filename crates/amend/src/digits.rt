@@ -22,5 +22,5 @@ pub(crate) fn place_seven(flow: &mut [u8], at: usize, shown: &[u8; 7])
     requires { at + 7 ≤ length flow.old }
     ensures { flow.new ≡ put at shown.now flow.old }
 {
-    bytes::copy(shown, &mut flow[at..at + 7]);
+    flow[at..at + 7].copy_from_slice(shown);
 }

@@ -143,5 +143,5 @@ pub(crate) fn place(out: &mut [u8], first: usize, content: &[u8])
     ensures { out.new ≡ put (first - 1) content.now out.old }
 {
     let from = first - 1;
-    bytes::copy(content, &mut out[from..from + content.len()]);
+    out[from..from + content.len()].copy_from_slice(content);
 }

@@ -102,7 +102,7 @@ fn store_body(rec: &[u8], kind: ItemKind, out: &mut [u8])
         let first = spans[2 * i];
         let last = spans[2 * i + 1];
         let n = width(first, last);
-        bytes::copy(field(rec, first, last), &mut out[from..from + n]);
+        out[from..from + n].copy_from_slice(field(rec, first, last));
         from += n;
         i += 1;
     }

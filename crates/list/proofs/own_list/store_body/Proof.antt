@@ -19,87 +19,71 @@ use Rattle.list.proofs.own_list.store_body.Statement.{statement}
 use Rattle.list.proofs.own_list.store_body.Tie as tie
 
 -- the loop knows its kind by the spans alone
-abbrev invariant-loop : tie.invariant-loop
+abbrev invariant-loop : tie.invariant-loop-i
 invariant-loop rec out₀ spans from₀ i₀ out from i =
     (length out ≡ length out₀) × ((k : ItemKind) → spans ≡ bounds_of k → length out₀ ≡ body_length k → Storing (drop i (four_of (carried k))) from rec out (gather (carried k) rec))
 
-abbrev decreases-loop : tie.decreases-loop
+abbrev decreases-loop : tie.decreases-loop-i
 decreases-loop rec out₀ spans from₀ i₀ out from i = 4 - i
 
 -- in a turn: its span, and what is left from there on
-abbrev span : tie.In-loop invariant-loop decreases-loop → Span
-span c = span_at c.before.before.carried.result c.before.loop.i
+abbrev span : tie.In-loop-i invariant-loop decreases-loop → Span
+span c = span_at c.before.before.carried-spans.result c.before.loop-i.i
 
-turn :
-    (c : tie.In-loop invariant-loop decreases-loop) (k : ItemKind) → let at = c.before in let start = at.before.before.before.before in
-    at.before.carried.result ≡ bounds_of k → length start.args.out.now ≡ body_length k
-    → Storing (span c ∷ drop (at.loop.i + 1) (four_of (carried k))) at.loop.from start.args.rec.now at.loop.out (gather (carried k) start.args.rec.now)
-turn c k kept size = storing_turn k _ _ _ _ _ _ kept c.loop-test.true (c.before.loop.invariant.1 k kept size)
+turn : (c : tie.In-loop-i invariant-loop decreases-loop) (k : ItemKind) → let at = c.before in let start = at.before.before.before.before in
+    at.before.carried-spans.result ≡ bounds_of k → length start.args.out.now ≡ body_length k
+    → Storing (span c ∷ drop (at.loop-i.i + 1) (four_of (carried k))) at.loop-i.from start.args.rec.now at.loop-i.out (gather (carried k) start.args.rec.now)
+turn c k kept size = storing_turn k _ _ _ _ _ _ kept c.loop-i-test.true (c.before.loop-i.invariant.1 k kept size)
 
-loop-holds : tie.Need-loop-init invariant-loop decreases-loop
-loop-holds c = (refl, λ k kept size. storing k _ _ c.before.before.before.requires.0 size)
+loop-holds : tie.Need-loop-i-init invariant-loop decreases-loop
+loop-holds c = (refl, λ k kept size. storing k _ _ c.before.before.before.requires.rec_len size)
 
 -- it lies within the record
-within : (c : tie.In-loop invariant-loop decreases-loop) → Within (span c)
-within c = let start = c.before.before.before.before.before in (turn c start.args.kind c.before.before.carried.ensures start.requires.1).within.0
+within : (c : tie.In-loop-i invariant-loop decreases-loop) → Within (span c)
+within c = let start = c.before.before.before.before.before in (turn c start.args.kind c.before.before.carried-spans.ensures start.requires.out_len).within.0
 
-width-requires : tie.Need-width-requires invariant-loop decreases-loop
+width-requires : tie.Need-width-n-requires invariant-loop decreases-loop
 width-requires c κs = ((within c).starts, (within c).ordered)
 
 -- there is room for its bytes
-fits : (c : tie.After-width invariant-loop decreases-loop) → let loop = c.before.before.loop in loop.from + c.width.result ≤ length loop.out
+fits : (c : tie.After-width-n invariant-loop decreases-loop) → let loop = c.before.before.loop-i in loop.from + c.width-n.result ≤ length loop.out
 fits c =
     let start = c.before.before.before.before.before.before in
-    omega (arith, (turn c.before start.args.kind c.before.before.before.carried.ensures start.requires.1).room, c.width.ensures)
-
-add-copy : tie.Need-overflow-add-copy invariant-loop decreases-loop
-add-copy c = omega (arith, fits c.before)
-
-part-copy-end : tie.Need-slice-bounds-copy-end invariant-loop decreases-loop
-part-copy-end c = omega (arith, fits c.before)
+    omega (arith, (turn c.before start.args.kind c.before.before.before.carried-spans.ensures start.requires.out_len).room, c.width-n.ensures)
 
 -- as many as the part that is handed on
-sized : (c : tie.After-field invariant-loop decreases-loop) → length c.field.result.now ≡ c.before.width.result
+sized : (c : tie.After-field invariant-loop decreases-loop) → length c.field.result.now ≡ c.before.before.width-n.result
 sized c =
     let at = c.before.before in
-    ap length c.field.ensures.0 ∙ span_length _ _ _ (within at) at.before.before.before.before.before.requires.0 ∙ sym c.before.width.ensures
+    ap length c.field.ensures.0 ∙ span_length _ _ _ (within at.before) at.before.before.before.before.before.before.requires.rec_len ∙ sym c.before.before.width-n.ensures
 
-copy-requires : tie.Need-copy-requires invariant-loop decreases-loop
-copy-requires c κs =
-    let loop = c.before.before.before.before.loop in
-    let size = loop.from + c.before.before.width.result - loop.from in
-    omega (arith, sized c.before, part_length loop.from size loop.out (omega (arith, fits c.before.before)))
-
-add-from : tie.Need-overflow-add-from invariant-loop decreases-loop
+add-from : tie.Need-overflow_add-from-in-loop-i invariant-loop decreases-loop
 add-from c = omega (arith, fits c.before.before.before.before.before)
 
-loop-again : tie.Need-loop-preserved invariant-loop decreases-loop
+loop-again : tie.Need-loop-i-preserved invariant-loop decreases-loop
 loop-again c =
     let copy = c.before.before in
     let field = copy.before.before in
     let width = field.before in
-    let loop = width.before.before.loop in
+    let loop = width.before.before.loop-i in
     let start = width.before.before.before.before.before.before in
-    let end = loop.from + width.width.result in
-    let bytes = field.field.result.now in
-    let size : length bytes ≡ end - loop.from = omega (arith, sized field) in
-    let over : put_mid loop.from (end - loop.from) loop.out copy.copy.new.1.0 ≡ put loop.from bytes loop.out = copied_over loop.from end loop.out bytes _ (omega arith) (fits width) size copy.copy.ensures.1 in
-    let same : length (put loop.from bytes loop.out) ≡ length start.args.out.now = put-length loop.from bytes loop.out (omega (arith, sized field, fits width)) ∙ loop.invariant.0 in
-    (ap length over ∙ same, λ k kept size. stored_next start.requires.0 width.width.ensures (over ∙ ap (λ (l : List ℕ). put loop.from l loop.out) field.field.ensures.0) (turn width.before k kept size))
-
-same_length : tie.Need-same-length invariant-loop decreases-loop
-same_length c = c.before.loop.invariant.0
+    let end = loop.from + width.width-n.result in
+    let bytes = c.before.before.before.field.result.now in
+    let size : length bytes ≡ end - loop.from = omega (arith, ??sized field) in
+    let over : put_mid loop.from (end - loop.from) loop.out ??copy.copy.new.1.0 ≡ put loop.from bytes loop.out = copied_over loop.from end loop.out bytes _ (omega arith) (fits width) size ??copy.copy.ensures.1 in
+    let same : length (put loop.from bytes loop.out) ≡ length start.args.out.now = put-length loop.from bytes loop.out (omega (arith, ??sized field, fits width)) ∙ loop.invariant.0 in
+    (ap length over ∙ same, λ k kept size. stored_next start.requires.rec_len width.width-n.ensures (over ∙ ap (λ (l : List ℕ). put loop.from l loop.out) c.before.before.before.field.ensures.0) (turn width.before k kept size))
 
 returns : tie.Need-returns invariant-loop decreases-loop
 returns c =
     let start = c.before.before.before.before.before in
     let k = start.args.kind in
     let rec = start.args.rec.now in
-    let none : Storing [] c.before.loop.from rec c.before.loop.out (gather (carried k) rec) = rw (four_end k c.before.loop.i c.loop-test.false) at (c.before.loop.invariant.1 k c.before.before.carried.ensures start.requires.1) in
+    let none : Storing [] c.before.loop-i.from rec c.before.loop-i.out (gather (carried k) rec) = rw (four_end k c.before.loop-i.i c.loop-i-test.false) at (c.before.loop-i.invariant.1 k c.before.before.carried-spans.ensures start.requires.out_len) in
     stored_all none
 
-pub store-body-spec : {M : Type 1} → statement M
-store-body-spec =
+pub store_body_spec : {M : Type 1} → statement M
+store_body_spec =
     tie.close
     (tie.spec
     invariant-loop
@@ -115,14 +99,10 @@ store-body-spec =
     (search rules)
     width-requires
     (search rules)
-    add-copy
     (search rules)
     (search rules)
-    part-copy-end
-    copy-requires
     add-from
     (search rules)
     (search rules)
     loop-again
-    same_length
     returns)

@@ -17,66 +17,59 @@ use Rattle.list.proofs.OwnList.{no_item, item_count, item_stored}
 use Rattle.list.proofs.own_list.store_item.Statement.{statement}
 use Rattle.list.proofs.own_list.store_item.Tie as tie
 
-returns : tie.Need-returns
+returns : tie.Need-returns-in_default
 returns c =
-    let start = c.before.before.before.before.before in
-    let none : row_in start.args.flow start.args.rec.now ≡ Missing = sym c.before.before.row-in.ensures ∙ c.enum_told.given.1 in
+    let start = c.before.before.before.before in
+    let none : row_in start.args.flow start.args.rec.now ≡ Missing = sym c.before.row_in.ensures ∙ c.in_default.is in
     (rw none (omega arith), rw (no_item _ _ none) (sym (put-nothing start.args.at start.args.out.now)))
 
 -- the kind of the record's row
-abbrev kind_of : tie.After-known-told → ItemKind
-kind_of c = c.before.kind.given.0.0
+abbrev kind_of : tie.In-Of → ItemKind
+kind_of c = c.in-Of.kind
 
-row-so : (c : tie.After-known-told) → let start = c.before.before.before.before.before.before in row_in start.args.flow start.args.rec.now ≡ Of (kind_of c)
-row-so c = sym c.before.before.before.row-in.ensures ∙ c.before.kind.given.1
+row-so : (c : tie.In-Of) → let start = c.before.before.before.before in row_in start.args.flow start.args.rec.now ≡ Of (kind_of c)
+row-so c = sym c.before.row_in.ensures ∙ c.in-Of.is
 
 -- there is room for the item
-room : (c : tie.After-known-told) → let start = c.before.before.before.before.before.before in start.args.at + suc (body_length (kind_of c)) ≤ length start.args.out.now
-room c = rw (row-so c) at c.before.before.before.before.before.before.requires.1
+room : (c : tie.In-Of) → let start = c.before.before.before.before in start.args.at + suc (body_length (kind_of c)) ≤ length start.args.out.now
+room c = rw (row-so c) at c.before.before.before.before.requires.rec_in_bounds
 
-slice-write-out : tie.Need-slice-write-out
+slice-write-out : tie.Need-bounds-out-at
 slice-write-out c = omega (arith, room c.before)
 
-add-end-2 : tie.Need-overflow-add-end-2
-add-end-2 c = omega (arith, room c.before.before, c.body-length.ensures)
+add-end-2 : tie.Need-overflow_add-end-2
+add-end-2 c = omega (arith, room c.before.before, c.body_length.ensures)
 
-part-store-body-end : tie.Need-slice-bounds-store-body-end
+part-store-body-end : tie.Need-slice_bounds-store_body-end
 part-store-body-end c =
-    let start = c.before.before.before.before.before.before.before.before in
-    omega (arith, room c.before.before, c.body-length.ensures, length-set start.args.out.now start.args.at c.before.letter.result)
+    let start = c.before.before.before.before.before.before in
+    omega (arith, room c.before.before, c.body_length.ensures, length-set start.args.out.now start.args.at c.before.letter.result)
 
 -- the item stands in the output
-stored :
-    (c : tie.After-store-body) → let start = c.before.before.before.before.before.before.before.before.before.before in let from = start.args.at in let out = start.args.out.now in
-    put_mid (from + 1) (from + 1 + c.before.before.body-length.result - (from + 1)) (set out from c.before.before.before.letter.result) c.store-body.new.1.1.0
+stored : (c : tie.After-store_body) → let start = c.before.before.before.before.before.before.before.before in let from = start.args.at in let out = start.args.out.now in
+    put_mid (from + 1) (from + 1 + c.before.before.body_length.result - (from + 1)) (set out from c.before.before.before.letter.result) c.store_body.new.1.1.0
     ≡ put from (list_bytes (item_of start.args.flow start.args.rec.now)) out
 stored c =
     let known = c.before.before.before.before in
     let kind = kind_of known in
-    let start = known.before.before.before.before.before.before in
+    let start = known.before.before.before.before in
     let rec = start.args.rec.now in
     let from = start.args.at in
-    let end = from + 1 + c.before.before.body-length.result in
+    let end = from + 1 + c.before.before.body_length.result in
     let body = gather (carried kind) rec in
     let out = set start.args.out.now from c.before.before.before.letter.result in
-    let size : length body ≡ end - (from + 1) = omega (arith, body_gathered rec start.requires.0 kind, c.before.before.body-length.ensures) in
-    let over : put_mid (from + 1) (end - (from + 1)) out c.store-body.new.1.1.0 ≡ put (from + 1) body out = ap (put_mid (from + 1) (end - (from + 1)) out) c.store-body.ensures ∙ lent_is_put (from + 1) end out body size in
+    let size : length body ≡ end - (from + 1) = omega (arith, body_gathered rec start.requires.rec_len kind, c.before.before.body_length.ensures) in
+    let over : put_mid (from + 1) (end - (from + 1)) out c.store_body.new.1.1.0 ≡ put (from + 1) body out = ap (put_mid (from + 1) (end - (from + 1)) out) c.store_body.ensures ∙ lent_is_put (from + 1) end out body size in
     let fits : from + 1 + body_length kind ≤ length start.args.out.now = omega (arith, room known) in
-    over ∙ rw c.before.before.before.letter.ensures (item_stored _ rec start.requires.0 kind (row-so known) from _ fits)
+    over ∙ rw c.before.before.before.letter.ensures (item_stored _ rec start.requires.rec_len kind (row-so known) from _ fits)
 
-same_length : tie.Need-same-length
-same_length c =
-    let start = c.before.before.before.before.before.before.before.before.before.before.before.before in
-    let rec = start.args.rec.now in
-    ap length (stored c.before.before) ∙ put-length start.args.at (list_bytes (item_of start.args.flow rec)) start.args.out.now (rw (item_count _ rec start.requires.0) start.requires.1)
-
-returns-2 : tie.Need-returns-2
+returns-2 : tie.Need-returns
 returns-2 c =
     let known = c.before.before.before.before.before.before in
-    (rw (row-so known, c.before.before.before.before.body-length.ensures) (omega arith), stored c.before.before)
+    (rw (row-so known, c.before.before.before.before.body_length.ensures) (omega arith), stored c.before.before)
 
-pub store-item-spec : {M : Type 1} → statement M
-store-item-spec =
+pub store_item_spec : {M : Type 1} → statement M
+store_item_spec =
     tie.close
     (tie.spec
     (search rules)
@@ -93,5 +86,4 @@ store-item-spec =
     (search rules)
     part-store-body-end
     (search rules)
-    same_length
     returns-2)

@@ -12,37 +12,37 @@ use Rattle.list.specs.declared.table.Row.TheVariants.{Of, Missing}
 use Rattle.list.proofs.same.carries_same.Statement.{statement}
 use Rattle.list.proofs.same.carries_same.Tie as tie
 
-returns : tie.Need-returns
+returns : tie.Need-returns-in_default
 returns c =
-    let start = c.before.before.before.before.before in
-    let none : row_in start.args.flow start.args.rec.now ≡ Missing = sym c.before.before.row-in.ensures ∙ c.enum_told.given.1 in
+    let start = c.before.before.before.before in
+    let none : row_in start.args.flow start.args.rec.now ≡ Missing = sym c.before.row_in.ensures ∙ c.in_default.is in
     rw none
 
 -- the row is known, and so is the test of the other record's type
-abbrev kind_of : tie.After-has-type → ItemKind
-kind_of c = c.before.before.before.kind.given.0.0
+abbrev kind_of : tie.After-has_type → ItemKind
+kind_of c = c.before.before.in-Of.kind
 
-abbrev alike_of : tie.After-has-type → Bool
-alike_of c = let start = c.before.before.before.before.before.before.before.before in is_alike (carried (kind_of c)) start.args.rec.now start.args.other.now
+abbrev alike_of : tie.After-has_type → Bool
+alike_of c = let start = c.before.before.before.before.before.before in is_alike (carried (kind_of c)) start.args.rec.now start.args.other.now
 
-asked : (c : tie.After-has-type) → let start = c.before.before.before.before.before.before.before.before in
-    carries_same start.args.flow start.args.rec.now start.args.other.now ≡ (c.has-type.result && alike_of c)
+asked : (c : tie.After-has_type) → let start = c.before.before.before.before.before.before in
+    carries_same start.args.flow start.args.rec.now start.args.other.now ≡ (c.has_type.result && alike_of c)
 asked c =
-    let start = c.before.before.before.before.before.before.before.before in
-    let row : row_in start.args.flow start.args.rec.now ≡ Of (kind_of c) = sym c.before.before.before.before.before.row-in.ensures ∙ c.before.before.before.kind.given.1 in
-    let typed : c.has-type.result ≡ has_type (record_of (kind_of c)) start.args.other.now = c.has-type.ensures ∙ ap (λ k. has_type k start.args.other.now) c.before.record_of.ensures in
+    let start = c.before.before.before.before.before.before in
+    let row : row_in start.args.flow start.args.rec.now ≡ Of (kind_of c) = sym c.before.before.before.row_in.ensures ∙ c.before.before.in-Of.is in
+    let typed : c.has_type.result ≡ has_type (record_of (kind_of c)) start.args.other.now = c.has_type.ensures ∙ ap (λ k. has_type k start.args.other.now) c.before.record_of.ensures in
     ap (λ (r : Row). with_row r (λ (k : ItemKind). has_type (record_of k) start.args.other.now && is_alike (carried k) start.args.rec.now start.args.other.now) false) row ∙ ap (λ (b : Bool). b && alike_of c) (sym typed)
 
-returns-2 : tie.Need-returns-2
-returns-2 c = let apart : c.before.has-type.result ≡ false = not-true _ c.if1.true in ap (λ (b : Bool). b && alike_of c.before) (sym apart) ∙ sym (asked c.before)
+returns-2 : tie.Need-returns-then-not-has_type
+returns-2 c = let apart : c.before.has_type.result ≡ false = c.if-not-has_type.true in ap (λ (b : Bool). b && alike_of c.before) (sym apart) ∙ sym (asked c.before)
 
-returns-3 : tie.Need-returns-3
+returns-3 : tie.Need-returns
 returns-3 c =
-    let typed : c.before.before.has-type.result ≡ true = not-false _ c.before.if1.false in
+    let typed : c.before.before.has_type.result ≡ true = c.before.if-not-has_type.false in
     c.alike.ensures ∙ ap (λ (b : Bool). b && alike_of c.before.before) (sym typed) ∙ sym (asked c.before.before)
 
-pub carries-same-spec : {M : Type 1} → statement M
-carries-same-spec =
+pub carries_same_spec : {M : Type 1} → statement M
+carries_same_spec =
     tie.close
     (tie.spec
     (search rules)

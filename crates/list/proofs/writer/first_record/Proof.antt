@@ -15,22 +15,22 @@ use Rattle.list.proofs.Loops.{first_record}
 use Rattle.list.proofs.writer.first_record.Statement.{statement}
 use Rattle.list.proofs.writer.first_record.Tie as tie
 
-kind-of-requires : tie.Need-kind-of-requires
-kind-of-requires c κs = let at = c.before.before in next_kind at.args.list.now 0 0 (items_in at.args.list.now) at.requires.0.said at.requires.1
+kind-of-requires : tie.Need-kind_of-kind-requires
+kind-of-requires c κs = let at = c.before.before in next_kind at.args.list.now 0 0 (items_in at.args.list.now) at.requires.listed.said at.requires.list_nonzero
 
 -- the list has a first item
-next : (c : tie.After-body-length) → let list = c.before.before.before.before.args.list.now in Next list 0 0 c.before.kind-of.result (items_in list)
+next : (c : tie.After-body_length) → let list = c.before.before.before.before.args.list.now in Next list 0 0 c.before.kind_of-kind.result (items_in list)
 next c =
     let at = c.before.before.before.before in
-    next_item at.args.list.now 0 0 (items_in at.args.list.now) at.requires.0.said at.requires.1 c.before.kind-of.result c.before.kind-of.ensures
+    next_item at.args.list.now 0 0 (items_in at.args.list.now) at.requires.listed.said at.requires.list_nonzero c.before.kind_of-kind.result c.before.kind_of-kind.ensures
 
-ends : (c : tie.After-body-length) → 1 + c.body-length.result ≤ length c.before.before.before.before.args.list.now
-ends c = omega (arith, (next c).ends, c.body-length.ensures)
+ends : (c : tie.After-body_length) → 1 + c.body_length.result ≤ length c.before.before.before.before.args.list.now
+ends c = omega (arith, (next c).ends, c.body_length.ensures)
 
-add_body : tie.Need-overflow-add-body
+add_body : tie.Need-overflow_add-body
 add_body c = omega (arith, ends c)
 
-part-body-end : tie.Need-slice-bounds-body-end
+part-body-end : tie.Need-slice_bounds-body-end
 part-body-end c = omega (arith, ends c)
 
 returns : tie.Need-returns
@@ -38,13 +38,13 @@ unfolding encode_item
 returns c =
     let first = c.before.before.before.before.before.before in
     let list = first.before.before.before.before.args.list.now in
-    let kind = first.before.kind-of.result in
-    let width : 1 + first.body-length.result - 1 ≡ body_length kind = omega (arith, first.body-length.ensures) in
-    let number : c.before.before.before.seven-digits.result ≡ digits 7 (0 + opened (record_of kind)) = c.before.before.before.seven-digits.ensures ∙ ap (digits 7) c.before.before.before.before.dispositions-with.ensures in
-    c.encode-item.ensures ∙ (λ i. encode_with (number i) no_header (item kind (part 1 (width i) list))) ∙ sym (first_record list kind (next first))
+    let kind = first.before.kind_of-kind.result in
+    let width : 1 + first.body_length.result - 1 ≡ body_length kind = omega (arith, first.body_length.ensures) in
+    let number : c.before.before.before.seven_digits-number.result ≡ digits 7 (0 + opened (record_of kind)) = c.before.before.before.seven_digits-number.ensures ∙ ap (digits 7) c.before.before.before.before.dispositions_with.ensures in
+    c.encode_item.ensures ∙ (λ i. encode_with (number i) no_header (item kind (part 1 (width i) list))) ∙ sym (first_record list kind (next first))
 
-pub first-record-spec : {M : Type 1} → statement M
-first-record-spec =
+pub first_record_spec : {M : Type 1} → statement M
+first_record_spec =
     tie.close
     (tie.spec
     (search rules)

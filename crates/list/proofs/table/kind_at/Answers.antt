@@ -5,13 +5,11 @@ use mathlib.Core.Path.{◌≡◌, refl, sym, ap}
 use native.Mathlib.Omega.{arith}
 use lib.Dec.{leb}
 use lib.ListN.{get_or, get_or-eq_default}
-use borrow.Author.Rules.{rules}
 use borrow.Author.Tests.{leb-true, leb-false}
 use Rattle.records.specs.declared.flow_kind.FlowKind.{FlowKind}
 use Rattle.list.specs.Table.{rows_of}
 use Rattle.list.specs.declared.table.ItemKind.TheVariants.{Z}
-use Rattle.list.proofs.table.kind_at.Statement.{statement}
-use Rattle.list.proofs.table.kind_at.Tie as tie
+use Rattle.list.proofs.table.kind_at.Goals as goal
 
 -- a number that is none of three in a row is past them
 three-past : (i k : ℕ) → k ≤ i → (i ≡ k → ⊥) → (i ≡ k + 1 → ⊥) → (i ≡ k + 2 → ⊥) → k + 3 ≤ i
@@ -28,28 +26,13 @@ last_row q i h = by (leb 10 i) refl
         let last : i ≡ 9 = omega arith in
         rw last
 
-returns : tie.Need-returns
-returns c = sym (ap (λ (i : ℕ). get_or (rows_of c.before.args.flow) i Z) c.match.keys1)
+pub returns-in-0 : goal.returns-in-0
+returns-in-0 c = sym (ap (λ (i : ℕ). get_or (rows_of c.args.flow) i Z) c.in-0.is)
 
-returns-10 : tie.Need-returns-10
-returns-10 c =
-    let i = c.before.args.i in
-    let none = c.match.rest in
+pub returns-in_default : goal.returns-in_default
+returns-in_default c =
+    let i = c.args.i in
+    let none = c.in_default.rest in
     let three : 3 ≤ i = three-past i 0 (omega arith) none.0.0.0.0.0.0.0.0.1 none.0.0.0.0.0.0.0.1 none.0.0.0.0.0.0.1 in
     let six : 6 ≤ i = three-past i 3 three none.0.0.0.0.0.1 none.0.0.0.0.1 none.0.0.0.1 in
-    last_row c.before.args.flow i (three-past i 6 six none.0.0.1 none.0.1 none.1)
-
-pub kind-at-spec : {M : Type 1} → statement M
-kind-at-spec =
-    tie.close
-    (tie.spec
-    returns
-    (λ c. search rules)
-    (λ c. search rules)
-    (λ c. search rules)
-    (λ c. search rules)
-    (λ c. search rules)
-    (λ c. search rules)
-    (λ c. search rules)
-    (λ c. search rules)
-    returns-10)
+    last_row c.args.flow i (three-past i 6 six none.0.0.1 none.0.1 none.1)

@@ -1,0 +1,16 @@
+-- `list::fill_item` meets its contract. Assumes nothing.
+use mathlib.Core.List.{◌∷◌, ◌++◌}
+use Rattle.records.specs.Kinds.{type_of, role}
+use Rattle.list.specs.Encode.{place, supplied, body_placed}
+use Rattle.list.specs.Table.{carried}
+use Rattle.list.proofs.Filling.{Fills, fills_place, fills_both}
+use Rattle.list.proofs.encode.fill_item.Goals as goal
+
+pub returns : goal.returns
+returns c =
+    let own = c.record_of-own in
+    let args = c.args in
+    let kind = args.kind in
+    let all : Fills (place 2 (type_of own.result) ∷ (supplied (role own.result) args.flow args.number.now args.abi.now ++ body_placed (carried kind) args.body.now)) args.rec.now c.place_body.new.rec =
+    fills_place c.place.ensures c.type_of-code.ensures (fills_both (record { done = c.supply.ensures }) (record { done = c.place_body.ensures })) in
+    rw own.ensures at all.done

@@ -1,0 +1,10 @@
+-- `list::row_in` meets its contract. What is left from i on decides as the whole does. Assumes nothing.
+use Prim.Native.Nat.{◌-◌}
+use Rattle.list.proofs.TableRows.{Decides}
+use Rattle.list.proofs.table.row_in.Given as goal
+
+abbrev pub invariant-loop-i : goal.invariant-loop-i
+invariant-loop-i l = Decides (test l.rec) l.flow l.i
+
+abbrev pub decreases-loop-i : goal.decreases-loop-i
+decreases-loop-i l = 10 - l.i
