@@ -102,7 +102,8 @@ fn store_body(rec: &[u8], kind: ItemKind, out: &mut [u8])
         let first = spans[2 * i];
         let last = spans[2 * i + 1];
         let n = width(first, last);
-        out[from..from + n].copy_from_slice(field(rec, first, last));
+        let bytes = field(rec, first, last);
+        out[from..from + n].copy_from_slice(bytes);
         from += n;
         i += 1;
     }

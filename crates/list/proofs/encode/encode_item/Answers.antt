@@ -9,7 +9,7 @@ use Rattle.list.proofs.encode.encode_item.Goals as goal
 pub fill_item-requires : goal.fill_item-requires
 fill_item-requires c =
     let short : length c.field.result.now ≤ 5 = rw (c.field.ensures.bytes, length-take) (omega arith) in
-    (refl, (short, c.requires))
+    record { rec_len = refl; abi_len_bound = short; body_len = c.requires }
 
 pub returns : goal.returns
 returns c =

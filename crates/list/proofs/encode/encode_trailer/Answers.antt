@@ -10,7 +10,7 @@ pub fill_trailer-requires : goal.fill_trailer-requires
 fill_trailer-requires c =
     let header = c.args.header.now in
     let short : length c.field.result.now ≤ 42 = rw c.field.ensures.bytes (part_at_most 0 42 header) in
-    (refl, short)
+    record { rec_len = refl; copied_len_bound = short }
 
 pub returns : goal.returns
 unfolding encode_trailer

@@ -2,7 +2,9 @@
 use Prim.Native.Nat.{◌+◌, ◌-◌}
 use native.Mathlib.Omega.{arith}
 use lib.ListN.{length}
-use Rattle.sequences.proofs.Part.{copied_over}
+use mathlib.Core.Path.{◌∙◌, ap}
+use borrow.Rule.Slice.PartMut.{put_mid}
+use Rattle.sequences.proofs.Part.{lent_is_put}
 use Rattle.list.proofs.encode.place.Goals as goal
 
 pub returns : goal.returns
@@ -10,4 +12,4 @@ returns c =
     let out = c.args.out.now in
     let content = c.args.content.now in
     let from = c.args.first - 1 in
-    copied_over from (from + length content) out content ??c.before.before.copy.new.1.0 (omega arith) (omega (arith, c.requires.content_in_bounds)) (omega arith) ??c.before.before.copy.ensures.1
+    ap (put_mid from (from + length content - from) out) c.copy_from_slice.ensures.after ∙ lent_is_put from (from + length content) out content (omega arith)

@@ -46,7 +46,7 @@ turn c k e l =
     subst (λ (l : List Span). BodyLeft l at.loop-i.from body at.loop-i.rec (fill (body_placed ss body) start.args.rec.now)) next (at.loop-i.invariant.1 k e l)
 
 loop-holds : tie.Need-loop-i-init invariant-loop decreases-loop
-loop-holds c = (c.before.before.before.requires.rec_len, λ k e l. record { left = refl; widths = omega (arith, four_widths k) })
+loop-holds c = (c.before.before.before.requires.0, λ k e l. record { left = refl; widths = omega (arith, four_widths k) })
 
 width-requires : tie.Need-width-n-requires invariant-loop decreases-loop
 width-requires c κs = ((within c).starts, (within c).ordered)
@@ -55,7 +55,7 @@ width-requires c κs = ((within c).starts, (within c).ordered)
 there : (c : tie.After-width-n invariant-loop decreases-loop) → c.before.before.loop-i.from + c.width-n.result ≤ length c.before.before.before.before.before.before.args.body.now
 there c =
     let start = c.before.before.before.before.before.before in
-    omega (arith, (turn c.before start.args.kind c.before.before.before.carried-spans.ensures start.requires.body_len).widths, c.width-n.ensures)
+    omega (arith, (turn c.before start.args.kind c.before.before.before.carried-spans.ensures start.requires.1).widths, c.width-n.ensures)
 
 add-place : tie.Need-overflow_add-from invariant-loop decreases-loop
 add-place c = omega (arith, there c.before)
@@ -86,12 +86,15 @@ loop-again c =
     let here : p.place.new.out ≡ put (get_or w.before.before.before.carried-spans.result (2 * at.i) 0 - 1) (part at.from n body) at.rec = rw size at p.place.ensures in
     (omega (arith, c.before.rec-1.given, at.invariant.0), λ k e l. span_placed w.width-n.ensures here (turn w.before k e l))
 
+same_length : tie.Need-shape_of-rec invariant-loop decreases-loop
+same_length c = c.before.loop-i.invariant.0 ∙ sym c.before.before.before.before.before.requires.0
+
 returns : tie.Need-returns invariant-loop decreases-loop
 returns c =
     let start = c.before.before.before.before.before in
     let k = start.args.kind in
     let body = start.args.body.now in
-    let none : BodyLeft [] c.before.loop-i.from body c.before.loop-i.rec (fill (body_placed (four_of (carried k)) body) start.args.rec.now) = rw (four_end k c.before.loop-i.i c.loop-i-test.false) at (c.before.loop-i.invariant.1 k c.before.before.carried-spans.ensures start.requires.body_len) in
+    let none : BodyLeft [] c.before.loop-i.from body c.before.loop-i.rec (fill (body_placed (four_of (carried k)) body) start.args.rec.now) = rw (four_end k c.before.loop-i.i c.loop-i-test.false) at (c.before.loop-i.invariant.1 k c.before.before.carried-spans.ensures start.requires.1) in
     body_placed_lem none ∙ body-four k body start.args.rec.now
 
 pub place_body_spec : {M : Type 1} → statement M
@@ -119,4 +122,5 @@ place_body_spec =
     (search rules)
     (search rules)
     loop-again
+    same_length
     returns)

@@ -2,13 +2,11 @@
 use Prim.Native.Nat.{ℕ}
 use mathlib.Core.List.{List, [], ◌∷◌}
 use mathlib.Core.Path.{◌≡◌, refl, sym, ◌∙◌, ap}
-use denote.Enum.Declared.{tag_of}
-use types.Run.{OneOf, miss}
+use mathlib.Core.Logic.{◌⊎◌, inl, inr}
 use Rattle.records.specs.Kinds.{Heads, Opens, Closes, role}
 use Rattle.records.specs.declared.flow_kind.FlowKind.{FlowKind}
 use Rattle.records.specs.declared.kind.RecordKind.{RecordKind}
-use Rattle.records.proofs.EachKind.{each-kind}
-use Rattle.records.specs.contracts.kind.RecordKind.{the_type}
+use Rattle.records.specs.declared.kind.RecordKind.TheVariants.{R16, R20, R30, R40, R50, R59, R51, R70}
 use Rattle.list.specs.Encode.{Placed, place, fill, supplied}
 use Rattle.list.proofs.Filling.{Fills, fills_none, fills_place}
 use Rattle.list.proofs.encode.supply.Goals as goal
@@ -38,17 +36,30 @@ returns-in-Ef c =
     all.done ∙ ap (λ (k : RecordKind). fill (supplied (role k) c.args.flow c.args.number.now abi) rec) (sym c.in-Ef.is)
 
 -- every other kind has its number alone
-abbrev others : List ℕ
-others = 2 ∷ 3 ∷ 4 ∷ 5 ∷ 6 ∷ 7 ∷ 8 ∷ 9 ∷ []
+numbered :
+    (q : FlowKind) (number abi : List ℕ) {k : RecordKind} →
+    (k ≡ R16) ⊎ ((k ≡ R20) ⊎ ((k ≡ R30) ⊎ ((k ≡ R40) ⊎ ((k ≡ R50) ⊎ ((k ≡ R59) ⊎ ((k ≡ R51) ⊎ (k ≡ R70))))))) →
+    supplied (role k) q number abi ≡ place 4 number ∷ []
+numbered q number abi {k} other = by other
+  where
+    same : (l : RecordKind) → k ≡ l → supplied (role k) q number abi ≡ supplied (role l) q number abi
+    same l e = ap (λ (kind : RecordKind). supplied (role kind) q number abi) e
 
-numbered : (q : FlowKind) (number abi : List ℕ) (k : RecordKind) → OneOf others (tag_of the_type k) → supplied (role k) q number abi ≡ place 4 number ∷ []
-numbered q number abi =
-    each-kind (λ (k : RecordKind). OneOf others (tag_of the_type k) → supplied (role k) q number abi ≡ place 4 number ∷ [])
-    (λ o. absurd (miss others 0 tt o), (λ o. absurd (miss others 1 tt o), (λ o. refl, (λ o. refl, (λ o. refl, (λ o. refl, (λ o. refl, (λ o. refl, (λ o. refl, (λ o. refl, (λ o. absurd (miss others 10 tt o), tt)))))))))))
+    by :
+        (k ≡ R16) ⊎ ((k ≡ R20) ⊎ ((k ≡ R30) ⊎ ((k ≡ R40) ⊎ ((k ≡ R50) ⊎ ((k ≡ R59) ⊎ ((k ≡ R51) ⊎ (k ≡ R70))))))) →
+        supplied (role k) q number abi ≡ place 4 number ∷ []
+    by (inl e) = same R16 e
+    by (inr (inl e)) = same R20 e
+    by (inr (inr (inl e))) = same R30 e
+    by (inr (inr (inr (inl e)))) = same R40 e
+    by (inr (inr (inr (inr (inl e))))) = same R50 e
+    by (inr (inr (inr (inr (inr (inl e)))))) = same R59 e
+    by (inr (inr (inr (inr (inr (inr (inl e))))))) = same R51 e
+    by (inr (inr (inr (inr (inr (inr (inr e))))))) = same R70 e
 
 pub returns-in-R16 : goal.returns-in-R16
 returns-in-R16 c =
     let number = c.args.number.now in
     let rec = c.args.rec.now in
     let all : Fills (place 4 number ∷ []) rec c.place-in-R16.new.out = fills_place c.place-in-R16.ensures refl fills_none in
-    all.done ∙ ap (λ (ps : List Placed). fill ps rec) (sym (numbered c.args.flow number c.args.abi.now c.args.kind c.in-R16.in-R16-own.keys4))
+    all.done ∙ ap (λ (ps : List Placed). fill ps rec) (sym (numbered c.args.flow number c.args.abi.now c.in-R16.is))

@@ -32,7 +32,7 @@ row-so c = sym c.before.row_in.ensures ∙ c.in-Of.is
 
 -- there is room for the item
 room : (c : tie.In-Of) → let start = c.before.before.before.before in start.args.at + suc (body_length (kind_of c)) ≤ length start.args.out.now
-room c = rw (row-so c) at c.before.before.before.before.requires.rec_in_bounds
+room c = rw (row-so c) at c.before.before.before.before.requires.1
 
 slice-write-out : tie.Need-bounds-out-at
 slice-write-out c = omega (arith, room c.before)
@@ -47,7 +47,7 @@ part-store-body-end c =
 
 -- the item stands in the output
 stored : (c : tie.After-store_body) → let start = c.before.before.before.before.before.before.before.before in let from = start.args.at in let out = start.args.out.now in
-    put_mid (from + 1) (from + 1 + c.before.before.body_length.result - (from + 1)) (set out from c.before.before.before.letter.result) c.store_body.new.1.1.0
+    put_mid (from + 1) (from + 1 + c.before.before.body_length.result - (from + 1)) (set out from c.before.before.before.letter.result) c.store_body.new.out
     ≡ put from (list_bytes (item_of start.args.flow start.args.rec.now)) out
 stored c =
     let known = c.before.before.before.before in
@@ -58,10 +58,16 @@ stored c =
     let end = from + 1 + c.before.before.body_length.result in
     let body = gather (carried kind) rec in
     let out = set start.args.out.now from c.before.before.before.letter.result in
-    let size : length body ≡ end - (from + 1) = omega (arith, body_gathered rec start.requires.rec_len kind, c.before.before.body_length.ensures) in
-    let over : put_mid (from + 1) (end - (from + 1)) out c.store_body.new.1.1.0 ≡ put (from + 1) body out = ap (put_mid (from + 1) (end - (from + 1)) out) c.store_body.ensures ∙ lent_is_put (from + 1) end out body size in
+    let size : length body ≡ end - (from + 1) = omega (arith, body_gathered rec start.requires.0 kind, c.before.before.body_length.ensures) in
+    let over : put_mid (from + 1) (end - (from + 1)) out c.store_body.new.out ≡ put (from + 1) body out = ap (put_mid (from + 1) (end - (from + 1)) out) c.store_body.ensures ∙ lent_is_put (from + 1) end out body size in
     let fits : from + 1 + body_length kind ≤ length start.args.out.now = omega (arith, room known) in
-    over ∙ rw c.before.before.before.letter.ensures (item_stored _ rec start.requires.rec_len kind (row-so known) from _ fits)
+    over ∙ rw c.before.before.before.letter.ensures (item_stored _ rec start.requires.0 kind (row-so known) from _ fits)
+
+same_length : tie.Need-shape_of-out
+same_length c =
+    let start = c.before.before.before.before.before.before.before.before.before.before in
+    let rec = start.args.rec.now in
+    ap length (stored c.before.before) ∙ put-length start.args.at (list_bytes (item_of start.args.flow rec)) start.args.out.now (rw (item_count _ rec start.requires.0) start.requires.1)
 
 returns-2 : tie.Need-returns
 returns-2 c =
@@ -86,4 +92,5 @@ store_item_spec =
     (search rules)
     part-store-body-end
     (search rules)
+    same_length
     returns-2)

@@ -22,7 +22,7 @@ store_item-at-requires c =
     let loop = c.loop-i in
     let more = c.loop-i-test.true in
     let handed = record_part loop.i c.args.flow.now in
-    (ap length handed ∙ record_whole _ _ more, subst (λ (rec : List ℕ). loop.at + item_length (row_in c.args.kind rec) ≤ length loop.out) (sym handed) (item-fits loop.invariant.1 more))
+    record { rec_len = ap length handed ∙ record_whole _ _ more; rec_in_bounds = subst (λ (rec : List ℕ). loop.at + item_length (row_in c.args.kind rec) ≤ length loop.out) (sym handed) (item-fits loop.invariant.1 more) }
 
 pub loop-i-preserved : goal.loop-i-preserved
 loop-i-preserved c =
@@ -31,8 +31,8 @@ loop-i-preserved c =
     let kind = c.args.kind in
     let call = c.store_item-at in
     let handed = record_part loop.i flow in
-    let end : call.result ≡ loop.at + item_length (row_in kind (record_at loop.i flow)) = call.ensures.0 ∙ ap (λ (rec : List ℕ). loop.at + item_length (row_in kind rec)) handed in
-    let out : call.new.1.1.0 ≡ put loop.at (list_bytes (item_of kind (record_at loop.i flow))) loop.out = call.ensures.1 ∙ ap (λ (rec : List ℕ). put loop.at (list_bytes (item_of kind rec)) loop.out) handed in
+    let end : call.result ≡ loop.at + item_length (row_in kind (record_at loop.i flow)) = call.ensures.value ∙ ap (λ (rec : List ℕ). loop.at + item_length (row_in kind rec)) handed in
+    let out : call.new.out ≡ put loop.at (list_bytes (item_of kind (record_at loop.i flow))) loop.out = call.ensures.out_after ∙ ap (λ (rec : List ℕ). put loop.at (list_bytes (item_of kind rec)) loop.out) handed in
     (omega arith, rw (end, out, add-one loop.i) (listed_next loop.invariant.1 c.loop-i-test.true))
 
 pub returns : goal.returns

@@ -16,13 +16,13 @@ use Rattle.list.proofs.writer.first_record.Statement.{statement}
 use Rattle.list.proofs.writer.first_record.Tie as tie
 
 kind-of-requires : tie.Need-kind_of-kind-requires
-kind-of-requires c κs = let at = c.before.before in next_kind at.args.list.now 0 0 (items_in at.args.list.now) at.requires.listed.said at.requires.list_nonzero
+kind-of-requires c κs = let at = c.before.before in next_kind at.args.list.now 0 0 (items_in at.args.list.now) at.requires.0.said at.requires.1
 
 -- the list has a first item
 next : (c : tie.After-body_length) → let list = c.before.before.before.before.args.list.now in Next list 0 0 c.before.kind_of-kind.result (items_in list)
 next c =
     let at = c.before.before.before.before in
-    next_item at.args.list.now 0 0 (items_in at.args.list.now) at.requires.listed.said at.requires.list_nonzero c.before.kind_of-kind.result c.before.kind_of-kind.ensures
+    next_item at.args.list.now 0 0 (items_in at.args.list.now) at.requires.0.said at.requires.1 c.before.kind_of-kind.result c.before.kind_of-kind.ensures
 
 ends : (c : tie.After-body_length) → 1 + c.body_length.result ≤ length c.before.before.before.before.args.list.now
 ends c = omega (arith, (next c).ends, c.body_length.ensures)

@@ -34,8 +34,8 @@ decreases-loop list im walk₀ company₀ meant₀ header₀ dispositions₀ sho
 abbrev list_of : tie.At-loop-at invariant-loop decreases-loop → List ℕ
 list_of a = a.before.before.before.before.before.before.before.args.list.now
 
-abbrev header_of : tie.At-loop-at invariant-loop decreases-loop → Header
-header_of a =
+abbrev header_here : tie.At-loop-at invariant-loop decreases-loop → Header
+header_here a =
     header_of a.before.before.before.before.before.before.before.args.im.now
 
 -- the header meant
@@ -103,7 +103,7 @@ built c =
     turn_record (turn-so c.before.before.before.before.before) l.loop-at.dispositions c.before.before.shown_with-shown.result (header_at l) c.encode_item-rec.result (c.before.before.shown_with-shown.ensures ∙ ap (digits 7) c.before.before.before.dispositions_with-dispositions.ensures) c.encode_item-rec.ensures
 
 found : (c : tie.After-judge invariant-loop decreases-loop) → let l = c.before.before.before.before.before.before.before.before.before.before.before in let k = c.before.before.before.before.before.before.before.before.kind_of-kind.result in
-    judge_record (header_of l) l.loop-at.walk l.loop-at.company.now (suc l.loop-at.n)
+    judge_record (header_here l) l.loop-at.walk l.loop-at.company.now (suc l.loop-at.n)
     (encode_item (l.loop-at.dispositions + opened (record_of k)) (header_at l) (item_at (list_of l) l.loop-at.at k))
     ≡ judged_verdict c.judge.result
 found c =
@@ -129,16 +129,16 @@ loop-again c =
     let t = turn-so b in
     let told = found c.before.before.before.before.before.before ∙ ap judged_verdict c.before.before.before.before.before.in-Right.is in
     let on = judging_on l.loop-at.invariant.2 c.before.before.before.before.before.before.before.before.before.before.before.before.before.before.before.before.loop-at-test.true k b.before.kind_of-kind.ensures _ _ told in
-    let end : i + 1 + body_length k ≡ i + 1 + b.body_length.result = omega (arith, t.size-so) in
+    let end : i + 1 + body_length k ≡ i + 1 + b.body_length.result = omega (arith, t.size_so) in
     let number : l.loop-at.dispositions + opened (record_of k) ≡ c.before.before.before.before.before.before.before.before.before.before.before.dispositions_with-dispositions.result = sym c.before.before.before.before.before.before.before.before.before.before.before.dispositions_with-dispositions.ensures in
-    let body : body_meant l.loop-at.header.now (item_at list i k) ≡ c.body_meant-latest_header.result.now = sym (c.body_meant-latest_header.ensures ∙ ap (λ (body : List ℕ). body_meant l.loop-at.header.now (item k body)) t.body-so) in
+    let body : body_meant l.loop-at.header.now (item_at list i k) ≡ c.body_meant-latest_header.result.now = sym (c.body_meant-latest_header.ensures ∙ ap (λ (body : List ℕ). body_meant l.loop-at.header.now (item k body)) t.body_so) in
     let meant : header_after (header_at l) (item_at list i k) ≡ record { kind = c.before.kind_meant-meant.result; body = c.body_meant-latest_header.result.now } = λ j. record { kind = sym c.before.kind_meant-meant.ensures j; body = body j } in
     let right = c.before.before.before.before.before.in-Right.right in
     let walk-so : c.before.before.next-walk.result ≡ saturated (step l.loop-at.walk right.kind right.cents (encode_item (l.loop-at.dispositions + opened (record_of k)) (header_at l) (item_at list i k))) =
     c.before.before.next-walk.ensures ∙ ap (λ (rec : List ℕ). saturated (step l.loop-at.walk right.kind right.cents rec)) (built c.before.before.before.before.before.before.before.before) in
     let company : first_company l.loop-at.company.now (record_of k) (carried_at D company_span (item_at list i k).body) ≡ c.before.before.before.before.company_after-first_company.result.now =
-    sym (c.before.before.before.before.company_after-first_company.ensures ∙ ap (λ (code : List ℕ). first_company l.loop-at.company.now (record_of k) (field 37 41 code)) t.body-so) in
-    (omega (arith, t.ends), l.loop-at.invariant.1, subst (λ (A : Type 0). A) (λ j. JudgingAt (header_of l) list (end j) (sym (add-one l.loop-at.n) j) (number j) (meant j) (sym walk-so j) (company j)) on, c.before.before.before.before.before.before.before.before.before.before.shown_with-shown.ensures)
+    sym (c.before.before.before.before.company_after-first_company.ensures ∙ ap (λ (code : List ℕ). first_company l.loop-at.company.now (record_of k) (field 37 41 code)) t.body_so) in
+    (omega (arith, t.ends), l.loop-at.invariant.1, subst (λ (A : Type 0). A) (λ j. JudgingAt (header_here l) list (end j) (sym (add-one l.loop-at.n) j) (number j) (meant j) (sym walk-so j) (company j)) on, c.before.before.before.before.before.before.before.before.before.before.shown_with-shown.ensures)
 
 close-requires : tie.Need-close-requires invariant-loop decreases-loop
 close-requires c κs = (few-so c.before).1

@@ -38,7 +38,7 @@ abbrev header_at : tie.At-loop-at invariant-loop decreases-loop → HeaderMeant
 header_at a = record { kind = a.loop-at.meant; body = a.loop-at.header.now }
 
 loop-holds : tie.Need-loop-at-init invariant-loop decreases-loop
-loop-holds c = (omega arith, c.before.before.before.before.requires.listed.few, refl, storing_begins _ _ c.before.before.before.before.requires.listed c.before.before.before.before.requires.list_in_bounds, c.seven_digits-shown.ensures)
+loop-holds c = (omega arith, c.before.before.before.before.requires.0.few, refl, storing_begins _ _ c.before.before.before.before.requires.0 c.before.before.before.before.requires.1.0, c.seven_digits-shown.ensures)
 
 kind-of-requires : tie.Need-kind_of-kind-requires invariant-loop decreases-loop
 kind-of-requires c κs =
@@ -95,10 +95,10 @@ add-place : tie.Need-overflow_add-n invariant-loop decreases-loop
 add-place c = omega (arith, (few-so c.before.before.before.before.before.before.before.before.before.before).1)
 
 -- the record that is built is the item's
-abbrev record_of : tie.At-loop-at invariant-loop decreases-loop → ItemKind → List ℕ
-record_of a k = encode_item (a.loop-at.dispositions + opened (record_of k)) (header_at a) (item_at (list_of a) a.loop-at.at k)
+abbrev record_at : tie.At-loop-at invariant-loop decreases-loop → ItemKind → List ℕ
+record_at a k = encode_item (a.loop-at.dispositions + opened (record_of k)) (header_at a) (item_at (list_of a) a.loop-at.at k)
 
-built : (c : tie.After-encode_item-rec invariant-loop decreases-loop) → c.encode_item-rec.result ≡ record_of c.before.before.before.before.before.before.before.before.before c.before.before.before.before.before.before.kind_of-kind.result
+built : (c : tie.After-encode_item-rec invariant-loop decreases-loop) → c.encode_item-rec.result ≡ record_at c.before.before.before.before.before.before.before.before.before c.before.before.before.before.before.before.kind_of-kind.result
 built c =
     let l = c.before.before.before.before.before.before.before.before.before in
     turn_record (turn-so c.before.before.before.before.before) l.loop-at.dispositions c.before.before.shown_with-shown.result (header_at l) c.encode_item-rec.result (c.before.before.shown_with-shown.ensures ∙ ap (digits 7) c.before.before.before.dispositions_with-dispositions.ensures) c.encode_item-rec.ensures
@@ -133,16 +133,16 @@ loop-again c =
     let b = c.before.before.before.before.before.before.before.before.before.before.before.before in
     let t = turn-so b in
     let k = b.before.kind_of-kind.result in
-    let end : i + 1 + body_length k ≡ i + 1 + b.body_length.result = omega (arith, t.size-so) in
+    let end : i + 1 + body_length k ≡ i + 1 + b.body_length.result = omega (arith, t.size_so) in
     let number : l.loop-at.dispositions + opened (record_of k) ≡ c.before.before.before.before.before.before.before.before.before.before.dispositions_with-dispositions.result = sym c.before.before.before.before.before.before.before.before.before.before.dispositions_with-dispositions.ensures in
-    let body : body_meant l.loop-at.header.now (item_at list i k) ≡ c.body_meant-latest_header.result.now = sym (c.body_meant-latest_header.ensures ∙ ap (λ (body : List ℕ). body_meant l.loop-at.header.now (item k body)) t.body-so) in
+    let body : body_meant l.loop-at.header.now (item_at list i k) ≡ c.body_meant-latest_header.result.now = sym (c.body_meant-latest_header.ensures ∙ ap (λ (body : List ℕ). body_meant l.loop-at.header.now (item k body)) t.body_so) in
     let meant : header_after (header_at l) (item_at list i k) ≡ record { kind = c.before.kind_meant-meant.result; body = c.body_meant-latest_header.result.now } = λ j. record { kind = sym c.before.kind_meant-meant.ensures j; body = body j } in
     let index : 120 * l.loop-at.n + 1 - 1 ≡ 120 * l.loop-at.n = omega arith in
-    let stored : c.before.before.before.before.place.new.out ≡ put (120 * l.loop-at.n) (record_of l k) l.loop-at.out = c.before.before.before.before.place.ensures ∙ (λ j. put (index j) (built c.before.before.before.before.before.before.before j) l.loop-at.out) in
-    let size : length (record_of l k) ≡ 120 = ap length (sym (built c.before.before.before.before.before.before.before)) ∙ sized c.before.before.before.before.before.before.before in (
+    let stored : c.before.before.before.before.place.new.out ≡ put (120 * l.loop-at.n) (record_at l k) l.loop-at.out = c.before.before.before.before.place.ensures ∙ (λ j. put (index j) (built c.before.before.before.before.before.before.before j) l.loop-at.out) in
+    let size : length (record_at l k) ≡ 120 = ap length (sym (built c.before.before.before.before.before.before.before)) ∙ sized c.before.before.before.before.before.before.before in (
       omega (arith, t.ends),
       l.loop-at.invariant.1,
-      ap length stored ∙ put-length (120 * l.loop-at.n) (record_of l k) l.loop-at.out (omega (arith, room-so l)) ∙ l.loop-at.invariant.2,
+      ap length stored ∙ put-length (120 * l.loop-at.n) (record_at l k) l.loop-at.out (omega (arith, room-so l)) ∙ l.loop-at.invariant.2,
       subst (λ (A : Type 0). A) (λ j. StoringAt list (put 0 (encode (items_in list)) l.before.before.before.before.before.args.out.now) (end j) (sym (add-one l.loop-at.n) j) (number j) (meant j) (sym stored j)) (storing_on l.loop-at.invariant.3 c.before.before.before.before.before.before.before.before.before.before.before.before.before.before.before.loop-at-test.true k b.before.kind_of-kind.ensures),
       c.before.before.before.before.before.before.before.before.before.shown_with-shown.ensures,
     )
@@ -165,6 +165,11 @@ last_stored c =
     let l = c.before.before.before.before.before in
     let index : 120 * l.loop-at.n + 1 - 1 ≡ 120 * l.loop-at.n = omega arith in
     c.place-2.ensures ∙ ap (λ (m : ℕ). put m c.before.before.before.encode_trailer-trailer.result l.loop-at.out) index
+
+same_length : tie.Need-shape_of-out invariant-loop decreases-loop
+same_length c =
+    let l = c.before.before.before.before.before.before.before in
+    ap length (last_stored c.before.before) ∙ put-length (120 * l.loop-at.n) c.before.before.before.before.before.encode_trailer-trailer.result l.loop-at.out (omega (arith, trailer-sized c.before.before.before.before.before, room-so l)) ∙ l.loop-at.invariant.2
 
 returns : tie.Need-returns invariant-loop decreases-loop
 returns c =
@@ -211,4 +216,5 @@ store_items_spec =
     add-place-2
     (search rules)
     place-requires-2
+    same_length
     returns)
