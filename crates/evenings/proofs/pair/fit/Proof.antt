@@ -9,49 +9,49 @@ use Rattle.evenings.specs.Pair.{same_kind}
 use Rattle.evenings.proofs.pair.fit.Statement.{statement}
 use Rattle.evenings.proofs.pair.fit.Tie as tie
 
-returns : tie.Need-returns
+returns : tie.Need-returns-then-old-gt-MOST_REQUESTS
 returns c =
     let args = c.before.before.before.args in
-    let many : leb args.old.dispositions 256 ≡ false = lt-leb _ _ c.before.if1.true in
+    let many : leb args.old.dispositions 256 ≡ false = lt-leb _ _ c.before.if-old-gt-MOST_REQUESTS.true in
     c.refused.ensures ∙ rw many refl
 
 -- the old flow has few enough
-few_old : (c : tie.Else1) → leb c.before.before.args.old.dispositions 256 ≡ true
-few_old c = le-leb _ _ c.if1.false
+few_old : (c : tie.Else-old-gt-MOST_REQUESTS) → leb c.before.before.args.old.dispositions 256 ≡ true
+few_old c = le-leb _ _ c.if-old-gt-MOST_REQUESTS.false
 
-returns-2 : tie.Need-returns-2
+returns-2 : tie.Need-returns-then-new-gt-MOST_REQUESTS
 returns-2 c =
     let args = c.before.before.before.before.before.args in
-    let many : leb args.new.dispositions 256 ≡ false = lt-leb _ _ c.before.if2.true in
-    c.refused2.ensures ∙ rw (few_old c.before.before.before, many) refl
+    let many : leb args.new.dispositions 256 ≡ false = lt-leb _ _ c.before.if-new-gt-MOST_REQUESTS.true in
+    c.refused-then-new-gt-MOST_REQUESTS.ensures ∙ rw (few_old c.before.before.before, many) refl
 
-few_new : (c : tie.Else2) → leb c.before.before.before.before.args.new.dispositions 256 ≡ true
-few_new c = le-leb _ _ c.if2.false
+few_new : (c : tie.Else-new-gt-MOST_REQUESTS) → leb c.before.before.before.before.args.new.dispositions 256 ≡ true
+few_new c = le-leb _ _ c.if-new-gt-MOST_REQUESTS.false
 
-returns-3 : tie.Need-returns-3
+returns-3 : tie.Need-returns-then-not-same_kind
 returns-3 c =
     let tested = c.before.before.before in
     let args = tested.before.before.before.before.args in
-    let apart : same_kind args.old.kind args.new.kind ≡ false = sym c.before.before.same_kind.ensures ∙ not-true _ c.before.if3.true in
-    c.refused3.ensures ∙ rw (few_old tested.before.before, few_new tested, apart) refl
+    let apart : same_kind args.old.kind args.new.kind ≡ false = sym c.before.before.same_kind.ensures ∙ c.before.if-not-same_kind.true in
+    c.refused-then-not-same_kind.ensures ∙ rw (few_old tested.before.before, few_new tested, apart) refl
 
-one-kind : (c : tie.Else3) → let args = c.before.before.before.before.before.before.args in same_kind args.old.kind args.new.kind ≡ true
-one-kind c = sym c.before.same_kind.ensures ∙ not-false _ c.if3.false
+one-kind : (c : tie.Else-not-same_kind) → let args = c.before.before.before.before.before.before.args in same_kind args.old.kind args.new.kind ≡ true
+one-kind c = sym c.before.same_kind.ensures ∙ c.if-not-same_kind.false
 
-returns-4 : tie.Need-returns-4
+returns-4 : tie.Need-returns-then-lent-lt-LEAST_MEMORY
 returns-4 c =
     let kinds = c.before.before in
     let tested = kinds.before.before in
     let args = tested.before.before.before.before.args in
-    let short : leb 66049 args.lent ≡ false = lt-leb _ _ c.before.if4.true in
-    c.refused4.ensures ∙ rw (few_old tested.before.before, few_new tested, one-kind kinds, short) refl
+    let short : leb 66049 args.lent ≡ false = lt-leb _ _ c.before.if-lent-lt-LEAST_MEMORY.true in
+    c.refused-then-lent-lt-LEAST_MEMORY.ensures ∙ rw (few_old tested.before.before, few_new tested, one-kind kinds, short) refl
 
-returns-5 : tie.Need-returns-5
+returns-5 : tie.Need-returns
 returns-5 c =
     let kinds = c.before in
     let tested = kinds.before.before in
     let args = tested.before.before.before.before.args in
-    let enough : leb 66049 args.lent ≡ true = le-leb _ _ c.if4.false in
+    let enough : leb 66049 args.lent ≡ true = le-leb _ _ c.if-lent-lt-LEAST_MEMORY.false in
     rw (few_old tested.before.before, few_new tested, one-kind kinds, enough) refl
 
 pub fit_spec : {M : Type 1} → statement M
