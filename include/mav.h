@@ -1,7 +1,7 @@
 /*
  * The C interface of the proved M.Av. library: flows of 120-byte records, of new requests or of recalls,
  * by the rules of documents 01 and 02. Link the archive target/staticlib/libcapi.a, which
- * `rt staticlib capi` writes. It is for x86-64 Linux, and needs nothing but the C library.
+ * `bash tools/library.sh` writes. It is for x86-64 Linux, and needs nothing but the C library.
  *
  * What a call does. Each function returns 1 where the call is accepted and 0 where it is refused, and
  * writes all eight entries of `answer`. Whatever the bytes and the numbers are, it ends with an answer,

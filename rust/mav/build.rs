@@ -1,4 +1,4 @@
-//! Links the proved library, `target/staticlib/libcapi.a`, which `rt staticlib capi` writes.
+//! Links the proved library, `target/staticlib/libcapi.a`, which `bash tools/library.sh` writes.
 
 use std::env;
 use std::path::PathBuf;
@@ -11,7 +11,7 @@ fn main() {
     println!("cargo:rerun-if-changed={}", archive.display());
     if !archive.is_file() {
         eprintln!(
-            "the proved library is not built: run `rt staticlib capi` in the repository's folder"
+            "the proved library is not built: run `bash tools/library.sh` in the repository's folder"
         );
         std::process::exit(1);
     }

@@ -1,11 +1,10 @@
-// The C interface: the library's calls under plain names, for programs in C or Rust to link.
+// The library's calls with one form of answer, which the crate `capi_c` exports to C.
 //
-// A slice is a pointer and a length, and `answer` a pointer to eight numbers of 64 bits. Each function
-// returns 1 where the call is accepted and 0 where it is refused, and writes all eight entries of
-// `answer`: of an accepted call three numbers, of a refused one number, record and position; then the
-// length where the call has one, else 0; then the kind of flow, 1 requests and 2 recalls, where an
-// accepted call tells it, else 0; then three zeros. No function has a `requires`, and a refused
-// call writes nothing but `answer`.
+// Each function returns 1 where the call is accepted and 0 where it is refused, and writes all eight
+// entries of `answer`: of an accepted call three numbers, of a refused one number, record and position;
+// then the length where the call has one, else 0; then the kind of flow, 1 requests and 2 recalls, where
+// an accepted call tells it, else 0; then three zeros. No function has a `requires`, and a refused call
+// writes nothing but `answer`.
 #![tactic(auto)]
 
 ghost use Rattle.std.specs.Prelude.{◌≡◌, length};
@@ -30,24 +29,21 @@ use fields::{Date, Number};
 use flow::Found;
 
 // The number that a field of 1 to 15 digits gives; or 5.
-#[unsafe(no_mangle)]
-pub extern "C" fn mav_digits(field: &[u8], answer: &mut [u64; 8]) -> u8
+pub fn mav_digits(field: &[u8], answer: &mut [u64; 8]) -> u8
     ensures { returned result answer.new ≡ of_number (digit_field field.now) }
 {
     tell_number(answer, fields::read_digits(field))
 }
 
 // The cents that a field of thirteen digits gives, above zero; or 5, then 25.
-#[unsafe(no_mangle)]
-pub extern "C" fn mav_amount(field: &[u8], answer: &mut [u64; 8]) -> u8
+pub fn mav_amount(field: &[u8], answer: &mut [u64; 8]) -> u8
     ensures { returned result answer.new ≡ of_number (amount_field field.now) }
 {
     tell_number(answer, fields::read_amount(field))
 }
 
 // Whether six digits are a day of the calendar, with no number to tell; or 5, then 8.
-#[unsafe(no_mangle)]
-pub extern "C" fn mav_date(field: &[u8], answer: &mut [u64; 8]) -> u8
+pub fn mav_date(field: &[u8], answer: &mut [u64; 8]) -> u8
     ensures { returned result answer.new ≡ of_day (date_field field.now) }
 {
     match fields::read_date(field) {
@@ -61,16 +57,14 @@ pub extern "C" fn mav_date(field: &[u8], answer: &mut [u64; 8]) -> u8
 }
 
 // Reads a flow: its dispositions, cents, records and kind; or its first fault.
-#[unsafe(no_mangle)]
-pub extern "C" fn mav_read(flow: &[u8], answer: &mut [u64; 8]) -> u8
+pub fn mav_read(flow: &[u8], answer: &mut [u64; 8]) -> u8
     ensures { returned result answer.new ≡ of_verdict (judge flow.now) 0 }
 {
     tell(answer, flow::read(flow), 0)
 }
 
 // Where disposition k stands: its first record, its number of records and its cents; or refused.
-#[unsafe(no_mangle)]
-pub extern "C" fn mav_find(flow: &[u8], k: u64, answer: &mut [u64; 8]) -> u8
+pub fn mav_find(flow: &[u8], k: u64, answer: &mut [u64; 8]) -> u8
     ensures { returned result answer.new ≡ of_found (find flow.now k) }
 {
     match flow::find(flow, k) {
@@ -80,8 +74,7 @@ pub extern "C" fn mav_find(flow: &[u8], k: u64, answer: &mut [u64; 8]) -> u8
 }
 
 // Writes the flow that a list encodes at the front of out, and tells its length: 0 where it is refused.
-#[unsafe(no_mangle)]
-pub extern "C" fn mav_write(list: &[u8], out: &mut [u8], answer: &mut [u64; 8]) -> u8
+pub fn mav_write(list: &[u8], out: &mut [u8], answer: &mut [u64; 8]) -> u8
     ensures answer_after { returned result answer.new ≡ of_output (write list.now out.old) }
     ensures out_after { out.new ≡ (write list.now out.old).bytes }
 {
@@ -91,8 +84,7 @@ pub extern "C" fn mav_write(list: &[u8], out: &mut [u8], answer: &mut [u64; 8]) 
 }
 
 // Writes a flow's list at the front of out, and tells its length: 0 where it is refused.
-#[unsafe(no_mangle)]
-pub extern "C" fn mav_list(flow: &[u8], out: &mut [u8], answer: &mut [u64; 8]) -> u8
+pub fn mav_list(flow: &[u8], out: &mut [u8], answer: &mut [u64; 8]) -> u8
     ensures answer_after { returned result answer.new ≡ of_output (read_back flow.now out.old) }
     ensures out_after { out.new ≡ (read_back flow.now out.old).bytes }
 {
@@ -102,8 +94,7 @@ pub extern "C" fn mav_list(flow: &[u8], out: &mut [u8], answer: &mut [u64; 8]) -
 }
 
 // Gives disposition k the amount.
-#[unsafe(no_mangle)]
-pub extern "C" fn mav_change(flow: &mut [u8], k: u64, cents: u64, answer: &mut [u64; 8]) -> u8
+pub fn mav_change(flow: &mut [u8], k: u64, cents: u64, answer: &mut [u64; 8]) -> u8
     ensures answer_after { returned result answer.new ≡ of_change (change flow.old k cents) }
     ensures flow_after { flow.new ≡ (change flow.old k cents).bytes }
 {
@@ -111,8 +102,7 @@ pub extern "C" fn mav_change(flow: &mut [u8], k: u64, cents: u64, answer: &mut [
 }
 
 // Takes disposition k out, and tells the length of the flow left: where it is refused, the length lent.
-#[unsafe(no_mangle)]
-pub extern "C" fn mav_withdraw(flow: &mut [u8], k: u64, answer: &mut [u64; 8]) -> u8
+pub fn mav_withdraw(flow: &mut [u8], k: u64, answer: &mut [u64; 8]) -> u8
     ensures answer_after { returned result answer.new ≡ of_withdrawal (withdraw flow.old k) }
     ensures flow_after { flow.new ≡ (withdraw flow.old k).bytes }
 {
@@ -123,8 +113,7 @@ pub extern "C" fn mav_withdraw(flow: &mut [u8], k: u64, answer: &mut [u64; 8]) -
 
 // Compares two flows: how many requests are kept, dropped and added, and the length of the account that is
 // written at the front of account; 0 where it is refused.
-#[unsafe(no_mangle)]
-pub extern "C" fn mav_compare(
+pub fn mav_compare(
     old: &[u8],
     new: &[u8],
     work: &mut [u16],
@@ -141,8 +130,7 @@ pub extern "C" fn mav_compare(
 }
 
 // What line n of that account tells: its letter, and the number of its record 14 in its flow.
-#[unsafe(no_mangle)]
-pub extern "C" fn mav_compare_line(
+pub fn mav_compare_line(
     old: &[u8],
     new: &[u8],
     work: &mut [u16],
