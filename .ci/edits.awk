@@ -1,18 +1,24 @@
-# Each must-fail edit was refused for a fact of its own. After `rt ci`:
+# Each must-fail edit was refused for a fact of its own. `.ci/edits` calls this twice:
 #
-#     awk -f .ci/edits.awk crates/*/must-fail/*.edit
+#     awk -v gate=GATE -v list=LIST -f .ci/edits.awk crates/*/must-fail/*.edit
+#     awk -v gate=GATE -v logs=FOLDER -f .ci/edits.awk crates/*/must-fail/*.edit
+#
+# The first call writes into LIST the edits that have to be tried alone, `CRATE FILE LABEL` in a line, and the second
+# judges what `rt check` printed of each, FOLDER/CRATE.FILE.LABEL. GATE has what `rt ci` printed.
 #
 # Every edit has a line before its pairs of old and new:
 #
 #     # LABEL, in FUNCTION: what holds     an edit of src/; FUNCTION by its path in proofs/
 #     # LABEL: what holds                  an edit of specs/, or of specs/ and src/ alike, alone in LABEL.edit
 #
-# The checker reports every function, and proves each from the contracts of those that it calls. So edits
-# of different functions share a file, which costs one check. Of each the first error in the function's
-# own Proof.antt has to be a fact that fails; of an edit of specs/ the first error of all. A function that
-# the checker proves by itself has no Proof.antt: there the search for what it returns has to fail. That no
-# edit stands in for another: of several in a file each is a line of its function's body, or a constant that
-# this function alone cites. An edit of a contract, which other functions rest on, is alone in its file.
+# and after it, where the edit changes conditions by which goals of the function's proof are named:
+#
+#     # renames OLD to NEW                 the proof is read with NEW for OLD throughout
+#
+# The function has to be refused, and by a fact: an error in its own proof that is more than a name that is gone or a
+# step that no longer fits, or a goal of its own that is left open. Such a goal counts where every name of its proof
+# still stands, or where the checker has values at which the goal is false. Of an edit of specs/ a proof of the crate
+# has to fail in the same way.
 
 FNR == 1 {
     judge_file()
@@ -29,6 +35,7 @@ FNR == 1 {
     place[edits] = $2 ~ /,$/ ? substr($4, 1, length($4) - 1) : ""
     next
 }
+/^# renames [^ ]+ to [^ ]+$/ && edits && place[edits] != "" { next }
 /^file: / { source = substr($0, 7); next }
 /^old: / { old = substr($0, 6); next }
 /^new:/ {
@@ -45,12 +52,12 @@ END {
 }
 
 function fault(name, what) {
-    print "crates/" crate "/must-fail/" file ".edit: " (name == "" ? "" : name ": ") what
+    print "crates/" crate "/must-fail/" file ".edit: " (name == "" ? "" : name ": ") substr(what, 1, 300)
     faults++
 }
 
-# Judges the file that was read: its labels and places, then what the checker said.
-function judge_file(   i, k, own, meant, error, found, named) {
+# Judges the file that was read: its labels and places, then what the checks said.
+function judge_file(   i, k, own, meant, error, named, log_file) {
     split("", own)
     split("", meant)
     split("", named)
@@ -58,14 +65,8 @@ function judge_file(   i, k, own, meant, error, found, named) {
         i = pair_of[k]
         own[i]++
         if (pair_source[k] ~ /^specs\//) meant[i]++
-        if (!i) {
-            fault("", "an edit without a label: " pair_old[k])
-        } else if (pair_source[k] !~ /^(src|specs)\//) {
-            fault(label[i], "an edit of neither src/ nor specs/: " pair_source[k])
-        } else if (edits > 1 && place[i] != "") {
-            found = place_of(pair_source[k], pair_old[k])
-            if (found != place[i]) fault(label[i], "not a part of " place[i] " alone" (found == "" ? "" : ", but of " found) ": " pair_old[k])
-        }
+        if (!i) fault("", "an edit without a label: " pair_old[k])
+        else if (pair_source[k] !~ /^(src|specs)\//) fault(label[i], "an edit of neither src/ nor specs/: " pair_source[k])
     }
     for (i = 1; i <= edits; i++) {
         if (!own[i]) fault(label[i], "there is no edit after the label")
@@ -75,84 +76,71 @@ function judge_file(   i, k, own, meant, error, found, named) {
         if (place[i] == "" && (edits > 1 || label[i] != file)) fault(label[i], "an edit of specs/ is alone in a file of its name")
         if (place[i] != "" && place[i] in named) fault(label[i], "a second edit of " place[i] " in one file")
         named[place[i]]
-        error = first_error(place[i])
-        if (error == "") {
-            fault(label[i], "nothing was refused in " (place[i] == "" ? "the crate" : place[i]))
-        } else if (error ~ /no occurrence|has no `Need-|has no field|was not admitted|not in scope/) {
-            fault(label[i], "refused in " (place[i] == "" ? "the crate" : place[i]) ", but for no fact: " error)
-        } else if (error !~ ("^target/must-fail/" crate "/" file "/proofs/")) {
-            fault(label[i], "refused in no proof: " error)
-        } else {
+        if (place[i] == "" && is_fact(error = gate_error())) {
             refused++
+            continue
         }
+        if (list != "") {
+            print crate, file, label[i] > list
+            continue
+        }
+        log_file = logs "/" crate "." file "." label[i]
+        error = place[i] == "" ? crate_error(log_file) : function_error(log_file, place[i])
+        if (error == "") refused++
+        else fault(label[i], error)
     }
 }
 
-# The first error that the check of the edited crate gave in the proof of a function, or anywhere.
-function first_error(function_path,   log_file, line, from, error) {
-    from = "target/must-fail/" crate "/" file "/"
-    log_file = from ".log"
-    if (function_path != "") from = from "proofs/" function_path "/Proof.antt"
-    while (error == "" && (getline line < log_file) > 0) {
-        if (!index(line, from)) continue
-        if (line ~ /^[^ ]*: error/ || line ~ /: no proof: .*; `search` does not close `returns/) error = substr(line, index(line, from))
-    }
-    close(log_file)
+# Whether an error of a proof is a fact that fails. It is none where a name is gone or a step has no place.
+function is_fact(error) {
+    return error ~ /^\.?\/?proofs\/[^ ]*: error: / &&
+        error !~ /no occurrence|has no `|has no field|was not admitted|was rejected|not in scope/ || is_open(error)
+}
+
+function is_open(error) {
+    return error ~ /^note: (\.\/)?src\/[^ ]*: it is not proved that /
+}
+
+# What the gate told of the file that is judged: the first error of its check.
+function gate_error(   line, start, error) {
+    start = "rt: must-fail " crate "/" file ".edit: refused, as it must be: "
+    while (error == "" && (getline line < gate) > 0) if (index(line, start) == 1) error = substr(line, length(start) + 1)
+    close(gate)
     return error
 }
 
-# The function, by its path in proofs/, in whose body a text of a source file stands; of a constant that
-# one function of the crate cites and that no other crate sees, this function; else nothing.
-function place_of(path, text,   i) {
-    read_source(path)
-    for (i = 1; i <= lines && !index(line_of[i], text); i++) {}
-    if (i > lines || owner[i] != "" || line_of[i] !~ /^(pub\(crate\) )?const /) return owner[i]
-    return cited_by(line_of[i])
+# Why a check of the crate shows nothing; or nothing, where a proof has a fact that fails.
+function crate_error(log_file,   line, first, shown) {
+    while ((getline line < log_file) > 0) {
+        if (is_fact(line)) shown = 1
+        else if (first == "" && line ~ /: error/) first = line
+    }
+    close(log_file)
+    if (shown) return ""
+    return first == "" ? "nothing was refused in the crate" : "refused in the crate, but for no fact: " first
 }
 
-# The function that alone cites the constant that a line defines, in any file of the crate.
-function cited_by(definition,   name, list, file, path, i, found) {
-    name = definition
-    gsub(/^(pub\(crate\) )?const |:.*$/, "", name)
-    list = "ls crates/" crate "/src/*.rt"
-    while ((list | getline file) > 0) {
-        path = file
-        sub(/^crates\/[^\/]*\//, "", path)
-        read_source(path)
-        for (i = 1; i <= lines; i++) {
-            if (line_of[i] == definition || line_of[i] ~ /^use /) continue
-            if ((" " line_of[i] " ") !~ ("[^A-Z0-9_]" name "[^A-Z0-9_]")) continue
-            if (owner[i] == "" || (found != "" && found != owner[i])) found = "no function alone"
-            else found = owner[i]
+# The same of a function, which was checked alone with the functions that it calls.
+function function_error(log_file, function_path,   name, line, own, state, first, shown, gone, open) {
+    name = function_path
+    gsub(/\//, "::", name)
+    name = "fn " crate "::" name ": "
+    own = "proofs/" function_path "/"
+    while ((getline line < log_file) > 0) {
+        if (index(line, name) == 1) state = substr(line, length(name) + 1)
+        if (is_open(line)) {
+            open = 1
+            if (line ~ /allow values at which this goal is false/) shown = 1
+        } else if (line ~ /: error/) {
+            if (first == "") first = line
+            if (index(line, own) > 3 || !index(line, own)) continue
+            if (is_fact(line)) shown = 1
+            else gone = 1
         }
     }
-    close(list)
-    return found
-}
-
-# The lines of a source file, and of each the function in whose body it stands.
-function read_source(path,   module, type, name, body, line, word) {
-    module = path
-    gsub(/^src\/|\.rt$/, "", module)
-    module = module == "lib" ? "" : module "/"
-    path = "crates/" crate "/" path
-    split("", line_of)
-    split("", owner)
-    lines = 0
-    while ((getline line < path) > 0) {
-        line_of[++lines] = line
-        if (line ~ /^impl /) {
-            split(line, word, " ")
-            type = word[2] "/"
-        } else if (match(line, /^ *(pub(\([a-z]+\))? )?(extern "C" )?fn [a-z0-9_]+/)) {
-            name = substr(line, 1, RLENGTH)
-            sub(/.* /, "", name)
-            name = module type name
-            body = 0
-        }
-        owner[lines] = body ? name : ""
-        if (line ~ /^ *\{$|\) (-> .*)?\{$/) body = 1
-        if (line ~ /^\}/) type = body = ""
-    }
-    close(path)
+    close(log_file)
+    if (state == "") return "no check of " function_path (first == "" ? "" : ": " first)
+    if (state ~ /^proved/) return "nothing was refused in " function_path
+    if (shown || (open && !gone)) return ""
+    return "refused in " function_path ", but for no fact: " first
 }

@@ -1,7 +1,7 @@
 -- `fields::equal` meets its contract. What is left from i on decides as the whole does. Assumes nothing.
 use Prim.Native.Nat.{ℕ, ◌<◌, ◌+◌, ◌-◌}
 use mathlib.Core.Path.{◌≡◌, refl, sym, ◌∙◌, ap}
-use mathlib.Core.Bool.{◌&&◌}
+use mathlib.Core.Bool.{false, ◌&&◌}
 use mathlib.Core.List.{List}
 use native.Mathlib.Omega.{arith}
 use lib.Dec.{eqb}
@@ -25,7 +25,8 @@ loop-i-init c = (omega arith, refl)
 
 pub returns-then-a-i : goal.returns-then-a-i
 returns-then-a-i c =
-    rw (decides _ _ _ c.if-a-b.false c.loop-i-test.true c.loop-i.invariant.1, ne_eqb _ _ c.if-a-i.true)
+    let differ : eqb (get_or c.args.a.now c.loop-i.i 0) (get_or c.args.b.now c.loop-i.i 0) ≡ false = ne_eqb _ _ c.if-a-i.true in
+    rw (decides _ _ _ c.if-a-b.false c.loop-i-test.true c.loop-i.invariant.1, differ)
 
 pub loop-i-preserved : goal.loop-i-preserved
 loop-i-preserved c =
