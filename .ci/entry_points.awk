@@ -1,6 +1,6 @@
 # The record `EntryPoints` has the statement of every public function of the library, and of no other:
 #
-#     awk -f .ci/entry_points.awk crates.txt crates/claims/specs/EntryPoints.antt $(find crates -path '*/src/*.rt')
+#     awk -f .ci/entry_points.awk crates.txt crates/claims/specs/EntryPoints.antt $(find crates/*/src -name '*.rt')
 #
 # The library is what `claims` and `capi` rest on, by crates.txt, and whatever `EntryPoints` cites. Public is
 # what a crate's lib.rt has or exports by `pub use`, the methods of such a type, and what is exported to C.
