@@ -13,15 +13,15 @@ BEGIN {
     exempt("&[u8]|[b' '; 120]|&flow[120 * i..120 * i + 120]|calls : List Call|requires|&flow[a..e]|&mut rec[..]")
     exempt("Judged::Refused(number, position)|Judged::Refused(ABSENT, 20)|pub use module::name|unsafe|return|specs/")
     # signs of the statements
-    exempt("×|⊎|¬|↔|P → Q|(x : A) → P|(x : A) × P|∷|++|cond b x y|r .name|λ r.|now (rec .entry)|.exit|ℕ")
+    exempt("×|⊎|¬|↔|P → Q|(x : A) → P|(x : A) × P|∷|++|cond b x y|r.name|result|rec.now|out.old|out.new|ℕ")
     # words of a command line, and what programs print
     exempt("--find|--help|--yes|--against|--strict|--ref|--only-if")
-    exempt("cargo test|too long for this program|reads|refused 1 record 0 position 0|rt|rt must-fail|RT_JOBS")
-    exempt("rt dev records|rt must-fail records|rt dev NAME|rt check|bash .ci/run|450|450,00|450.00|1.450,00|450,5|1.234,50")
+    exempt("cargo test|too long for this program|reads|refused 1 record 0 position 0|rt|rt must-fail|rt ci")
+    exempt("rt must-fail records|rt check|bash .ci/run|450|450,00|450.00|1.450,00|450,5|1.234,50")
     # of the kit, of the operating system
     exempt("read_full|flock")
     # patterns, each for several tests, files or definitions
-    exempt(".rs|.mavdesk/NAME|.before|.list|.._killed_before_any_call|any_call_of_.._failing|xVerdict|XDetermined")
+    exempt(".rs|.mavdesk/NAME|.before|.list|.._killed_before_any_call|any_call_of_.._failing|x_verdict|XDetermined")
 }
 
 FILENAME == "-" {
