@@ -8,7 +8,6 @@ use lib.ListN.{length, take, drop, get_or, set, length-set, length-drop}
 use lib.Seq.{take-length, get_or-drop, paste, paste-zero, paste-suc, drop-paste}
 use Rattle.amend.proofs.withdrawal.move_up.Goals as goal
 
-??BLOCK
 module _ (f : List ℕ) (to from i : ℕ) (up : to ≤ from) (within : from ≤ length f) (some : i ≤ length f - from) where
   -- after i bytes that were moved, the next one stands where it stood
   unmoved : get_or (paste f to (drop from f) i) (from + i) 0 ≡ get_or (drop from f) i 0
@@ -30,7 +29,7 @@ loop-i-preserved c =
     let inv = at.invariant in
     let pre = c.requires in
     let more : at.i < length f - args.from = omega (arith, c.loop-i-test.true) in
-    let byte : get_or at.flow (args.from + at.i) 0 ≡ get_or rest at.i 0 = ap (λ (l : List ℕ). get_or l (args.from + at.i) 0) inv.2 ∙ unmoved f args.to args.from at.i pre.0 pre.1 inv.0 in
+    let byte : get_or at.flow (args.from + at.i) 0 ≡ get_or rest at.i 0 = ap (λ (l : List ℕ). get_or l (args.from + at.i) 0) inv.2 ∙ unmoved f args.to args.from at.i pre.to_le_from pre.from_in_bounds inv.0 in
     let next : set at.flow (args.to + at.i) (get_or at.flow (args.from + at.i) 0) ≡ paste f args.to rest (at.i + 1) =
     (λ j. set (inv.2 j) (args.to + at.i) (byte j)) ∙ paste-suc f args.to rest at.i 0 (omega arith) (rw length-drop more) ∙ rw add-one in
     (omega arith, length-set at.flow _ _ ∙ inv.1, next)
