@@ -2,6 +2,8 @@
 // that run them.
 //
 // No public function has a `requires`. The one that changes bytes, `unescape`, says each of them.
+#![tactic(auto)]
+
 mod escape;
 
 ghost use Rattle.std.specs.Prelude.{◌+◌, ◌*◌, ◌≤◌, min, ◌≡◌, length};
