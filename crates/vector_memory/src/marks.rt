@@ -3,6 +3,7 @@ ghost use Rattle.std.specs.Prelude.{◌≤◌, max, ◌≡◌, length, drop};
 ghost use Rattle.vector_memory.specs.Marks.{marker, marked, changed_from};
 
 use printing::labelled;
+use std::io;
 
 // The byte that marks an index. It is no byte of an accepted flow or of its list, and where it was
 // moved, by a record or by any number of places but a multiple of 101, that shows.
@@ -41,11 +42,11 @@ pub fn changed(out: &[u8], at: usize) -> usize
 
 // Writes how many marks stand from `at` on, as ` kept 64`, or the first index where one does not, as
 // ` changed at 1925`.
-pub fn print_kept(out: &[u8], at: usize) {
+pub fn print_kept(rt: &impl Print, out: &[u8], at: usize) -> io::Result<()> {
     let i = changed(out, at);
     if i < out.len() {
-        labelled(b" changed at ", i as u64);
+        labelled(rt, b" changed at ", i as u64)
     } else {
-        labelled(b" kept ", (i - at) as u64);
+        labelled(rt, b" kept ", (i - at) as u64)
     }
 }
