@@ -2,79 +2,79 @@
 ghost use Rattle.std.specs.Prelude.{◌<◌};
 
 use fields::{Date, Number};
-use libc::STDOUT_FILENO;
-use printing::{labelled, line_feed};
+use printing::{labelled, line, line_feed, text};
+use std::io;
 
-pub(crate) fn number(answer: Number) {
+pub(crate) fn number(rt: &impl Print, answer: Number) -> io::Result<()> {
     match answer {
-        Number::Value(v) => labelled(b"value ", v),
-        Number::Refused(n) => labelled(b"refused ", n),
+        Number::Value(v) => labelled(rt, b"value ", v)?,
+        Number::Refused(n) => labelled(rt, b"refused ", n)?,
     }
-    line_feed();
+    line_feed(rt)
 }
 
-pub(crate) fn date(answer: Date) {
+pub(crate) fn date(rt: &impl Print, answer: Date) -> io::Result<()> {
     match answer {
         Date::On { day, month, year } => {
-            labelled(b"day ", day);
-            labelled(b" month ", month);
-            labelled(b" year ", year);
+            labelled(rt, b"day ", day)?;
+            labelled(rt, b" month ", month)?;
+            labelled(rt, b" year ", year)?;
         }
-        Date::Refused(n) => labelled(b"refused ", n),
+        Date::Refused(n) => labelled(rt, b"refused ", n)?,
     }
-    line_feed();
+    line_feed(rt)
 }
 
-pub(crate) fn flag(answer: bool) {
+pub(crate) fn flag(rt: &impl Print, answer: bool) -> io::Result<()> {
     if answer {
-        io::write_all(STDOUT_FILENO, b"yes\n");
+        line(rt, b"yes")
     } else {
-        io::write_all(STDOUT_FILENO, b"no\n");
+        line(rt, b"no")
     }
 }
 
-pub(crate) fn unknown() {
-    io::write_all(STDOUT_FILENO, b"unknown\n");
+pub(crate) fn unknown(rt: &impl Print) -> io::Result<()> {
+    line(rt, b"unknown")
 }
 
 // The digit writer: a length of at most 32, then the number.
-pub(crate) fn written(bytes: &[u8]) {
+pub(crate) fn written(rt: &impl Print, bytes: &[u8]) -> io::Result<()> {
     if bytes.len() == 0 {
-        return;
+        return Ok(());
     }
     let n = size(bytes[0]);
     if 32 < n {
-        return;
+        return Ok(());
     }
     let mut space = [b'?'; 32];
-    print_digits(&mut space[0..n], big_endian(&bytes[1..]));
-    line_feed();
+    print_digits(rt, &mut space[0..n], big_endian(&bytes[1..]))?;
+    line_feed(rt)
 }
 
-fn print_digits(out: &mut [u8], value: u64) {
+fn print_digits(rt: &impl Print, out: &mut [u8], value: u64) -> io::Result<()> {
     fields::write_digits(out, value);
-    io::write_all(STDOUT_FILENO, out);
+    text(rt, out)
 }
 
 // Two slices: how many bytes the first has, then both.
-pub(crate) fn compared(bytes: &[u8]) {
+pub(crate) fn compared(rt: &impl Print, bytes: &[u8]) -> io::Result<()> {
     if bytes.len() == 0 {
-        return;
+        return Ok(());
     }
     let both = &bytes[1..];
     let n = size(bytes[0]);
     if both.len() < n {
-        return;
+        return Ok(());
     }
-    flag(fields::equal(&both[0..n], &both[n..]));
+    flag(rt, fields::equal(&both[0..n], &both[n..]))
 }
 
 // How the date rule answers all strings of six digits.
-pub(crate) fn six_digits() {
-    labelled(b"six digits: dates ", count(0));
-    labelled(b" refused-8 ", count(8));
-    labelled(b" refused-5 ", count(5));
-    line_feed();
+pub(crate) fn six_digits(rt: &impl Print) -> io::Result<()> {
+    labelled(rt, b"six digits: dates ", count(0))?;
+    labelled(rt, b" refused-8 ", count(8))?;
+    labelled(rt, b" refused-5 ", count(5))?;
+    line_feed(rt)
 }
 
 // How many of the strings of six digits the date rule refuses by that number, or accepts: 0.
