@@ -6,12 +6,12 @@
 mod case;
 mod hex;
 
-use reading::read_full;
+use reading::{buffer, read_full};
 use std::io;
 
 // What lies beyond the first 65,536 bytes is not read, and a read that fails counts as the end.
 fn main(rt: HostRuntime) -> io::Result<()> {
-    let mut space = [0u8; 65536];
+    let mut space = buffer::<65536>();
     let mut bytes = [0u8; 64];
     let n = read_full(&mut rt.stdin(), &mut space);
     answer_lines(&rt, &space[..n], &mut bytes)?;

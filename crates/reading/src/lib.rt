@@ -3,7 +3,7 @@
 // No public function has a `requires`.
 #![tactic(auto)]
 
-ghost use Rattle.std.specs.Prelude.{◌≤◌, length};
+ghost use Rattle.std.specs.Prelude.{◌≡◌, ◌≤◌, length};
 
 use std::io::Read;
 
@@ -21,4 +21,11 @@ pub fn read_full<R: Read>(from: &mut R, buf: &mut [u8]) -> usize
         }
     }
     done
+}
+
+// N zeros, for a buffer. Its length is told apart from its bytes, so that a long one can be lent.
+pub fn buffer<const N: usize>() -> [u8; N]
+    ensures { length result ≡ N }
+{
+    [0; N]
 }
