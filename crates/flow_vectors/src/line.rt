@@ -1,46 +1,47 @@
 // The line that each line of the vectors is answered by.
-ghost use Rattle.std.specs.Prelude.{◌≤◌, length};
+ghost use Rattle.std.specs.Prelude.{◌≤◌, length, IfOk};
 
 use crate::location;
+use std::io;
 
 // `#` and a name, `=` and a flow, `?` and a number, or none of these. The latest flow is the first n
 // bytes of `space`; the answer is how many are the latest one then. A flow longer than `space` is cut
 // to it.
-pub(crate) fn answer(line: &[u8], space: &mut [u8], n: usize) -> usize
+pub(crate) fn answer(rt: &impl Print, line: &[u8], space: &mut [u8], n: usize) -> io::Result<usize>
     requires { n ≤ length space.old }
-    ensures { result ≤ length space.new }
+    ensures { IfOk result (λ m. m ≤ length space.new) }
 {
     if line.len() == 0 {
-        unknown();
-        return n;
+        unknown(rt)?;
+        return Ok(n);
     }
     let kind = line[0];
     match kind {
         b'#' => {
-            printing::line(line);
-            n
+            printing::line(rt, line)?;
+            Ok(n)
         }
-        b'=' => judged(&line[1..], space),
+        b'=' => judged(rt, &line[1..], space),
         b'?' => {
-            location::print(&space[0..n], vector_lines::decimal(&line[1..]));
-            n
+            location::print(rt, &space[0..n], vector_lines::decimal(&line[1..]))?;
+            Ok(n)
         }
         _ => {
-            unknown();
-            n
+            unknown(rt)?;
+            Ok(n)
         }
     }
 }
 
 // Decodes the flow into `space`, and answers its length.
-fn judged(text: &[u8], space: &mut [u8]) -> usize
-    ensures { result ≤ length space.new }
+fn judged(rt: &impl Print, text: &[u8], space: &mut [u8]) -> io::Result<usize>
+    ensures { IfOk result (λ m. m ≤ length space.new) }
 {
     let n = vector_lines::unescape(text, space);
-    report::print_answer(flow::read(&space[0..n]));
-    n
+    report::print_answer(rt, flow::read(&space[0..n]))?;
+    Ok(n)
 }
 
-fn unknown() {
-    printing::line(b"unknown");
+fn unknown(rt: &impl Print) -> io::Result<()> {
+    printing::line(rt, b"unknown")
 }
