@@ -1,6 +1,7 @@
 // A call that fills an output, and the line that tells what it did.
 use crate::output;
 use list::Filled;
+use std::io;
 use vector_memory::{least, mark};
 
 // How many bytes after the room are looked at too.
@@ -15,10 +16,16 @@ pub(crate) fn fill(kind: u8, given: &[u8], out: &mut [u8]) -> Filled {
 }
 
 // Calls with an output of that room, or of all of `out` where it is shorter.
-pub(crate) fn print(kind: u8, given: &[u8], room: u64, out: &mut [u8]) {
+pub(crate) fn print(
+    rt: &impl Print,
+    kind: u8,
+    given: &[u8],
+    room: u64,
+    out: &mut [u8],
+) -> io::Result<()> {
     let n = least(room, out.len());
     let end = least(n as u64 + AFTER as u64, out.len());
     mark(&mut out[0..end], 0);
     let filled = fill(kind, given, &mut out[0..n]);
-    output::print(filled, &out[0..end], n);
+    output::print(rt, filled, &out[0..end], n)
 }
