@@ -1,8 +1,9 @@
 // The line that each line of the vectors is answered by.
-ghost use Rattle.std.specs.Prelude.{◌≤◌, length};
+ghost use Rattle.std.specs.Prelude.{◌≤◌, length, IfOk};
 
 use crate::{call, told};
 use printing::{line_feed, quoted};
+use std::io;
 use vector_memory::least;
 
 // Puts the flow of a line `=` at the start of `space`, and marks after it; any other line leaves the
@@ -38,51 +39,50 @@ pub(crate) fn lent(line: &[u8], memory: usize, left: usize) -> usize
 // `#` and a name, `=` and a flow, `!` or `-` and a call, `@` and the number of a record, or none of
 // these. The answer is the length of the flow left.
 pub(crate) fn answer(
+    rt: &impl Print,
     line: &[u8],
     space: &mut [u8],
     memory: usize,
     size: usize,
     list: &mut [u8],
-) -> usize
+) -> io::Result<usize>
     requires size_le_memory { size ≤ memory }
     requires memory_in_bounds { memory ≤ length space.old }
-    ensures { result ≤ memory }
+    ensures { IfOk result (λ n. n ≤ memory) }
 {
     if line.len() == 0 {
-        unknown();
-        return size;
+        unknown(rt)?;
+        return Ok(size);
     }
     let kind = line[0];
     match kind {
         b'=' | b'!' | b'-' => {
-            let left = call::run(kind, &line[1..], &mut space[0..size]);
-            told::print(space, memory, left, list);
-            return left;
+            let left = call::run(rt, kind, &line[1..], &mut space[0..size])?;
+            told::print(rt, space, memory, left, list)?;
+            return Ok(left);
         }
-        b'@' => record(&space[0..memory], vector_lines::decimal(&line[1..])),
-        b'#' => printing::line(line),
-        _ => unknown(),
+        b'@' => record(rt, &space[0..memory], vector_lines::decimal(&line[1..]))?,
+        b'#' => printing::line(rt, line)?,
+        _ => unknown(rt)?,
     }
-    size
+    Ok(size)
 }
 
 // Writes record n of the memory, counted from 1.
-fn record(memory: &[u8], n: u64) {
+fn record(rt: &impl Print, memory: &[u8], n: u64) -> io::Result<()> {
     let records = memory.len() / 120;
     if n == 0 {
-        unknown();
-        return;
+        return unknown(rt);
     }
     if (records as u64) < n {
-        unknown();
-        return;
+        return unknown(rt);
     }
     let end = 120 * n as usize;
     let start = end - 120;
-    quoted(b"", &memory[start..end]);
-    line_feed();
+    quoted(rt, b"", &memory[start..end])?;
+    line_feed(rt)
 }
 
-fn unknown() {
-    printing::line(b"unknown");
+fn unknown(rt: &impl Print) -> io::Result<()> {
+    printing::line(rt, b"unknown")
 }
