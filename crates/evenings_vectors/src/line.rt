@@ -3,6 +3,7 @@ ghost use Rattle.std.specs.Prelude.{◌≤◌, length};
 
 use crate::{account, asked, work};
 use printing::{labelled, line_feed};
+use std::io;
 use vector_lines::decimal;
 use vector_memory::least;
 
@@ -32,22 +33,23 @@ pub(crate) fn hold(line: &[u8], is_new: bool, held: &mut [u8], size: usize) -> u
 
 // `#` and a name, `(` or `)` and a flow, `~`, `=` or `?` and a call, or none of these.
 pub(crate) fn answer<'a>(
+    rt: &impl Print,
     line: &[u8],
     old: &'a [u8],
     new: &'a [u8],
     work: &mut [u16],
     account: &mut [u8],
-) {
+) -> io::Result<()> {
     match kind(line) {
-        b'#' => printing::line(line),
-        b'(' => size(b"old ", old),
-        b')' => size(b"new ", new),
+        b'#' => printing::line(rt, line),
+        b'(' => size(rt, b"old ", old),
+        b')' => size(rt, b"new ", new),
         b'~' => {
-            labelled(b"old ", old.len() as u64);
-            size(b" new ", new);
+            labelled(rt, b"old ", old.len() as u64)?;
+            size(rt, b" new ", new)
         }
-        b'=' | b'?' => call(line, old, new, work, account),
-        _ => printing::line(b"unknown"),
+        b'=' | b'?' => call(rt, line, old, new, work, account),
+        _ => printing::line(rt, b"unknown"),
     }
 }
 
@@ -59,22 +61,29 @@ fn kind(line: &[u8]) -> u8 {
     line[0]
 }
 
-fn size(label: &[u8], flow: &[u8]) {
-    labelled(label, flow.len() as u64);
-    line_feed();
+fn size(rt: &impl Print, label: &[u8], flow: &[u8]) -> io::Result<()> {
+    labelled(rt, label, flow.len() as u64)?;
+    line_feed(rt)
 }
 
 // `=66049 2` compares with a working memory of 66049 numbers and room for 2 lines, `?66049 1` asks for line
 // 1; the first byte and the blank count as a zero before the number. A working memory above all of `space`
 // counts as that.
-fn call<'a>(line: &[u8], old: &'a [u8], new: &'a [u8], space: &mut [u16], account: &mut [u8]) {
-    let blank = bytes::scan::find(line, 0, line.len(), b' ');
+fn call<'a>(
+    rt: &impl Print,
+    line: &[u8],
+    old: &'a [u8],
+    new: &'a [u8],
+    space: &mut [u16],
+    account: &mut [u8],
+) -> io::Result<()> {
+    let blank = line.iter().position(|b| *b == b' ').unwrap_or(line.len());
     let lent = least(decimal(&line[0..blank]), space.len());
     let number = decimal(&line[blank..]);
     let end = least(lent as u64 + work::AFTER, space.len());
     if kind(line) == b'=' {
-        account::print(old, new, &mut space[0..end], lent, account, number);
+        account::print(rt, old, new, &mut space[0..end], lent, account, number)
     } else {
-        asked::print(old, new, &mut space[0..end], lent, number);
+        asked::print(rt, old, new, &mut space[0..end], lent, number)
     }
 }

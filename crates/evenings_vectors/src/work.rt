@@ -1,8 +1,9 @@
 // The working memory: the marks that stand in it before a call, and what is found of it after one. Its first
 // `lent` numbers are lent to the call.
-ghost use Rattle.std.specs.Prelude.{◌≤◌, length};
+ghost use Rattle.std.specs.Prelude.{◌≡◌, ◌≤◌, length};
 
 use printing::labelled;
+use std::io;
 use vector_memory::least;
 
 // How many numbers after those lent are marked too.
@@ -15,6 +16,13 @@ pub(crate) struct Left {
     pub zero: usize,
     pub before: usize,
     pub after: usize,
+}
+
+// N zeros. Its length is told apart from its numbers, so that a long one can be lent.
+pub(crate) fn zeros<const N: usize>() -> [u16; N]
+    ensures { length result ≡ N }
+{
+    [0; N]
 }
 
 // The number that marks an index.
@@ -50,28 +58,28 @@ pub(crate) fn both(a: Left, b: Left) -> Left {
 }
 
 // After an accepted call, as ` zero 66049 as before 64`, or ` not zero at 3 changed at 66050`.
-pub(crate) fn print_zero(left: Left, work: &[u16], lent: usize)
+pub(crate) fn print_zero(rt: &impl Print, left: Left, work: &[u16], lent: usize) -> io::Result<()>
     requires { lent ≤ length work.now }
 {
     if left.zero < lent {
-        labelled(b" not zero at ", left.zero as u64);
+        labelled(rt, b" not zero at ", left.zero as u64)?;
     } else {
-        labelled(b" zero ", lent as u64);
+        labelled(rt, b" zero ", lent as u64)?;
     }
-    print_marks(left.after, work.len(), work.len() - lent);
+    print_marks(rt, left.after, work.len(), work.len() - lent)
 }
 
 // After a refused call, as ` as before 66113`, or ` changed at 3`.
-pub(crate) fn print_before(left: Left, work: &[u16]) {
-    print_marks(left.before, work.len(), work.len());
+pub(crate) fn print_before(rt: &impl Print, left: Left, work: &[u16]) -> io::Result<()> {
+    print_marks(rt, left.before, work.len(), work.len())
 }
 
 // By the first index that is not as before, the index after the last and how many there are.
-fn print_marks(changed: usize, end: usize, count: usize) {
+fn print_marks(rt: &impl Print, changed: usize, end: usize, count: usize) -> io::Result<()> {
     if changed < end {
-        labelled(b" changed at ", changed as u64);
+        labelled(rt, b" changed at ", changed as u64)
     } else {
-        labelled(b" as before ", count as u64);
+        labelled(rt, b" as before ", count as u64)
     }
 }
 
