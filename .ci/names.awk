@@ -15,13 +15,12 @@ BEGIN {
     # signs of the statements
     exempt("×|⊎|¬|↔|P → Q|(x : A) → P|(x : A) × P|∷|++|cond b x y|r.name|result|rec.now|out.old|out.new|ℕ")
     # words of a command line, and what programs print
-    exempt("--find|--help|--yes|--against|--strict|--ref|--only-if")
-    exempt("cargo test|too long for this program|reads|refused 1 record 0 position 0|rt|rt must-fail|rt ci")
+    exempt("--find|--help|cargo test|too long for this program|reads|refused 1 record 0 position 0|rt|rt must-fail|rt ci")
     exempt("rt must-fail records|rt check|bash .ci/run|450|450,00|450.00|1.450,00|450,5|1.234,50")
-    # of the kit, of the operating system
-    exempt("read_full|flock")
+    # of the operating system
+    exempt("flock")
     # patterns, each for several tests, files or definitions
-    exempt(".rs|.mavdesk/NAME|.before|.list|.._killed_before_any_call|any_call_of_.._failing|x_verdict|XDetermined")
+    exempt(".rs|NAME.before|.before|.list|.._killed_before_any_call|any_call_of_.._failing|x_verdict|XDetermined")
 }
 
 FILENAME == "-" {

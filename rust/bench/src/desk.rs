@@ -1,6 +1,5 @@
-//! A morning's forty flows, as files: the command `mavdesk`, which also looks
-//! for requests that stand more than once, beside both readers, which only
-//! judge the same files, each as a process from its start to its end.
+//! A morning's forty flows, as files: the command `mavdesk` beside the plain
+//! reader on the same files, each as a process from its start to its end.
 
 use std::fs::{self, File};
 use std::io::{self, Read};
@@ -11,25 +10,24 @@ use std::{env, thread};
 
 use oracle::{reader, Answer};
 
-use crate::flows::usual_after;
+use crate::flows::usual;
 use crate::table::{grouped, ratio, say, Table};
-use crate::time::{side_by_side, Call, Memory};
+use crate::time::{side_by_side, Memory};
 
-const FLOWS: u64 = 40;
+const FLOWS: usize = 40;
 const DISPOSITIONS: u64 = 5_000;
 
 /// The files, in a folder that is removed when this is dropped.
 struct Folder(PathBuf);
 
 impl Folder {
-    /// No two dispositions of the forty flows are the same.
     fn new() -> io::Result<Folder> {
         let name = format!("mavdesk-bench-{}", std::process::id());
         let folder = Folder(env::temp_dir().join(name));
         fs::create_dir(&folder.0)?;
-        for index in 0..FLOWS {
-            let bytes = usual_after(DISPOSITIONS * index, DISPOSITIONS);
-            fs::write(folder.0.join(format!("house-{index:02}.flow")), bytes)?;
+        let bytes = usual(DISPOSITIONS);
+        for index in 1..=FLOWS {
+            fs::write(folder.0.join(format!("house-{index:02}.flow")), &bytes)?;
         }
         Ok(folder)
     }
@@ -41,8 +39,8 @@ impl Drop for Folder {
     }
 }
 
-/// Checking forty flows: the command, and the readers on one thread and on as
-/// many as there are cores.
+/// Checking forty flows: the command, and the plain reader on one thread and
+/// on as many as there are cores.
 pub fn checking(rounds: usize) {
     let this = env::current_exe().expect("the system tells the path of this program");
     let mavdesk = this.with_file_name("mavdesk");
@@ -53,22 +51,21 @@ pub fn checking(rounds: usize) {
     let folder = Folder::new().expect("the temporary folder holds forty flows");
     let cores = thread::available_parallelism().map_or(1, usize::from);
     let checked = |_: &mut [u8]| run(Command::new(&mavdesk).arg("check").arg(&folder.0));
-    let read = |reader: &'static str, threads: usize| {
+    let plain = |threads: usize| {
         let (this, folder) = (&this, &folder.0);
         move |_: &mut [u8]| {
             let threads = threads.to_string();
-            run(Command::new(this).arg(reader).arg(folder).arg(threads));
+            run(Command::new(this).arg("plain").arg(folder).arg(threads));
         }
     };
-    let (ours, plain) = (read("ours", cores), read("plain", cores));
-    let calls: [Call; 4] = [&checked, &ours, &read("plain", 1), &plain];
-    let times = side_by_side(rounds, &mut Memory::none(), calls);
-    let mut table = Table::new(&["check", "best ms", "mavdesk/this", "median"]);
-    let (ours, plain) = (
-        format!("our reader, {cores} threads"),
-        format!("plain Rust, {cores} threads"),
+    let times = side_by_side(
+        rounds,
+        &mut Memory::none(),
+        [&checked, &plain(1), &plain(cores)],
     );
-    let names = ["mavdesk check", &ours, "plain Rust, 1 thread", &plain];
+    let mut table = Table::new(&["check", "best ms", "mavdesk/this", "median"]);
+    let on_all = format!("plain Rust, {cores} threads");
+    let names = ["mavdesk check", "plain Rust, 1 thread", &on_all];
     for (side, name) in names.iter().enumerate() {
         table.row([
             name.to_string(),
@@ -78,7 +75,7 @@ pub fn checking(rounds: usize) {
         ]);
     }
     say(&format!(
-        "5. Checking {FLOWS} files of {} dispositions each, no two the same\n\n{table}",
+        "5. Checking {FLOWS} files of {} dispositions each\n\n{table}",
         grouped(DISPOSITIONS)
     ));
 }
@@ -90,27 +87,9 @@ fn run(command: &mut Command) {
     assert!(accepted, "{command:?} accepts the forty flows");
 }
 
-/// A reader: the line of its answer, and whether it accepts.
-pub type Reader = fn(&[u8]) -> (String, bool);
-
-/// The plain reader.
-pub fn plain(flow: &[u8]) -> (String, bool) {
-    let answer = reader::read(flow);
-    let accepts = matches!(answer, Answer::Accepted { .. });
-    (answer.to_string(), accepts)
-}
-
-/// The proved library's.
-pub fn ours(flow: &[u8]) -> (String, bool) {
-    match mav::read(flow) {
-        Ok(accepted) => (accepted.to_string(), true),
-        Err(refusal) => (refusal.to_string(), false),
-    }
-}
-
-/// Reads and judges the files of a folder with a reader, on so many threads,
-/// and prints the answers in order.
-pub fn judge(reader: Reader, folder: &Path, threads: usize) -> io::Result<()> {
+/// Reads and judges the files of a folder with the plain reader, on so many
+/// threads, and prints the answers in order.
+pub fn plain(folder: &Path, threads: usize) -> io::Result<()> {
     let entries = fs::read_dir(folder)?.map(|entry| entry.map(|entry| entry.path()));
     let mut flows = entries.collect::<io::Result<Vec<_>>>()?;
     flows.sort();
@@ -121,22 +100,23 @@ pub fn judge(reader: Reader, folder: &Path, threads: usize) -> io::Result<()> {
         while let Some(flow) = flows.get(next.fetch_add(1, Ordering::Relaxed)) {
             bytes.clear();
             File::open(flow)?.read_to_end(&mut bytes)?;
-            answers.push((flow, reader(&bytes)));
+            answers.push((flow, reader::read(&bytes)));
         }
         io::Result::Ok(answers)
     };
     let mut answers = thread::scope(|scope| {
         let workers: Vec<_> = (0..threads).map(|_| scope.spawn(judged)).collect();
         let joined = workers.into_iter().map(|worker| worker.join());
-        let each = joined.map(|answers| answers.expect("a reader does not panic"));
+        let each = joined.map(|answers| answers.expect("the plain reader does not panic"));
         each.collect::<io::Result<Vec<_>>>()
     })?
     .concat();
     answers.sort_by_key(|(flow, _)| *flow);
-    for (flow, (line, _)) in &answers {
-        say(&format!("{}: {line}", flow.display()));
+    for (flow, answer) in &answers {
+        say(&format!("{}: {answer}", flow.display()));
     }
-    match answers.iter().all(|(_, (_, accepts))| *accepts) {
+    let accepted = |(_, answer): &(_, Answer)| matches!(answer, Answer::Accepted { .. });
+    match answers.iter().all(accepted) {
         true => Ok(()),
         false => Err(io::Error::other("a flow is refused")),
     }

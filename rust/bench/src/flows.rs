@@ -51,14 +51,6 @@ pub fn usual(dispositions: u64) -> Vec<u8> {
     })
 }
 
-/// The same after so many others: no two dispositions of such flows are the
-/// same.
-pub fn usual_after(before: u64, dispositions: u64) -> Vec<u8> {
-    flow(dispositions, USUAL_RECORDS, |k| {
-        usual_records(before + k).into_iter()
-    })
-}
-
 /// The records of a usual disposition.
 fn usual_records(k: u64) -> [Record; 7] {
     let [a, b, c, d] = [opening(k), creditor(), debtor(k), address(k)];
@@ -370,23 +362,6 @@ mod tests {
         accepted(&flow, 3, 30_822, 23);
         assert!(is_canonical(&flow));
         assert!(is_canonical(&recalled(flow)));
-    }
-
-    /// All that `mavdesk check` compares by, the reference alone too.
-    #[test]
-    fn no_two_dispositions_of_two_flows_are_the_same() {
-        assert!(usual_after(0, 50) == usual(50));
-        let flows = [usual_after(0, 50), usual_after(50, 50)];
-        let records = flows
-            .iter()
-            .flat_map(|flow| flow.as_chunks::<RECORD_LEN>().0);
-        let references = records.filter(|record| record_type(record) == *b"51");
-        let mut references: Vec<_> = references.map(|record| field(record, 11, 20)).collect();
-        assert_eq!(references.len(), 100);
-        references.sort();
-        references.dedup();
-        assert_eq!(references.len(), 100);
-        accepted(&flows[1], 50, (51..=100).map(cents).sum(), 352);
     }
 
     #[test]

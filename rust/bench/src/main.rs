@@ -19,19 +19,18 @@ use std::process::ExitCode;
 
 use table::say;
 
-const USAGE: &str = "usage: bench, bench ROUNDS, or bench plain|ours FOLDER THREADS.
+const USAGE: &str = "usage: bench, bench ROUNDS, or bench plain FOLDER THREADS.
 Measures the proved library (ours) and the second program (plain Rust) side by
 side on flows made in memory: reading, of requests and of recalls, amount
 change, withdrawal, reading back to a list and writing a list. Before a call is
 measured, both have to answer it alike and to leave the same bytes. Then the
-command mavdesk, if it is built beside this program, checks forty flows as files
-and looks for requests that stand more than once, and both readers judge them.
-Last, two evenings are compared by the proved library and by plain Rust of this
-program's own. ROUNDS is how often each is measured, 21 if not given; the best
-of them is printed.
+command mavdesk, if it is built beside this program, and the plain reader check
+forty flows as files. Last, two evenings are compared by the proved library and
+by plain Rust of this program's own. ROUNDS is how often each is measured, 21 if
+not given; the best of them is printed.
 Run it as
     cargo build --release --offline -p desk -p bench && target/release/bench
-With plain or ours it judges the flows of a folder with that reader alone.";
+With plain it judges the flows of a folder with the plain reader.";
 
 /// The rounds of a run without arguments: about half a minute.
 const ROUNDS: usize = 21;
@@ -44,11 +43,11 @@ fn main() -> ExitCode {
             say(USAGE);
             return ExitCode::SUCCESS;
         }
-        [reader, folder, threads] if reader == "plain" => {
-            return judged(desk::plain, folder, threads);
-        }
-        [reader, folder, threads] if reader == "ours" => {
-            return judged(desk::ours, folder, threads);
+        [plain, folder, threads] if plain == "plain" => {
+            return match number(threads).map(|threads| desk::plain(Path::new(folder), threads)) {
+                Some(Ok(())) => ExitCode::SUCCESS,
+                _ => ExitCode::FAILURE,
+            };
         }
         [rounds] => number(rounds),
         _ => None,
@@ -61,14 +60,6 @@ fn main() -> ExitCode {
         }
     }
     ExitCode::SUCCESS
-}
-
-fn judged(reader: desk::Reader, folder: &OsStr, threads: &OsStr) -> ExitCode {
-    let judge = |threads| desk::judge(reader, Path::new(folder), threads);
-    match number(threads).map(judge) {
-        Some(Ok(())) => ExitCode::SUCCESS,
-        _ => ExitCode::FAILURE,
-    }
 }
 
 fn number(word: &OsStr) -> Option<usize> {

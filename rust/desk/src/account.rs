@@ -153,7 +153,7 @@ fn now(before: &EveningRequest<'_>, after: &EveningRequest<'_>) -> String {
 }
 
 /// The records that differ, in words; nothing where there are none.
-pub fn records(types: &[String]) -> String {
+fn records(types: &[String]) -> String {
     match types {
         [] => String::new(),
         [one] => format!("record {one} differs"),

@@ -1,26 +1,20 @@
 //! Amount change and withdrawal: what will change is shown, the clerk is asked, and the flow is saved.
 
-use std::cmp::{Ordering, Reverse};
 use std::fs;
 use std::io::{ErrorKind, Write};
 use std::path::Path;
 
 use mav::{Accepted, Dispositions, Reason, Refusal};
 
-use crate::chosen::Chosen;
-use crate::euro::shown as euro;
+use crate::euro::{grouped, shown as euro};
 use crate::failure::{Failure, Outcome};
-use crate::history;
 use crate::input::copy;
-use crate::journal::{Amended, Done, What};
 use crate::kind::{counted, one};
 use crate::name::shown;
-use crate::output::{confirm, saved, Kept};
+use crate::output::{confirm, saved};
 use crate::refusal;
-use crate::request::{done, titles, Request};
-use crate::save::{Change, Target};
-use crate::trailer;
-use crate::withdrawal;
+use crate::request::{titles, Request};
+use crate::save::Target;
 
 /// A flow that is locked and accepted, and that may be amended.
 struct Open<'a> {
@@ -30,28 +24,10 @@ struct Open<'a> {
     requests: Dispositions<'a>,
 }
 
-/// What is told of an amendment beside the trailer.
-#[derive(Default)]
-struct Told {
-    /// What it changes, before and after.
-    rows: Vec<[String; 3]>,
-    /// What the clerk should look at twice.
-    notes: Vec<String>,
-    /// What was done, once it is saved.
-    answer: String,
-}
-
-/// Gives the request that is named another amount.
-pub fn amount(
-    named: &Path,
-    chosen: &Chosen,
-    cents: u64,
-    yes: bool,
-    out: &mut impl Write,
-) -> Outcome {
+/// Gives request `k` another amount.
+pub fn amount(named: &Path, k: u64, cents: u64, yes: bool, out: &mut impl Write) -> Outcome {
     let (target, flow) = locked(named)?;
     let open = Open::new(named, &target, &flow)?;
-    let k = open.chosen(chosen)?.first().copied().unwrap_or(0);
     let mut amended = copy(&flow)?;
     let left = mav::change(&mut amended, k, cents)
         .map_err(|refusal| open.refused_amount(&refusal, k, cents))?;
@@ -67,24 +43,21 @@ pub fn amount(
         )?;
         return Ok(());
     }
-    let (one, debtor) = (one(kind), request.debtor());
-    let (before, after) = (euro(request.cents), euro(cents));
-    let told = Told {
-        notes: open.notes(request.cents, cents),
-        answer: format!("{one} {k}, {debtor}, {before} to {after} euro"),
-        rows: vec![[format!("{one} {k}, amount"), before, after]],
-    };
-    let done = open.done(What::Amount, left, vec![request.amended(Some(cents))]);
-    open.save(&told, done, &amended, yes, out)
+    let amount = format!("{} {k}, amount", one(kind));
+    let rows = [[amount, euro(request.cents), euro(cents)]];
+    open.save(&rows, left, &amended, yes, out)
 }
 
-/// Takes requests out, all or none. Their numbers are those of the flow as it is.
-pub fn withdraw(named: &Path, chosen: &Chosen, yes: bool, out: &mut impl Write) -> Outcome {
+/// Takes requests out, all or none. The numbers are those of the flow as it is, rising.
+pub fn withdraw(named: &Path, numbers: &[u64], yes: bool, out: &mut impl Write) -> Outcome {
     let (target, flow) = locked(named)?;
     let open = Open::new(named, &target, &flow)?;
-    let numbers = open.chosen(chosen)?;
-    let refused = |refusal: &Refusal, k| open.refused(refusal, k);
-    let (left, amended) = withdrawal::of(named, &flow, &numbers, refused)?;
+    let mut amended = copy(&flow)?;
+    let mut left = open.numbers();
+    // From the last one on: a withdrawal gives later requests new numbers, and the earlier ones keep theirs.
+    for &k in numbers.iter().rev() {
+        left = mav::withdraw(&mut amended, k).map_err(|refusal| open.refused(&refusal, k))?;
+    }
     let gone = counted(numbers.len() as u64, left.kind);
     writeln!(
         out,
@@ -92,11 +65,10 @@ pub fn withdraw(named: &Path, chosen: &Chosen, yes: bool, out: &mut impl Write) 
         shown(named),
         titles()
     )?;
-    let requests = open.requests.clone();
-    let requests = requests.filter(|found| numbers.binary_search(&found.number).is_ok());
-    let requests: Vec<Request<'_>> = requests.map(Request::of).collect();
-    for request in &requests {
-        writeln!(out, "{}", request.row())?;
+    for request in open.requests.clone().map(Request::of) {
+        if numbers.binary_search(&request.number).is_ok() {
+            writeln!(out, "{}", request.row())?;
+        }
     }
     writeln!(out)?;
     let first = numbers.first().copied().unwrap_or(0);
@@ -104,13 +76,7 @@ pub fn withdraw(named: &Path, chosen: &Chosen, yes: bool, out: &mut impl Write) 
         let kind = left.kind;
         writeln!(out, "The {kind} left are numbered anew from {first} on.\n")?;
     }
-    let told = Told {
-        answer: done(&requests, left.kind, "withdrawn"),
-        ..Told::default()
-    };
-    let requests = requests.iter().map(|request| request.amended(None));
-    let done = open.done(What::Withdrawn, left, requests.collect());
-    open.save(&told, done, &amended, yes, out)
+    open.save(&[], left, &amended, yes, out)
 }
 
 /// Locks and reads a flow.
@@ -140,11 +106,6 @@ impl<'a> Open<'a> {
         self.requests.accepted()
     }
 
-    /// The numbers of the requests that are named, rising.
-    fn chosen(&self, chosen: &Chosen) -> Outcome<Vec<u64>> {
-        chosen.numbers(self.named, &self.requests, "nothing was changed")
-    }
-
     /// What the clerk is told where the library refuses the amendment of request `k`.
     fn refused(&self, refusal: &Refusal, k: u64) -> Failure {
         self.advised(refusal, k, "")
@@ -167,66 +128,39 @@ impl<'a> Open<'a> {
         refusal::of_request(refusal, self.named, k, self.numbers(), &also)
     }
 
-    /// What the journal says of an amendment.
-    fn done(&self, what: What, left: Accepted, requests: Vec<Amended>) -> Done {
-        Done {
-            what,
-            before: Some(self.numbers()),
-            after: Some(left),
-            requests,
-        }
-    }
-
-    /// What a clerk may have mistyped in a new amount: one of ten times the amount before or more, of a tenth
-    /// of it or less, or above all amounts of the flow.
-    fn notes(&self, before: u64, after: u64) -> Vec<String> {
-        let (new, old) = (euro(after), euro(before));
-        let times = match (after.cmp(&(10 * before)), (10 * after).cmp(&before)) {
-            (Ordering::Equal, _) => Some("ten times"),
-            (Ordering::Greater, _) => Some("more than ten times"),
-            (_, Ordering::Equal) => Some("a tenth of"),
-            (_, Ordering::Less) => Some("less than a tenth of"),
-            _ => None,
-        };
-        let times = times.map(|times| format!("{new} is {times} {old}"));
-        let requests = self.requests.clone();
-        let largest = requests.max_by_key(|found| (found.cents, Reverse(found.number)));
-        let above = largest.filter(|found| after > found.cents).map(|found| {
-            let (one, request) = (one(self.numbers().kind), Request::of(found));
-            let (largest, k, debtor) = (euro(found.cents), request.number, request.debtor());
-            format!("{new} is above every amount of the flow; the largest is {largest} ({one} {k}, {debtor})")
-        });
-        times.into_iter().chain(above).collect()
-    }
-
     /// Shows what will change, asks, and saves.
     fn save(
         &self,
-        told: &Told,
-        done: Done,
+        rows: &[[String; 3]],
+        left: Accepted,
         amended: &[u8],
         yes: bool,
         out: &mut impl Write,
     ) -> Outcome {
-        trailer::show(&told.rows, done.before, done.after, out)?;
-        let versions = self.target.versions();
-        let standing = history::standing(self.named, versions, Some(self.flow), out)?;
-        if !told.notes.is_empty() {
-            let notes = told.notes.iter().map(|note| format!("Note: {note}.\n"));
-            writeln!(out, "{}", notes.collect::<String>())?;
+        writeln!(out, "{:<24}{:>24}{:>24}", "", "BEFORE", "AFTER")?;
+        for [what, before, after] in rows.iter().chain(&trailer(self.numbers(), left)) {
+            writeln!(out, "{what:<24}{before:>24}{after:>24}")?;
         }
+        writeln!(out)?;
         if !yes {
             confirm(out, "Save it?", "not saved: the flow is as it was.")?;
         }
         out.flush()?;
-        let done = self.target.save(&Change {
-            old: Some(self.flow),
-            standing,
-            new: amended,
-            done,
-            back_to: None,
-        })?;
-        let kept = done.stood.map(|version| Kept::before(self.named, version));
-        saved(out, "flow", &told.answer, (kept, &done))
+        self.target.save(Some(self.flow), amended)?;
+        saved(out, "flow", Some(&self.target.kept_as()))
     }
+}
+
+/// The rows of the trailer, before and after.
+fn trailer(before: Accepted, after: Accepted) -> [[String; 3]; 3] {
+    let row = |what: &str, shown: &dyn Fn(Accepted) -> String| {
+        [what.to_owned(), shown(before), shown(after)]
+    };
+    [
+        row(&format!("trailer, {}", before.kind), &|numbers| {
+            grouped(numbers.dispositions)
+        }),
+        row("trailer, total", &|numbers| euro(numbers.cents)),
+        row("trailer, records", &|numbers| grouped(numbers.records)),
+    ]
 }

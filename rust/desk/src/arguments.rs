@@ -3,34 +3,28 @@
 use std::ffi::{OsStr, OsString};
 use std::path::PathBuf;
 
-use crate::check::Check;
-use crate::chosen::{rising, Chosen};
 use crate::diff::Diff;
 use crate::euro;
 use crate::failure::{Failure, Outcome};
-use crate::find::Find;
 use crate::header;
 use crate::help;
 use crate::name::told;
 use crate::recall::Recall;
-use crate::wanted::Wanted;
 
 /// What a command line asks for.
 pub enum Command {
     Help(&'static str),
     Version,
-    Check(Check),
+    Check(Vec<PathBuf>),
     Table {
         flow: PathBuf,
-        wanted: Option<Wanted>,
+        wanted: Option<String>,
     },
     Request {
         flow: PathBuf,
         k: u64,
     },
-    Find(Find),
     Diff(Diff),
-    History(PathBuf),
     Explain(Option<u64>),
     /// With or without a question.
     Save {
@@ -41,40 +35,18 @@ pub enum Command {
 
 /// The commands that save.
 pub enum Saving {
-    /// Of the one request chosen.
-    Amount {
-        flow: PathBuf,
-        chosen: Chosen,
-        cents: u64,
-    },
-    Withdraw {
-        flow: PathBuf,
-        chosen: Chosen,
-    },
-    List {
-        flow: PathBuf,
-        list: PathBuf,
-    },
-    Write {
-        list: PathBuf,
-        flow: PathBuf,
-    },
+    Amount { flow: PathBuf, k: u64, cents: u64 },
+    Withdraw { flow: PathBuf, numbers: Vec<u64> },
+    List { flow: PathBuf, list: PathBuf },
+    Write { list: PathBuf, flow: PathBuf },
     Recall(Recall),
-    Undo {
-        file: PathBuf,
-        version: Option<u64>,
-    },
-    Tidy(Vec<PathBuf>),
 }
 
 /// The options that have a value, and what it is.
-const VALUED: [(&str, &str); 6] = [
+const VALUED: [(&str, &str); 3] = [
     ("--find", "a text"),
-    ("--ref", "a reference"),
-    ("--only-if", "a text"),
     ("--name", "a name"),
     ("--date", "a date"),
-    ("--against", "a folder"),
 ];
 
 /// The words after a command's name: its options, which may stand anywhere, and the others in order.
@@ -83,43 +55,30 @@ struct Words {
     operands: Vec<OsString>,
     yes: bool,
     all: bool,
-    strict: bool,
     values: Vec<(&'static str, OsString)>,
     help: bool,
 }
 
 impl Words {
     /// The value of an option; where it is there twice, the last one.
-    fn value(&self, option: &'static str) -> Option<&OsStr> {
-        self.values(option).next_back()
-    }
-
-    /// All values of an option, in order.
-    fn values(&self, option: &'static str) -> impl DoubleEndedIterator<Item = &OsStr> {
-        let values = self.values.iter();
-        let values = values.filter(move |(name, _)| *name == option);
-        values.map(|(_, value)| value.as_os_str())
+    fn value(&self, option: &str) -> Option<&OsStr> {
+        let mut values = self.values.iter().rev();
+        let found = values.find(|(name, _)| *name == option);
+        found.map(|(_, value)| value.as_os_str())
     }
 }
 
 /// The page and the options of a command.
 fn known(name: &OsStr) -> Outcome<(&'static str, &'static [&'static str])> {
     Ok(match name.to_str() {
-        Some("check") => (help::CHECK, &["--strict", "--against"]),
+        Some("check") => (help::CHECK, &[]),
         Some("show") => (help::SHOW, &["--find"]),
-        Some("find") => (help::FIND, &[]),
         Some("diff") => (help::DIFF, &["--all"]),
-        Some("amount") => (help::AMOUNT, &["--yes", "--ref", "--only-if"]),
-        Some("withdraw") => (help::WITHDRAW, &["--yes", "--ref", "--only-if"]),
+        Some("amount") => (help::AMOUNT, &["--yes"]),
+        Some("withdraw") => (help::WITHDRAW, &["--yes"]),
         Some("list") => (help::LIST, &["--yes"]),
         Some("write") => (help::WRITE, &["--yes"]),
-        Some("recall") => (
-            help::RECALL,
-            &["--yes", "--name", "--date", "--ref", "--only-if"],
-        ),
-        Some("history") => (help::HISTORY, &[]),
-        Some("undo") => (help::UNDO, &["--yes"]),
-        Some("tidy") => (help::TIDY, &["--yes"]),
+        Some("recall") => (help::RECALL, &["--yes", "--name", "--date"]),
         Some("explain") => (help::EXPLAIN, &[]),
         Some("help") => (help::ALL, &[]),
         _ => {
@@ -177,7 +136,6 @@ fn sorted(name: &str, options: &[&str], rest: &[OsString]) -> Outcome<Words> {
             Some("--help" | "-h") => words.help = true,
             Some("--yes") if options.contains(&"--yes") => words.yes = true,
             Some("--all") if options.contains(&"--all") => words.all = true,
-            Some("--strict") if options.contains(&"--strict") => words.strict = true,
             Some(option) if option.starts_with("--") => {
                 let found = valued(options, option, &mut rest)?;
                 words.values.push(found.ok_or_else(|| {
@@ -214,31 +172,23 @@ fn valued<'a>(
 
 /// The command of this name on these words, or nothing where there are too few or too many.
 fn command(name: &str, words: Words) -> Outcome<Option<Command>> {
+    let paths = |words: &[OsString]| words.iter().map(PathBuf::from).collect();
     let find = words.value("--find").map(text).transpose()?;
     Ok(Some(match (name, &words.operands[..]) {
-        ("check", [_, ..]) => Command::Check(Check {
-            named: paths(&words.operands),
-            against: words.values("--against").map(PathBuf::from).collect(),
-            strict: words.strict,
-        }),
+        ("check", [_, ..]) => Command::Check(paths(&words.operands)),
         ("show", [flow]) => Command::Table {
             flow: flow.into(),
-            wanted: find.map(Wanted::any),
+            wanted: find,
         },
         ("show", [flow, k]) if find.is_none() => Command::Request {
             flow: flow.into(),
             k: request(k)?,
         },
-        ("find", [wanted, flows @ ..]) if !flows.is_empty() => Command::Find(Find {
-            wanted: telling(wanted, "find")?,
-            named: paths(flows),
-        }),
         ("diff", [old, new]) => Command::Diff(Diff {
             old: old.into(),
             new: new.into(),
             all: words.all,
         }),
-        ("history", [file]) => Command::History(file.into()),
         ("explain", []) => Command::Explain(None),
         ("explain", [number]) => Command::Explain(Some(parsed(number, euro::number, "a number")?)),
         _ => {
@@ -250,17 +200,15 @@ fn command(name: &str, words: Words) -> Outcome<Option<Command>> {
 
 /// The same of the commands that save.
 fn saving(name: &str, words: &Words) -> Outcome<Option<Saving>> {
-    let references = words.values("--ref").count();
-    let named = |numbers: &[OsString]| numbers.len() + references;
     Ok(Some(match (name, &words.operands[..]) {
-        ("amount", [flow, number @ .., euros]) if named(number) == 1 => Saving::Amount {
+        ("amount", [flow, k, euros]) => Saving::Amount {
             flow: flow.into(),
-            chosen: chosen(number, words)?,
+            k: request(k)?,
             cents: cents(euros)?,
         },
-        ("withdraw", [flow, numbers @ ..]) if named(numbers) > 0 => Saving::Withdraw {
+        ("withdraw", [flow, numbers @ ..]) if !numbers.is_empty() => Saving::Withdraw {
             flow: flow.into(),
-            chosen: chosen(numbers, words)?,
+            numbers: requests(numbers)?,
         },
         ("list", [flow, list]) => Saving::List {
             flow: flow.into(),
@@ -270,66 +218,36 @@ fn saving(name: &str, words: &Words) -> Outcome<Option<Saving>> {
             list: list.into(),
             flow: flow.into(),
         },
-        ("recall", [sent, new, numbers @ ..]) if named(numbers) > 0 => Saving::Recall(Recall {
+        ("recall", [sent, new, numbers @ ..]) if !numbers.is_empty() => Saving::Recall(Recall {
             sent: sent.into(),
             new: new.into(),
-            chosen: chosen(numbers, words)?,
+            numbers: requests(numbers)?,
             name: words.value("--name").map(header::name).transpose()?,
             date: words.value("--date").map(header::date).transpose()?,
         }),
-        ("undo", [file]) => Saving::Undo {
-            file: file.into(),
-            version: None,
-        },
-        ("undo", [file, version]) => Saving::Undo {
-            file: file.into(),
-            version: Some(parsed(version, euro::number, "the number of a version")?),
-        },
-        ("tidy", [_, ..]) => Saving::Tidy(paths(&words.operands)),
         _ => return Ok(None),
     }))
 }
 
 /// The text of `--find`.
-fn text(word: &OsStr) -> Outcome<&str> {
+fn text(word: &OsStr) -> Outcome<String> {
     match word.to_str() {
-        Some(text) if !text.is_empty() => Ok(text),
+        Some(text) if !text.is_empty() => Ok(text.to_owned()),
         _ => Err(Failure::trouble("--find needs a text.")),
     }
 }
 
-/// A text that not every request has, for a command or an option.
-fn telling(word: &OsStr, whose: &str) -> Outcome<Wanted> {
-    let wanted = word.to_str().and_then(Wanted::of);
-    wanted.ok_or_else(|| Failure::trouble(format!("{whose} needs a text.")))
-}
-
-/// The requests named by these numbers and by the options.
-fn chosen(numbers: &[OsString], words: &Words) -> Outcome<Chosen> {
-    let numbers = numbers.iter().map(|k| request(k)).collect::<Outcome<_>>()?;
-    let texts = words.values("--only-if");
-    Ok(Chosen {
-        numbers: rising(numbers)?,
-        references: words
-            .values("--ref")
-            .map(reference)
-            .collect::<Outcome<_>>()?,
-        only_if: texts
-            .map(|text| telling(text, "--only-if"))
-            .collect::<Outcome<_>>()?,
-    })
-}
-
-/// The reference of a request, without the blanks around it.
-fn reference(word: &OsStr) -> Outcome<String> {
-    match word.to_str().map(str::trim) {
-        Some(text) if !text.is_empty() => Ok(text.to_owned()),
-        _ => Err(Failure::trouble("--ref needs a reference.")),
+/// The numbers of requests, rising, each once.
+fn requests(words: &[OsString]) -> Outcome<Vec<u64>> {
+    let mut numbers: Vec<u64> = words.iter().map(|k| request(k)).collect::<Outcome<_>>()?;
+    numbers.sort_unstable();
+    match numbers.windows(2).find(|pair| pair[0] == pair[1]) {
+        Some(twice) => Err(Failure::trouble(format!(
+            "number {} is named twice.",
+            twice[0]
+        ))),
+        None => Ok(numbers),
     }
-}
-
-fn paths(words: &[OsString]) -> Vec<PathBuf> {
-    words.iter().map(PathBuf::from).collect()
 }
 
 /// The number of a request, with zeros in front or without: both are seen, in a flow and in the table.

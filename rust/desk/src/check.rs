@@ -1,142 +1,74 @@
-//! Many flows judged at once: a line for each, then every refusal with its record, and what stands in them
-//! more than once.
+//! Many flows judged at once: a line for each, then every refusal with its record.
 
 use std::collections::HashSet;
+use std::ffi::OsString;
 use std::fmt;
-use std::io::{ErrorKind, Write};
-use std::mem::take;
+use std::fs;
+use std::io::Write;
 use std::path::{Path, PathBuf};
+use std::sync::atomic::{AtomicUsize, Ordering};
+use std::sync::mpsc::{self, RecvTimeoutError, Sender};
+use std::thread;
 
 use mav::{Accepted, FlowKind, Reason, Refusal};
 
-use crate::cores::on_all_cores;
 use crate::euro::{grouped, shown as euro};
 use crate::failure::{Failure, Outcome};
-use crate::folder::{gathered, no_flow};
-use crate::input::{is_file, read_into, Unread};
+use crate::input::{read_into, Unread};
 use crate::kind;
-use crate::mark::Marks;
-use crate::name::shown;
+use crate::name::{is_no_flow, shown};
 use crate::output::counted;
+use crate::progress::Progress;
 use crate::refusal;
-use crate::twice::{Flows, Judged};
-use crate::warning;
-
-/// A check as it is asked for.
-pub struct Check {
-    pub named: Vec<PathBuf>,
-    /// The flows of other evenings, with which those named are compared.
-    pub against: Vec<PathBuf>,
-    /// Whether a warning counts in the exit status.
-    pub strict: bool,
-}
 
 /// What became of a flow.
 enum Verdict {
-    Accepted(Judged),
+    Accepted(Accepted),
     /// With the picture of its record.
     Refused(Refusal, String),
     Unread(Failure),
 }
 
-/// Judges the flows, and those in the folders, warns of what stands in them more than once, and succeeds only
-/// where all are accepted.
-pub fn check(asked: &Check, out: &mut impl Write) -> Outcome {
-    let mut seen = HashSet::new();
-    let mut paths = gathered(&asked.named, &mut seen);
-    let tonight = paths.len();
-    paths.extend(gathered(&asked.against, &mut seen));
-    let verdicts = on_all_cores(&paths, "flows checked", judge);
-    let flows = Flows {
-        paths: &paths,
-        judged: verdicts.iter().map(Verdict::accepted).collect(),
-        tonight,
-    };
-    let found = flows.twice();
-    let rows = || paths.iter().zip(&verdicts);
-    table(rows().take(tonight), found.warnings(), out)?;
-    refusals(rows().take(tonight), out)?;
-    warning::show(&flows, &found, out)?;
-    not_compared(rows().skip(tonight), out)?;
-    out.flush()?;
-    let unread = verdicts.iter().filter_map(Verdict::unread);
-    let failures = || unread.clone().chain(&found.failures);
-    for failure in failures() {
-        failure.tell();
-    }
-    let refused = verdicts[..tonight].iter().any(Verdict::is_refused);
-    let uncompared = verdicts[tonight..].iter().any(Verdict::is_refused);
-    match (
-        failures().count(),
-        refused || asked.strict && (found.warnings() > 0 || uncompared),
-    ) {
-        (0, false) => Ok(()),
-        (0, true) => Err(Failure::silent(1)),
-        _ => Err(Failure::silent(2)),
-    }
-}
-
-impl Verdict {
-    fn accepted(&self) -> Option<&Judged> {
-        match self {
-            Verdict::Accepted(judged) => Some(judged),
-            _ => None,
-        }
-    }
-
-    fn unread(&self) -> Option<&Failure> {
-        match self {
-            Verdict::Unread(failure) => Some(failure),
-            _ => None,
-        }
-    }
-
-    fn is_refused(&self) -> bool {
-        matches!(self, Verdict::Refused(..))
-    }
-}
-
-/// Every refused flow with its record.
-fn refusals<'a>(
-    rows: impl Iterator<Item = (&'a PathBuf, &'a Verdict)>,
-    out: &mut impl Write,
-) -> Outcome {
-    for (path, verdict) in rows {
+/// Judges the flows, and those in the folders, and succeeds only where all are accepted.
+pub fn check(named: &[PathBuf], out: &mut impl Write) -> Outcome {
+    let flows = gathered(named);
+    let verdicts = judged(&flows);
+    let rows = || flows.iter().zip(&verdicts);
+    table(rows(), out)?;
+    for (path, verdict) in rows() {
         if let Verdict::Refused(refusal, picture) = verdict {
             let line = refusal::line(refusal);
             write!(out, "\n{}: {line}.\n{picture}", shown(path))?;
         }
     }
-    Ok(())
-}
-
-/// The flows of other evenings that are refused, so that nobody takes them for compared.
-fn not_compared<'a>(
-    rows: impl Iterator<Item = (&'a PathBuf, &'a Verdict)>,
-    out: &mut impl Write,
-) -> Outcome {
-    let mut blank = "\n";
-    for (path, verdict) in rows {
-        if let Verdict::Refused(refusal, _) = verdict {
-            let place = refusal::place(refusal);
-            writeln!(out, "{blank}{} is not compared: {place}.", shown(path))?;
-            blank = "";
+    out.flush()?;
+    let mut status = 0;
+    for verdict in verdicts {
+        match verdict {
+            Verdict::Accepted(_) => {}
+            Verdict::Refused(..) => status = status.max(1),
+            Verdict::Unread(failure) => {
+                failure.tell();
+                status = 2;
+            }
         }
     }
-    Ok(())
+    match status {
+        0 => Ok(()),
+        status => Err(Failure::silent(status)),
+    }
 }
 
 /// A line for each flow, and one for all.
 fn table<'a>(
     rows: impl Iterator<Item = (&'a PathBuf, &'a Verdict)> + Clone,
-    warnings: usize,
     out: &mut impl Write,
 ) -> Outcome {
     let names = rows.clone().map(|(path, _)| shown(path).chars().count());
     let width = names.max().unwrap_or(0).max("FLOW".len());
     let titles = cells("KIND", "COUNT", "TOTAL", "RECORDS");
     writeln!(out, "{:<width$}{titles}", "FLOW")?;
-    let mut sum = Sum::new(warnings);
+    let mut sum = Sum::new();
     for (path, verdict) in rows {
         sum.add(verdict);
         writeln!(out, "{:<width$}{}", shown(path), row(verdict))?;
@@ -148,7 +80,7 @@ fn table<'a>(
 /// What stands after a flow's name.
 fn row(verdict: &Verdict) -> String {
     match verdict {
-        Verdict::Accepted(Judged { numbers, .. }) => cells(
+        Verdict::Accepted(numbers) => cells(
             &numbers.kind.to_string(),
             &grouped(numbers.dispositions),
             &euro(numbers.cents),
@@ -169,7 +101,6 @@ struct Sum {
     kinds: Vec<OfKind>,
     refused: u64,
     unread: u64,
-    warnings: usize,
 }
 
 /// The accepted flows of a kind.
@@ -191,19 +122,18 @@ impl OfKind {
 
 impl Sum {
     /// No flow yet. Requests come first, whatever is met first.
-    fn new(warnings: usize) -> Sum {
+    fn new() -> Sum {
         Sum {
             accepted: 0,
             kinds: vec![OfKind::none(FlowKind::Requests)],
             refused: 0,
             unread: 0,
-            warnings,
         }
     }
 
     fn add(&mut self, verdict: &Verdict) {
         match verdict {
-            Verdict::Accepted(Judged { numbers, .. }) => {
+            Verdict::Accepted(numbers) => {
                 self.accepted += 1;
                 let sum = self.of_kind(numbers.kind);
                 sum.count += numbers.dispositions;
@@ -245,22 +175,101 @@ impl fmt::Display for Sum {
         if self.unread > 0 {
             write!(f, " {} not read.", grouped(self.unread))?;
         }
-        if self.warnings > 0 {
-            let warnings = counted(self.warnings as u64, "warning", "warnings");
-            write!(f, " {warnings}.")?;
-        }
         Ok(())
     }
 }
 
-/// Judges the flow that is so many-th in order.
-fn judge(index: usize, path: &Path, buffer: &mut Vec<u8>) -> Verdict {
+/// The flows named, and of each folder named its files by name, each flow once. A folder in a folder is not
+/// looked into. A folder without a flow stands for itself, so that it is told.
+fn gathered(named: &[PathBuf]) -> Vec<PathBuf> {
+    let mut flows = Vec::new();
+    for path in named {
+        let found = if path.is_dir() {
+            files_of(path)
+        } else {
+            Ok(Vec::new())
+        };
+        match found.unwrap_or_default() {
+            names if names.is_empty() => flows.push(path.clone()),
+            names => flows.extend(names.iter().map(|name| path.join(name))),
+        }
+    }
+    let mut seen = HashSet::new();
+    flows.retain(|path| fs::canonicalize(path).map_or(true, |file| seen.insert(file)));
+    flows
+}
+
+/// The files of a folder that may be flows, by name.
+fn files_of(folder: &Path) -> std::io::Result<Vec<OsString>> {
+    let mut names = Vec::new();
+    for entry in fs::read_dir(folder)? {
+        let name = entry?.file_name();
+        // What cannot be looked at is judged too, so that it is told.
+        let is_file = fs::metadata(folder.join(&name)).map_or(true, |found| found.is_file());
+        if is_file && !is_no_flow(&name) {
+            names.push(name);
+        }
+    }
+    names.sort();
+    Ok(names)
+}
+
+/// Judges the flows on as many threads as there are cores. Each takes the next flow that nobody has taken,
+/// and they share nothing else.
+fn judged(flows: &[PathBuf]) -> Vec<Verdict> {
+    let next = AtomicUsize::new(0);
+    let cores = thread::available_parallelism().map_or(1, usize::from);
+    let (done, verdicts) = mpsc::channel();
+    thread::scope(|scope| {
+        let worker = || {
+            let (next, done) = (&next, done.clone());
+            move || take_turns(flows, next, &done)
+        };
+        let spawn = |_: &usize| thread::Builder::new().spawn_scoped(scope, worker()).is_ok();
+        // A system that gives fewer threads, or none, only makes it slower.
+        if (0..cores.min(flows.len())).filter(spawn).count() == 0 {
+            worker()();
+        }
+        drop(done);
+        in_order(flows.len(), &verdicts)
+    })
+}
+
+/// Judges one flow after the other, as long as there are any that nobody has taken.
+fn take_turns(flows: &[PathBuf], next: &AtomicUsize, done: &Sender<(usize, Verdict)>) {
+    let mut buffer = Vec::new();
+    loop {
+        let index = next.fetch_add(1, Ordering::Relaxed);
+        let Some(path) = flows.get(index) else { break };
+        // The other end stands until all threads have ended.
+        let _ = done.send((index, judge(path, &mut buffer)));
+    }
+}
+
+/// The verdicts in the order of the flows, and meanwhile a line that tells how far it is.
+fn in_order(count: usize, verdicts: &mpsc::Receiver<(usize, Verdict)>) -> Vec<Verdict> {
+    let mut progress = Progress::new(count);
+    let mut found = Vec::with_capacity(count);
+    loop {
+        match verdicts.recv_timeout(progress.pause()) {
+            Ok(verdict) => found.push(verdict),
+            Err(RecvTimeoutError::Timeout) => progress.show(found.len()),
+            Err(RecvTimeoutError::Disconnected) => break,
+        }
+    }
+    found.sort_unstable_by_key(|(index, _)| *index);
+    let indices = found.iter().map(|(index, _)| *index);
+    assert!(indices.eq(0..count), "every flow is judged once");
+    found.into_iter().map(|(_, verdict)| verdict).collect()
+}
+
+fn judge(path: &Path, buffer: &mut Vec<u8>) -> Verdict {
     if path.is_dir() {
         return Verdict::Unread(no_flow(path));
     }
     match read_into(path, buffer) {
         Ok(()) => match mav::read(buffer) {
-            Ok(numbers) => accepted(index, path, numbers, buffer),
+            Ok(numbers) => Verdict::Accepted(numbers),
             Err(refusal) => Verdict::Refused(refusal, refusal::in_flow(&refusal, buffer)),
         },
         Err(Unread::TooLong(length)) => {
@@ -275,17 +284,10 @@ fn judge(index: usize, path: &Path, buffer: &mut Vec<u8>) -> Verdict {
     }
 }
 
-/// What is kept of a flow that is accepted: all of it only where it cannot be read again.
-fn accepted(index: usize, path: &Path, numbers: Accepted, buffer: &mut Vec<u8>) -> Verdict {
-    match Marks::of(index, buffer, numbers) {
-        Some(marks) => Verdict::Accepted(Judged {
-            numbers,
-            marks,
-            kept: (!is_file(path)).then(|| take(buffer)),
-        }),
-        None => {
-            let error = ErrorKind::OutOfMemory.into();
-            Verdict::Unread(Failure::of_file(path, "cannot be compared", &error))
-        }
+/// Why nothing of a folder is judged.
+fn no_flow(folder: &Path) -> Failure {
+    match files_of(folder) {
+        Err(error) => Failure::of_file(folder, "cannot be looked into", &error),
+        Ok(_) => Failure::trouble(format!("{} has no flow in it.", shown(folder))),
     }
 }

@@ -61,11 +61,6 @@ impl Failure {
         }
     }
 
-    /// The exit status.
-    pub fn status(&self) -> u8 {
-        self.status
-    }
-
     /// Writes the sentence to standard error and gives the exit status.
     pub fn tell(&self) -> ExitCode {
         if let Some(text) = &self.text {

@@ -1,6 +1,6 @@
 //! Files read whole, with a plain sentence where one cannot be.
 
-use std::fs::{self, File};
+use std::fs::File;
 use std::io::{self, ErrorKind, Read};
 use std::path::Path;
 
@@ -72,11 +72,6 @@ pub fn read_open(mut file: &File, buffer: &mut Vec<u8>) -> Result<(), Unread> {
         Ok(_) => Ok(()),
         Err(error) => Err(Unread::Failed(error)),
     }
-}
-
-/// Whether a path is that of a plain file, which can be read as often as one likes.
-pub fn is_file(path: &Path) -> bool {
-    fs::metadata(path).is_ok_and(|found| found.is_file())
 }
 
 /// A copy of these bytes.

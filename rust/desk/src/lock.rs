@@ -15,9 +15,7 @@ use std::path::{Path, PathBuf};
 use std::thread;
 use std::time::{Duration, SystemTime};
 
-use crate::clerk;
 use crate::name::plain;
-use crate::zone::Zone;
 
 /// How often a lock that is held is tried again, and after what time: long enough for a process that is just
 /// ending, and too short to be noticed. One who has not signed yet is waited for longer.
@@ -27,6 +25,8 @@ const PAUSE: Duration = Duration::from_millis(2);
 
 /// A holder who has not signed yet.
 const UNSIGNED: &str = "another process";
+/// The longest name of a holder.
+const LONGEST_NAME: usize = 60;
 /// The length of a signature, with blanks at its end: each covers the whole of the one before.
 const SIGNATURE: usize = 100;
 
@@ -76,19 +76,15 @@ impl Lock {
     /// write in the folder may take the file over; of one that was taken over this has been said.
     fn sign(&mut self) -> io::Result<()> {
         let _ = self.file.set_permissions(Permissions::from_mode(0o666));
-        let (name, process) = (clerk::name(), std::process::id());
-        let mut signature = format!("{name} (process {process})").into_bytes();
+        let mut names = ["LOGNAME", "USER"].iter().filter_map(std::env::var_os);
+        let mut name = match names.find(|name| !name.is_empty()) {
+            Some(name) => name.to_string_lossy().into_owned(),
+            None => format!("user {}", self.file.metadata()?.uid()),
+        };
+        name.truncate(name.floor_char_boundary(LONGEST_NAME));
+        let mut signature = format!("{name} (process {})", std::process::id()).into_bytes();
         signature.resize(SIGNATURE, b' ');
         self.file.write_all(&signature)
-    }
-}
-
-/// Who holds the lock at a path, and since when, if anybody does. Nothing is changed.
-pub fn holder_at(path: &Path) -> Option<String> {
-    let mut file = File::open(path).ok()?;
-    match file.try_lock_shared() {
-        Err(TryLockError::WouldBlock) => holder(&mut file).ok(),
-        _ => None,
     }
 }
 
@@ -154,15 +150,14 @@ fn holder(file: &mut File) -> io::Result<String> {
         "" => UNSIGNED.to_owned(),
         name => plain(name),
     };
-    let since = told_since(since, SystemTime::now(), &Zone::local());
-    Ok(format!("{name} {since}"))
+    Ok(format!("{name} {}", told_since(since, SystemTime::now())))
 }
 
-/// A time of day and how long ago it was, as `since 05:42 CET (3 minutes ago)`.
-fn told_since(since: SystemTime, now: SystemTime, zone: &Zone) -> String {
-    let moment = since
+/// A time of day and how long ago it was, as `since 05:42 UTC (3 minutes ago)`.
+fn told_since(since: SystemTime, now: SystemTime) -> String {
+    let of_day = since
         .duration_since(SystemTime::UNIX_EPOCH)
-        .map_or(0, |time| time.as_secs() as i64);
+        .map_or(0, |time| time.as_secs() % 86_400);
     let ago = now.duration_since(since).map_or(0, |time| time.as_secs());
     let (number, unit) = match ago {
         0..60 => (ago, "second"),
@@ -171,8 +166,8 @@ fn told_since(since: SystemTime, now: SystemTime, zone: &Zone) -> String {
         _ => (ago / 86_400, "day"),
     };
     let several = if number == 1 { "" } else { "s" };
-    let time = zone.told_time(moment);
-    format!("since {time} ({number} {unit}{several} ago)")
+    let (hour, minute) = (of_day / 3_600, of_day / 60 % 60);
+    format!("since {hour:02}:{minute:02} UTC ({number} {unit}{several} ago)")
 }
 
 #[cfg(test)]
@@ -184,8 +179,7 @@ mod tests {
         // 16 November 2026 is day 20,773 since 1970.
         let since = SystemTime::UNIX_EPOCH
             + Duration::from_secs(20_773 * 86_400 + 5 * 3_600 + 42 * 60 + 59);
-        let zone = Zone::utc();
-        let told = |seconds| told_since(since, since + Duration::from_secs(seconds), &zone);
+        let told = |seconds| told_since(since, since + Duration::from_secs(seconds));
         assert_eq!(told(0), "since 05:42 UTC (0 seconds ago)");
         assert_eq!(told(1), "since 05:42 UTC (1 second ago)");
         assert_eq!(told(59), "since 05:42 UTC (59 seconds ago)");
@@ -195,7 +189,7 @@ mod tests {
         assert_eq!(told(86_400 * 3), "since 05:42 UTC (3 days ago)");
         // A clock that was set back.
         assert_eq!(
-            told_since(since, SystemTime::UNIX_EPOCH, &zone),
+            told_since(since, SystemTime::UNIX_EPOCH),
             "since 05:42 UTC (0 seconds ago)"
         );
     }

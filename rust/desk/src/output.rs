@@ -5,8 +5,7 @@ use std::path::Path;
 
 use crate::euro::grouped;
 use crate::failure::{cause, Failure, Outcome};
-use crate::name::operand;
-use crate::save::Saved;
+use crate::name::shown;
 
 /// More of an answer is not read.
 const LONGEST_ANSWER: u64 = 1_000;
@@ -37,47 +36,14 @@ pub fn ask(out: &mut impl Write, question: &str) -> Outcome<String> {
     }
 }
 
-/// The version of a file that was saved over, and the command that gives it back.
-pub struct Kept {
-    version: u64,
-    undo: String,
-}
-
-impl Kept {
-    /// The version before the one that stands now.
-    pub fn before(named: &Path, version: u64) -> Kept {
-        let undo = format!("mavdesk undo {}", operand(named));
-        Kept { version, undo }
-    }
-
-    /// Any other one, which has to be named.
-    pub fn by_number(named: &Path, version: u64) -> Kept {
-        let undo = format!("mavdesk undo {} {version}", operand(named));
-        Kept { version, undo }
-    }
-}
-
-/// Says that a file is saved, what was done if that is not plain, and how the version before is had again, if
-/// there was one. Where that cannot be printed it is told as an error, so that nobody makes the amendment again.
-pub fn saved(
-    out: &mut impl Write,
-    what: &str,
-    done: &str,
-    (kept, saved): (Option<Kept>, &Saved),
-) -> Outcome {
-    let done = match done {
-        "" => String::new(),
-        done => format!(": {done}"),
+/// Says that a file is saved, and where its old version is kept, if it had one. Where that cannot be printed
+/// it is told as an error, so that nobody makes the amendment again.
+pub fn saved(out: &mut impl Write, what: &str, kept_as: Option<&Path>) -> Outcome {
+    let kept = match kept_as {
+        Some(path) => format!(" The {what} as it was is kept as {}.", shown(path)),
+        None => String::new(),
     };
-    let kept = kept.map_or(String::new(), |Kept { version, undo }| {
-        format!(" Version {version} is kept: {undo} gives it back.")
-    });
-    let unended = saved.unended.as_ref().map_or(String::new(), |cause| {
-        format!(
-            "\nThe history could not be told that it is saved: {cause}. The next save sees to it."
-        )
-    });
-    let printed = writeln!(out, "Saved{done}.{kept}{unended}").and_then(|()| out.flush());
+    let printed = writeln!(out, "Saved.{kept}").and_then(|()| out.flush());
     printed.map_err(|error| {
         let cause = cause(&error);
         Failure::trouble(format!(
@@ -91,18 +57,6 @@ pub fn listed(words: &[String]) -> String {
     match words {
         [front @ .., last] if !front.is_empty() => format!("{} and {last}", front.join(", ")),
         _ => words.concat(),
-    }
-}
-
-/// The same where there may be very many: the first of them, and how many more there are.
-pub fn capped(words: &[String]) -> String {
-    const SHOWN: usize = 8;
-    match words.split_at_checked(SHOWN) {
-        Some((shown, left)) if left.len() > 1 => {
-            let more = grouped(left.len() as u64);
-            format!("{} and {more} more", shown.join(", "))
-        }
-        _ => listed(words),
     }
 }
 

@@ -8,20 +8,18 @@ use std::path::PathBuf;
 
 use mav::{Accepted, Dispositions, FlowKind, Refusal};
 
-use crate::chosen::{are_there, Chosen};
 use crate::euro::{grouped, shown as euro};
 use crate::failure::{Failure, Outcome};
 use crate::header::{self, Date, Name};
-use crate::input::read;
-use crate::journal::Done;
+use crate::input::{read, with_room};
 use crate::kind::{counted, summary};
 use crate::list;
 use crate::name::shown;
 use crate::output::{ask, confirm, saved};
 use crate::record::{field, text};
 use crate::refusal;
-use crate::request::{date, done, titles, Request};
-use crate::save::{Change, Target};
+use crate::request::{date, titles, Request};
+use crate::save::Target;
 use crate::show::heading;
 
 /// A recall as it is asked for.
@@ -29,8 +27,8 @@ pub struct Recall {
     /// The flow sent, and the file that is to be the recall flow.
     pub sent: PathBuf,
     pub new: PathBuf,
-    /// The requests to be recalled.
-    pub chosen: Chosen,
+    /// The requests to be recalled, by rising number.
+    pub numbers: Vec<u64>,
     /// What the recall flow has for itself, as far as the command line gives it.
     pub name: Option<Name>,
     pub date: Option<Date>,
@@ -41,33 +39,21 @@ pub fn recall(asked: &Recall, yes: bool, out: &mut impl Write) -> Outcome {
     asked.can_ask()?;
     let sent = read(&asked.sent)?;
     let requests = asked.requests(&sent)?;
-    let chosen = asked.numbers(&sent, &requests)?;
     let target = Target::lock_new(&asked.new)?;
     let (name, date) = asked.header(out)?;
     asked.differs(&sent, &name, &date)?;
-    let (numbers, flow) = asked.flow(&sent, &chosen, &name, &date)?;
-    let kind = requests.accepted().kind;
-    let shown = asked.show_requests(&sent, requests, &chosen, out)?;
+    let (numbers, flow) = asked.flow(&sent, &name, &date)?;
+    let cents = asked.show_requests(&sent, requests, out)?;
     let recalled = (numbers.dispositions, numbers.cents);
-    let cents = shown.iter().map(|request| request.cents).sum();
-    assert_eq!(
-        recalled,
-        (shown.len() as u64, cents),
-        "what is recalled is what is shown"
-    );
-    asked.show_flow(&chosen, numbers, &flow, out)?;
+    let shown = (asked.numbers.len() as u64, cents);
+    assert_eq!(recalled, shown, "what is recalled is what is shown");
+    asked.show_flow(numbers, &flow, out)?;
     if !yes {
         confirm(out, "Save it?", "not saved: nothing was written.")?;
     }
     out.flush()?;
-    let made = target.save(&Change {
-        old: None,
-        standing: target.versions().standing(None),
-        new: &flow,
-        done: Done::written(&asked.sent, None, numbers),
-        back_to: None,
-    })?;
-    saved(out, "flow", &done(&shown, kind, "recalled"), (None, &made))
+    target.save(None, &flow)?;
+    saved(out, "flow", None)
 }
 
 impl Recall {
@@ -85,7 +71,7 @@ impl Recall {
         )))
     }
 
-    /// The requests of the flow sent, which must be accepted.
+    /// The requests of the flow sent, which must be accepted and have those that are named.
     fn requests<'a>(&self, sent: &'a [u8]) -> Outcome<Dispositions<'a>> {
         let requests = refusal::accepted(&self.sent, sent)?;
         let numbers = requests.accepted();
@@ -95,18 +81,15 @@ impl Recall {
                 "{named} is a flow of {kind}, and only requests can be recalled."
             )));
         }
+        // A flow that has the highest and the lowest has all between them.
+        let ends = [self.numbers.last(), self.numbers.first()];
+        for &k in ends.into_iter().flatten() {
+            if let Err(refusal) = mav::find(sent, k) {
+                let also = "; nothing was saved";
+                return Err(refusal::of_request(&refusal, &self.sent, k, numbers, also));
+            }
+        }
         Ok(requests)
-    }
-
-    /// The numbers of the requests that are named, rising. The flow sent must have them.
-    fn numbers(&self, sent: &[u8], requests: &Dispositions<'_>) -> Outcome<Vec<u64>> {
-        let otherwise = "nothing was saved";
-        let chosen = self.chosen.numbers(&self.sent, requests, otherwise)?;
-        are_there(sent, &chosen, |refusal, k| {
-            let (numbers, also) = (requests.accepted(), format!("; {otherwise}"));
-            refusal::of_request(refusal, &self.sent, k, numbers, &also)
-        })?;
-        Ok(chosen)
     }
 
     /// The name and the date of the recall flow.
@@ -139,16 +122,27 @@ impl Recall {
     }
 
     /// The recall flow as the library writes it, with its numbers.
-    fn flow(
-        &self,
-        sent: &[u8],
-        chosen: &[u64],
-        name: &Name,
-        date: &Date,
-    ) -> Outcome<(Accepted, Vec<u8>)> {
+    fn flow(&self, sent: &[u8], name: &Name, date: &Date) -> Outcome<(Accepted, Vec<u8>)> {
         let (_, list) = list::of_flow(&self.sent, sent)?;
-        let list = recall_list(&list, chosen, name, date)?;
+        let list = self.list(&list, name, date)?;
         list::to_flow(&list, |refusal| self.refused(refusal, &list))
+    }
+
+    /// The list of the recall flow: that of the flow sent with Q for H, a name and a date of its own, and of
+    /// all items after the header's those of the requests named.
+    fn list(&self, sent: &[u8], name: &Name, date: &Date) -> Outcome<Vec<u8>> {
+        let mut list = with_room(sent.len())?;
+        let mut number = 0;
+        for item in mav::items(sent) {
+            number += u64::from(item.starts_with(b"D"));
+            if number == 0 || self.numbers.binary_search(&number).is_ok() {
+                list.extend_from_slice(item);
+            }
+        }
+        list[0] = b'Q';
+        list[in_header_item(14, 19)].copy_from_slice(date);
+        list[in_header_item(20, 39)].copy_from_slice(name);
+        Ok(list)
     }
 
     /// What the clerk is told where the library refuses the recall flow: of requests that were accepted it
@@ -162,58 +156,41 @@ impl Recall {
         refusal::of_new_flow(refusal, &self.new, list, advice)
     }
 
-    /// Shows the requests to be recalled, and gives them.
-    fn show_requests<'a>(
+    /// Shows the requests to be recalled, and adds up their amounts.
+    fn show_requests(
         &self,
         sent: &[u8],
-        requests: Dispositions<'a>,
-        chosen: &[u64],
+        requests: Dispositions<'_>,
         out: &mut impl Write,
-    ) -> Outcome<Vec<Request<'a>>> {
+    ) -> Outcome<u64> {
         let Accepted {
             dispositions, kind, ..
         } = requests.accepted();
         let heading = heading(&self.sent, sent, kind);
         writeln!(out, "{heading}\n\n{}", titles())?;
-        let requests = requests.filter(|found| chosen.binary_search(&found.number).is_ok());
-        let requests: Vec<Request<'_>> = requests.map(Request::of).collect();
-        let mut cents = 0_u64;
-        for request in &requests {
-            cents += request.cents;
-            writeln!(out, "{}", request.row())?;
+        let mut cents = 0;
+        for request in requests.map(Request::of) {
+            if self.numbers.binary_search(&request.number).is_ok() {
+                cents += request.cents;
+                writeln!(out, "{}", request.row())?;
+            }
         }
-        let count = grouped(requests.len() as u64);
+        let count = grouped(self.numbers.len() as u64);
         let (all, total) = (counted(dispositions, kind), euro(cents));
         writeln!(out, "\n{count} of {all} to be recalled, {total} euro.\n")?;
-        Ok(requests)
+        Ok(cents)
     }
 
     /// Shows what the recall flow is.
-    fn show_flow(
-        &self,
-        chosen: &[u64],
-        numbers: Accepted,
-        flow: &[u8],
-        out: &mut impl Write,
-    ) -> Outcome {
+    fn show_flow(&self, numbers: Accepted, flow: &[u8], out: &mut impl Write) -> Outcome {
         let heading = heading(&self.new, flow, numbers.kind);
-        let anew = match chosen.last() {
+        let anew = match self.numbers.last() {
             Some(&last) if last == numbers.dispositions => "",
             _ => ", numbered anew from 1 on",
         };
         writeln!(out, "{heading}\n{}{anew}.\n", summary(numbers))?;
         Ok(())
     }
-}
-
-/// The list of the recall flow: that of the flow sent with Q for H, a name and a date of its own, and of all
-/// items after the header's those of the requests chosen.
-fn recall_list(sent: &[u8], chosen: &[u64], name: &Name, date: &Date) -> Outcome<Vec<u8>> {
-    let mut list = list::with_requests(sent, |number| chosen.binary_search(&number).is_ok())?;
-    list[0] = b'Q';
-    list[in_header_item(14, 19)].copy_from_slice(date);
-    list[in_header_item(20, 39)].copy_from_slice(name);
-    Ok(list)
 }
 
 /// What the clerk gives the recall flow for itself.

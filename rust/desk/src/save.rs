@@ -1,45 +1,18 @@
 //! Saving a file so that at every moment either its old version stands under its name or its new one, whole.
 //!
 //! The new version is written to a new file beside the old one, flushed to the disk, read back and compared.
-//! Both are kept among the file's versions, and the journal says what was done. Then the new file is renamed
-//! over the old one, which the system does in one step, and the folder is flushed. The file under its name is
-//! never written to.
+//! The old version gets a second name, `NAME.before`. Then the new file is renamed over the old one, which
+//! the system does in one step, and the folder is flushed. The file under its name is never written to.
 
-use std::fs::{self, File, OpenOptions};
-use std::io::{self, ErrorKind};
-use std::os::unix::fs::MetadataExt;
+use std::fs::{self, File, Metadata, OpenOptions};
+use std::io::{self, ErrorKind, Write};
+use std::os::unix::fs::{fchown, MetadataExt, OpenOptionsExt};
 use std::path::{Path, PathBuf};
-use std::time::SystemTime;
 
-use crate::clerk;
 use crate::failure::{cause, Failure, Outcome};
 use crate::input::{has_bytes, read_open};
-use crate::journal::{Done, Entry, Fate};
 use crate::lock::{Lock, Refused};
-use crate::name::{self, shown, VERSIONS};
-use crate::store::{Addition, Standing, Store};
-use crate::whole;
-
-/// A change of a file that is to be saved.
-pub struct Change<'a> {
-    /// What was read, or nothing where there was no file.
-    pub old: Option<&'a [u8]>,
-    /// What that is among its versions.
-    pub standing: Standing,
-    pub new: &'a [u8],
-    /// What the journal says of it.
-    pub done: Done,
-    /// The earlier version that the new one is, if it is one.
-    pub back_to: Option<u64>,
-}
-
-/// A file that is saved.
-pub struct Saved {
-    /// The version that stood there and is kept, if any is.
-    pub stood: Option<u64>,
-    /// Why the journal could not be told so. The file says it too, as long as nothing else changes it.
-    pub unended: Option<String>,
-}
+use crate::name::{self, shown};
 
 /// Why a file was not saved.
 enum Unsaved {
@@ -62,10 +35,6 @@ pub struct Target {
     path: PathBuf,
     /// The file as it was when it was locked; nothing where there was none.
     old: Option<File>,
-    /// The file that new ones are to be as open as: the old one, or where it is gone its journal.
-    like: Option<File>,
-    /// Its versions, to which nobody else can add.
-    store: Store,
     _lock: Lock,
 }
 
@@ -75,12 +44,6 @@ impl Target {
     pub fn lock(named: &Path) -> Outcome<Target> {
         let unchanged = |error| Failure::of_file(named, "cannot be changed", &error);
         let path = real(named).map_err(unchanged)?;
-        if path.components().any(|part| part.as_os_str() == VERSIONS) {
-            let error = io::Error::other(
-                "it is kept among the versions of a file; copy it out to work on it",
-            );
-            return Err(unchanged(error));
-        }
         let lock = Lock::take(&name::lock(&path)).map_err(|refused| match refused {
             Refused::Failed(error) if error.kind() == ErrorKind::PermissionDenied => {
                 let error = io::Error::other("there is no permission to write in its folder");
@@ -92,22 +55,10 @@ impl Target {
                 shown(named)
             )),
         })?;
-        let old = open_old(&path).map_err(unchanged)?;
-        if let Some(old) = &old {
-            may_replace(old, &path).map_err(unchanged)?;
-        }
-        let store = Store::open(&path).map_err(unchanged)?;
-        let like = match &old {
-            Some(old) => Some(old.try_clone().map_err(unchanged)?),
-            None if store.entries().is_empty() => None,
-            None => Some(File::open(store.journal()).map_err(unchanged)?),
-        };
         Ok(Target {
             named: named.to_owned(),
+            old: open_old(&path).map_err(unchanged)?,
             path,
-            old,
-            like,
-            store,
             _lock: lock,
         })
     }
@@ -142,33 +93,18 @@ impl Target {
         }
     }
 
-    /// The versions of the file.
-    pub fn versions(&self) -> &Store {
-        &self.store
-    }
-
     /// Puts the new version in the place of the old one, which must still be what was read.
-    pub fn save(&self, change: &Change<'_>) -> Outcome<Saved> {
+    pub fn save(&self, old: Option<&[u8]>, new: &[u8]) -> Outcome {
         let folder = File::open(self.path.parent().unwrap_or(Path::new("/")))
             .map_err(|error| Failure::of_file(&self.named, "cannot be saved", &error))?;
-        let addition = self
-            .replace(change)
-            .map_err(|unsaved| self.unsaved(unsaved, change.old.is_some()))?;
-        let flushed = whole::flush(&folder);
-        let ended = addition.as_ref().map_or(Ok(()), |addition| {
-            self.write_journal(addition, Some(Fate::Saved))
-        });
-        flushed.map_err(|error| {
+        self.replace(old, new, &folder)
+            .map_err(|unsaved| self.unsaved(unsaved, old.is_some()))?;
+        flush(&folder).map_err(|error| {
             Failure::trouble(format!(
                 "{} is saved, but its folder was not flushed to the disk: {}.",
                 shown(&self.named),
                 cause(&error)
             ))
-        })?;
-        let stood = addition.map_or(0, |addition| addition.stood());
-        Ok(Saved {
-            stood: (stood > 0).then_some(stood),
-            unended: ended.err().map(|error| cause(&error)),
         })
     }
 
@@ -176,6 +112,7 @@ impl Target {
     fn unsaved(&self, unsaved: Unsaved, had_old: bool) -> Failure {
         // What cannot be removed now is removed by the next save.
         let _ = fs::remove_file(name::new(&self.path));
+        let _ = fs::remove_file(name::old(&self.path));
         match unsaved {
             Unsaved::Changed => Failure::trouble(format!(
                 "{} is not saved: another program has changed it since it was read.",
@@ -189,77 +126,31 @@ impl Target {
         }
     }
 
-    /// The new version on the disk, both versions kept, and then the name. Gives what was added to the versions.
-    fn replace<'a>(&self, change: &Change<'a>) -> Result<Option<Addition<'a>>, Unsaved> {
+    /// The name under which the old version is kept, as the clerk can use it.
+    pub fn kept_as(&self) -> PathBuf {
+        if self.named.is_symlink() {
+            name::before(&self.path)
+        } else {
+            name::before(&self.named)
+        }
+    }
+
+    /// The new version on the disk, the old one under its second name, and then the renaming.
+    fn replace(&self, old: Option<&[u8]>, new: &[u8], folder: &File) -> Result<(), Unsaved> {
         let new_path = name::new(&self.path);
-        whole::write(&new_path, change.new, self.like.as_ref())?;
-        // A file that is new has no version before, and is kept when it is first saved over.
-        if change.old.is_none() && change.standing == Standing::Unkept {
-            self.give_name(change, &new_path)?;
-            return Ok(None);
-        }
-        let addition = self.keep(change)?;
-        let flushed = self.store.flush().map_err(unkept);
-        if let Err(unsaved) = flushed.and_then(|()| self.give_name(change, &new_path)) {
-            let _ = self.write_journal(&addition, Some(Fate::NotSaved));
-            return Err(unsaved);
-        }
-        Ok(Some(addition))
-    }
-
-    /// Keeps both versions, makes sure that the file is still what was read, and writes the journal.
-    fn keep<'a>(&self, change: &Change<'a>) -> Result<Addition<'a>, Unsaved> {
-        let (now, who) = (now(), clerk::name());
-        let step = |from, to, checksum| Entry {
-            from,
-            to,
-            checksum,
-            when: now,
-            who: who.clone(),
-            done: change.done.clone(),
-            fate: None,
+        self.write_whole(&new_path, new)?;
+        let Some(old) = old else {
+            return self.name_first(&new_path);
         };
-        let old = self.old.as_ref();
-        let written = old.map_or(Ok(now), |old| old.metadata().map(|found| found.mtime()))?;
-        let addition = self.store.addition(change, written, step).map_err(unkept)?;
-        let kept = self
-            .store
-            .write_versions(&addition, self.like.as_ref())
-            .map_err(unkept)
-            .and_then(|()| self.is_still(change.old))
-            .and_then(|()| self.write_journal(&addition, None).map_err(unkept));
-        if kept.is_err() {
-            self.store.clear(&addition);
+        if !self.path.try_exists()? || !has_bytes(&self.path, old)? {
+            return Err(Unsaved::Changed);
         }
-        kept.map(|()| addition)
-    }
-
-    fn write_journal(&self, addition: &Addition<'_>, fate: Option<Fate>) -> io::Result<()> {
-        let like = self.like.as_ref();
-        self.store.write_journal(addition, fate, like)
-    }
-
-    /// Gives the new file the name of the old one, which must still be what was read: another program may have
-    /// changed it while its versions were written.
-    fn give_name(&self, change: &Change<'_>, new_path: &Path) -> Result<(), Unsaved> {
-        match change.old {
-            Some(old) => {
-                self.is_still(Some(old))?;
-                fs::rename(new_path, &self.path)?;
-                Ok(())
-            }
-            None => self.name_first(new_path),
-        }
-    }
-
-    /// The file must be what was read.
-    fn is_still(&self, old: Option<&[u8]>) -> Result<(), Unsaved> {
-        let there = self.path.try_exists()?;
-        let is_still = match old {
-            Some(old) => there && has_bytes(&self.path, old)?,
-            None => !there,
-        };
-        is_still.then_some(()).ok_or(Unsaved::Changed)
+        self.keep(old, folder).map_err(|error| {
+            let before = shown(&self.kept_as());
+            io::Error::other(format!("{before} cannot be written: {}", cause(&error)))
+        })?;
+        fs::rename(new_path, &self.path)?;
+        Ok(())
     }
 
     /// Gives a file its name where nothing has that name: by a hard link, which never replaces a file, or by
@@ -276,38 +167,61 @@ impl Target {
         }
         Ok(())
     }
+
+    /// Gives the old version the name `NAME.before` too. On a disk without hard links it is a copy.
+    fn keep(&self, old: &[u8], folder: &File) -> io::Result<()> {
+        let second = name::old(&self.path);
+        remove_if_there(&second)?;
+        if fs::hard_link(&self.path, &second).is_err() {
+            self.write_whole(&second, old)?;
+        }
+        fs::rename(&second, name::before(&self.path))?;
+        // A renaming onto another name of the same file leaves both.
+        remove_if_there(&second)?;
+        flush(folder)
+    }
+
+    /// Writes a new file, flushes it to the disk, reads it back and compares. It is as open to others as the
+    /// old version, and not before it is so.
+    fn write_whole(&self, path: &Path, bytes: &[u8]) -> io::Result<()> {
+        remove_if_there(path)?;
+        let mut options = OpenOptions::new();
+        options.write(true).create_new(true);
+        let mut file = match &self.old {
+            Some(old) => alike(options.mode(0o600).open(path)?, &old.metadata()?)?,
+            None => options.open(path)?,
+        };
+        file.write_all(bytes)?;
+        file.sync_all()?;
+        match has_bytes(path, bytes)? {
+            true => Ok(()),
+            false => Err(io::Error::other(
+                "the disk gives back other bytes than were written",
+            )),
+        }
+    }
 }
 
-/// What belongs to the versions of a file could not be written. Where there is no room, some of it may be theirs.
-fn unkept(error: io::Error) -> Unsaved {
-    let full = [ErrorKind::StorageFull, ErrorKind::QuotaExceeded];
-    let advice = match full.contains(&error.kind()) {
-        true => "; mavdesk tidy shows the room that versions take, and asks whether to remove them",
-        false => "",
-    };
-    let cause = cause(&error);
-    Unsaved::Failed(io::Error::other(format!(
-        "its history cannot be written: {cause}{advice}"
-    )))
+/// Gives a file the owner, the group and the permissions of another. The owner is kept where the system allows
+/// it; the group has to be, unless the group may do no more than everybody.
+fn alike(file: File, old: &Metadata) -> io::Result<File> {
+    if fchown(&file, Some(old.uid()), Some(old.gid())).is_err() {
+        let _ = fchown(&file, None, Some(old.gid()));
+    }
+    let (of_group, of_others) = (old.mode() >> 3 & 0o7, old.mode() & 0o7);
+    if of_group != of_others && file.metadata()?.gid() != old.gid() {
+        return Err(io::Error::other("its group cannot be kept"));
+    }
+    file.set_permissions(old.permissions())?;
+    Ok(file)
 }
 
-/// The time, in seconds since 1970.
-fn now() -> i64 {
-    let since = SystemTime::now().duration_since(SystemTime::UNIX_EPOCH);
-    since.map_or(0, |since| since.as_secs() as i64)
-}
-
-/// In a folder with the sticky bit only the owner of a file, or of the folder, may replace it: this is told before
-/// anything is written, since versions that another user has begun could not be gone on with by the owner.
-fn may_replace(old: &File, path: &Path) -> io::Result<()> {
-    let folder = fs::metadata(path.parent().unwrap_or(Path::new("/")))?;
-    let owners = [0, folder.uid(), old.metadata()?.uid()];
-    let may = clerk::user().is_none_or(|user| owners.contains(&user));
-    match folder.mode() & 0o1000 == 0 || may {
-        true => Ok(()),
-        false => Err(io::Error::other(
-            "in its folder only the owner of a file may replace it",
-        )),
+/// Flushes a folder's names to the disk, where the system has that.
+fn flush(folder: &File) -> io::Result<()> {
+    let has_none = [ErrorKind::InvalidInput, ErrorKind::Unsupported];
+    match folder.sync_all() {
+        Err(error) if has_none.contains(&error.kind()) => Ok(()),
+        flushed => flushed,
     }
 }
 
@@ -321,8 +235,15 @@ fn open_old(path: &Path) -> io::Result<Option<File>> {
     }
 }
 
+fn remove_if_there(path: &Path) -> io::Result<()> {
+    match fs::remove_file(path) {
+        Err(error) if error.kind() == ErrorKind::NotFound => Ok(()),
+        removed => removed,
+    }
+}
+
 /// The file that a name stands for, through links; of a file that is not there yet, its place.
-pub fn real(named: &Path) -> io::Result<PathBuf> {
+fn real(named: &Path) -> io::Result<PathBuf> {
     match fs::canonicalize(named) {
         Err(error) if error.kind() == ErrorKind::NotFound => {}
         Ok(path) if path.is_dir() => return Err(ErrorKind::IsADirectory.into()),

@@ -9,20 +9,19 @@ use crate::euro::{grouped, shown as euro};
 use crate::failure::{Failure, Outcome};
 use crate::input::read;
 use crate::kind::{counted, one, summary};
-use crate::name::shown;
+use crate::name::{plain, shown};
 use crate::record::{drawn, field, record_type, text};
 use crate::refusal;
 use crate::request::{date, titles, Request};
-use crate::wanted::Wanted;
 
-/// Shows the requests of a flow, or those that have a text.
-pub fn table(named: &Path, wanted: Option<&Wanted>, out: &mut impl Write) -> Outcome {
+/// Shows the requests of a flow, or those that have a text in their row.
+pub fn table(named: &Path, wanted: Option<&str>, out: &mut impl Write) -> Outcome {
     let flow = read(named)?;
     let requests = refusal::accepted(named, &flow)?;
     let numbers = requests.accepted();
     let (mut found, mut cents) = (0_u64, 0_u64);
     for request in requests.map(Request::of) {
-        if wanted.is_none_or(|wanted| is_wanted(&request, wanted)) {
+        if wanted.is_none_or(|wanted| request.has(wanted)) {
             if found == 0 {
                 let heading = heading(named, &flow, numbers.kind);
                 writeln!(out, "{heading}\n\n{}", titles())?;
@@ -39,18 +38,13 @@ pub fn table(named: &Path, wanted: Option<&Wanted>, out: &mut impl Write) -> Out
             writeln!(out, "\n{} of {all}, {} euro.", grouped(found), euro(cents))?;
         }
         Some(wanted) => {
-            let (one, named, wanted) = (one(numbers.kind), shown(named), wanted.shown());
+            let (one, named, wanted) = (one(numbers.kind), shown(named), plain(wanted));
             return Err(Failure::refused(format!(
-                "no {one} of {named} has {wanted}."
+                "no {one} of {named} has \"{wanted}\" in its row."
             )));
         }
     }
     Ok(())
-}
-
-/// Whether a request has a text, be it in its number, which the row shows too.
-fn is_wanted(request: &Request<'_>, wanted: &Wanted) -> bool {
-    wanted.is_in(&request.number.to_string()) || request.has(wanted)
 }
 
 /// Shows one request with all its records.

@@ -18,12 +18,10 @@ use std::sync::atomic::{AtomicBool, Ordering};
 use std::thread;
 use std::time::{Duration, SystemTime};
 
-use common::{
-    amended, are_root, debtor_of, flow_with, interrupt_library, recalled, run_as_clerk, sample,
-    versions, Ended, Folder, VERSIONS,
-};
+use common::{amended, are_root, interrupt_library, recalled, run_as_clerk, sample, Ended, Folder};
 use oracle::ledger::Call;
-use oracle::{reader, Answer};
+use oracle::record::put;
+use oracle::{reader, samples, Answer};
 
 const LOCK: &str = ".house.flow.mavdesk-lock";
 
@@ -70,7 +68,7 @@ impl Amendment {
 
 /// Saved, and nothing else said.
 fn is_saved(ended: &Ended) -> bool {
-    ended.status == Some(0) && ended.err.is_empty() && ended.out.contains("\nSaved: ")
+    ended.status == Some(0) && ended.err.is_empty() && ended.out.contains("\nSaved. ")
 }
 
 #[track_caller]
@@ -138,10 +136,10 @@ fn assert_flow(folder: &Folder, due: &[u8]) {
     assert!(folder.read("house.flow") == due, "another flow is due");
 }
 
-/// Nothing stands in the folder but the flow and its versions.
+/// Nothing stands in the folder but the flow and its earlier version.
 #[track_caller]
 fn assert_cleared(folder: &Folder) {
-    assert_eq!(folder.names(), [VERSIONS, "house.flow"]);
+    assert_eq!(folder.names(), ["house.flow", "house.flow.before"]);
 }
 
 /// A command that waits at its question.
@@ -199,6 +197,25 @@ impl Asked {
         self.child.kill().unwrap();
         self.child.wait().unwrap();
     }
+}
+
+/// A flow of so many requests, each with a debtor and an amount that no other has.
+fn flow_with(requests: usize) -> Vec<u8> {
+    let mut draft = samples::forty_rents();
+    let forty = draft.dispositions.iter().cycle();
+    draft.dispositions = forty.take(requests).cloned().collect();
+    for (index, records) in draft.dispositions.iter_mut().enumerate() {
+        let opening = &mut records[0];
+        put(opening, 34, format!("{:013}", 50_000 + index).as_bytes());
+        let debtor = records.iter_mut().find(|record| &record[1..3] == b"30");
+        put(debtor.unwrap(), 11, debtor_of(index + 1).as_bytes());
+    }
+    draft.flow()
+}
+
+/// The debtor of request `k` of such a flow as it was made.
+fn debtor_of(k: usize) -> String {
+    format!("STUDENTE {k:04}")
 }
 
 /// The debtors that a text names, in order.
@@ -269,7 +286,7 @@ fn many_clerks(clerks: usize, amounts: usize, withdrawals: usize) {
     let own = clerks * amounts;
     let gone = clerks * withdrawals;
     let made = own + gone + 10;
-    let flow = flow_with(made, true);
+    let flow = flow_with(made);
     let folder = Folder::new();
     fs::write(folder.path("house.flow"), &flow).unwrap();
     let plans: Vec<Vec<Amendment>> = (0..clerks)
@@ -314,13 +331,9 @@ fn many_clerks(clerks: usize, amounts: usize, withdrawals: usize) {
         .collect();
     assert_flow(&folder, &amended(&flow, &calls));
     assert_eq!(amendments_in(&folder.read("house.flow"), made), own + gone);
-    // Each clerk was told of another request withdrawn, in its row and when it was saved.
+    // Each clerk was told of another request withdrawn.
     let withdrawn = printed.iter().filter(|out| out.contains("to be withdrawn"));
-    let told = withdrawn.map(|out| match &debtors_in(out)[..] {
-        [row, saved] if row == saved => row.clone(),
-        _ => panic!("{out}"),
-    });
-    let told: Vec<String> = told.collect();
+    let told: Vec<String> = withdrawn.flat_map(|out| debtors_in(out)).collect();
     let due: BTreeSet<String> = (own + 1..=own + gone).map(debtor_of).collect();
     assert_eq!(told.len(), gone);
     assert_eq!(told.into_iter().collect::<BTreeSet<_>>(), due);
@@ -398,7 +411,7 @@ fn who_found_the_flow_locked_succeeds_after_the_first_has_saved() {
     assert_flow(&folder, &between);
     assert_saved(&amount(39, 222).try_by(&folder, "bruno"));
     assert_flow(&folder, &amended(&between, &[amount(39, 222).0]));
-    assert!(versions(&folder, "house.flow")[1] == between);
+    assert!(folder.read("house.flow.before") == between);
     assert_cleared(&folder);
 }
 
@@ -540,7 +553,7 @@ fn a_lock_file_of_another_user_that_cannot_be_removed_is_taken_over() {
     let words = ["amount", "--yes", "house.flow", "2", "2,22"];
     assert_saved(&run_as_clerk(&folder, ":", &words));
     assert_flow(&folder, &amended(&flow, &[amount(2, 222).0]));
-    assert_eq!(folder.names(), [LOCK, VERSIONS, "house.flow"]);
+    assert_eq!(folder.names(), [LOCK, "house.flow", "house.flow.before"]);
 }
 
 #[test]
@@ -595,8 +608,8 @@ fn two_names_of_a_file_share_a_lock() {
     assert_saved(&saved);
     assert_flow(&folder, &amended(&flow, &[amount(1, 111).0]));
     assert!(folder.path("link.flow").is_symlink() && folder.path("desk/far.flow").is_symlink());
-    assert!(versions(&folder, "house.flow")[0] == flow);
-    let left = [VERSIONS, "desk", "house.flow", "link.flow"];
+    assert!(folder.read("house.flow.before") == flow);
+    let left = ["desk", "house.flow", "house.flow.before", "link.flow"];
     assert_eq!(folder.names(), left);
     assert_eq!(fs::read_dir(folder.path("desk")).unwrap().count(), 1);
 }
@@ -702,7 +715,7 @@ fn who_recalls_to_a_name_that_another_clerk_is_about_to_save_is_told() {
             assert!(folder.read(NEW) == recall_of(2).due());
         }
         assert_flow(&folder, &amended(&flow, &[amount(3, 333).0]));
-        let left = [VERSIONS, "house.flow", NEW];
+        let left = ["house.flow", "house.flow.before", NEW];
         assert_eq!(folder.names(), left);
     }
 }

@@ -10,8 +10,8 @@ use std::os::unix::fs::symlink;
 use std::process::{Command, Stdio};
 
 use common::{
-    amended, change, drawn, flow_of, left, left_with_versions, list_of, record, replaced, sample,
-    student, versions, withdraw, Ended, Folder, BIANCHI, DATE, NAME, ROSSI, SAVED_400, TITLES,
+    amended, change, drawn, flow_of, left, list_of, record, replaced, sample, student, withdraw,
+    Ended, Folder, BIANCHI, DATE, NAME, ROSSI, TITLES,
 };
 
 /// What `amount two-rents.flow 2 400` shows before it asks. The total is that of document 01's example 2.
@@ -43,25 +43,15 @@ trailer, records                              16                       9
 
 ";
 
-const KEPT: &str = " Version 1 is kept: mavdesk undo two-rents.flow gives it back.\n";
-const SAVED_1: &str = "Saved: request 1, ROSSI GIULIA, 450,00 euro, is withdrawn.";
+const SAVED: &str = "Saved. The flow as it was is kept as two-rents.flow.before.\n";
 
 /// The commands, each with what its page says that it does, and its forms.
-const PAGES: [(&str, &str, &[&str]); 13] = [
-    (
-        "check",
-        "judge flows",
-        &["mavdesk check [--strict] [--against FOLDER].. FILE.."],
-    ),
+const PAGES: [(&str, &str, &[&str]); 9] = [
+    ("check", "judge flows", &["mavdesk check FILE.."]),
     (
         "show",
         "show the requests of a flow",
         &["mavdesk show FILE [--find TEXT]", "mavdesk show FILE K"],
-    ),
-    (
-        "find",
-        "look for a tenant in flows or folders",
-        &["mavdesk find TEXT FILE.."],
     ),
     (
         "diff",
@@ -71,12 +61,12 @@ const PAGES: [(&str, &str, &[&str]); 13] = [
     (
         "amount",
         "give a request another amount",
-        &["mavdesk amount [--yes] [--only-if TEXT] FILE K|--ref R EUROS"],
+        &["mavdesk amount [--yes] FILE K EUROS"],
     ),
     (
         "withdraw",
         "take requests out of a flow",
-        &["mavdesk withdraw [--yes] [--only-if TEXT] FILE K|--ref R.."],
+        &["mavdesk withdraw [--yes] FILE K.."],
     ),
     (
         "list",
@@ -91,22 +81,7 @@ const PAGES: [(&str, &str, &[&str]); 13] = [
     (
         "recall",
         "recall requests of a flow already sent",
-        &["mavdesk recall [OPTIONS] SENT OUT K|--ref R.."],
-    ),
-    (
-        "history",
-        "say what was done to a file, when and by whom",
-        &["mavdesk history FILE"],
-    ),
-    (
-        "undo",
-        "put an earlier version of a file back",
-        &["mavdesk undo [--yes] FILE [N]"],
-    ),
-    (
-        "tidy",
-        "remove the versions that were kept",
-        &["mavdesk tidy [--yes] FILE.."],
+        &["mavdesk recall [--yes] [--name NAME] [--date GGMMAA] SENT OUT K.."],
     ),
     (
         "explain",
@@ -114,19 +89,6 @@ const PAGES: [(&str, &str, &[&str]); 13] = [
         &["mavdesk explain [N]"],
     ),
 ];
-
-/// The rent of ROSSI GIULIA, which is in two-rents.flow and in one-rent.flow, warned of at these places.
-fn rossi_twice(places: &str) -> String {
-    format!(
-        "
-1 request stands more than once, the same in all but its number: 450,00 euro again.
-
-  DUE                   AMOUNT  DEBTOR                         REFERENCE
-  31/03/2026            450,00  ROSSI GIULIA                   0000000017
-      {places}
-"
-    )
-}
 
 /// It ended as one that the clerk did not want: the question was put, and the answer was no.
 #[track_caller]
@@ -145,17 +107,16 @@ fn accepted_flows_are_judged_in_the_order_named_and_added_up() {
         "one-rent.flow",
         "forty-rents.flow",
     ];
-    folder.run(&words).printed(&format!(
+    folder.run(&words).printed(
         "\
 FLOW               KIND         COUNT                 TOTAL    RECORDS
 two-rents.flow     requests         2                830,50         16
 one-rent.flow      requests         1                450,00          9
 forty-rents.flow   requests        40             22.250,00        368
 
-3 flows accepted: 43 requests, 23.530,50 euro. 1 warning.
-{}",
-        rossi_twice("two-rents.flow 1; one-rent.flow 1")
-    ));
+3 flows accepted: 43 requests, 23.530,50 euro.
+",
+    );
 }
 
 #[test]
@@ -239,17 +200,16 @@ fn of_a_folder_the_flows_are_judged_by_name_and_the_other_files_passed_over() {
     assert!(pipe.unwrap().success());
     fs::create_dir(folder.path("night/aa.flow")).unwrap();
     fs::write(folder.path("night/aa.flow/x.flow"), sample("one-rent.flow")).unwrap();
-    folder.run(&["check", "night"]).printed(&format!(
+    folder.run(&["check", "night"]).printed(
         "\
 FLOW           KIND         COUNT                 TOTAL    RECORDS
 night/C.txt    requests        40             22.250,00        368
 night/a.flow   requests         2                830,50         16
 night/b        requests         1                450,00          9
 
-3 flows accepted: 43 requests, 23.530,50 euro. 1 warning.
-{}",
-        rossi_twice("night/a.flow 1; night/b 1")
-    ));
+3 flows accepted: 43 requests, 23.530,50 euro.
+",
+    );
 }
 
 #[test]
@@ -267,9 +227,7 @@ b.list          requests         1                450,00          9
 .hidden         requests         1                450,00          9
 a.flow.before   requests         1                450,00          9
 
-3 flows accepted: 3 requests, 1.350,00 euro. 1 warning.
-
-b.list, .hidden and a.flow.before are the same flow, byte for byte: 1 request, 450,00 euro.
+3 flows accepted: 3 requests, 1.350,00 euro.
 ",
         );
 }
@@ -284,19 +242,16 @@ fn folders_and_flows_can_be_named_together() {
     }
     folder
         .run(&["check", "south/", "two-rents.flow", "north"])
-        .printed(&format!(
+        .printed(
             "\
 FLOW               KIND         COUNT                 TOTAL    RECORDS
 south/house.flow   requests         1                450,00          9
 two-rents.flow     requests         2                830,50         16
 north/house.flow   requests         1                450,00          9
 
-3 flows accepted: 4 requests, 1.730,50 euro. 2 warnings.
-
-south/house.flow and north/house.flow are the same flow, byte for byte: 1 request, 450,00 euro.
-{}",
-            rossi_twice("south/house.flow 1; two-rents.flow 1")
-        ));
+3 flows accepted: 4 requests, 1.730,50 euro.
+",
+        );
 }
 
 #[test]
@@ -314,19 +269,9 @@ fn every_one_of_two_thousand_flows_is_judged_once() {
 "
         );
     }
-    // The first eight of the thousand that are the same.
-    let same = |letter: &str| {
-        let names: Vec<String> = (1..=8).map(|n| format!("./{n:04}-{letter}")).collect();
-        let names = names.join(", ");
-        format!("{names} and 992 more are the same flow, byte for byte")
-    };
     folder.run(&["check", "."]).printed(&format!(
         "FLOW       KIND         COUNT                 TOTAL    RECORDS\n{rows}\n\
-         2.000 flows accepted: 3.000 requests, 1.280.500,00 euro. 3 warnings.\n\n\
-         {}: 1 request, 450,00 euro.\n{}: 2 requests, 830,50 euro.\n{}",
-        same("a"),
-        same("b"),
-        rossi_twice("./0001-a 1; ./0001-b 1")
+         2.000 flows accepted: 3.000 requests, 1.280.500,00 euro.\n",
     ));
 }
 
@@ -335,16 +280,15 @@ fn a_flow_that_is_named_twice_is_counted_once() {
     let folder = Folder::with(&["two-rents.flow", "one-rent.flow"]);
     symlink("two-rents.flow", folder.path("link.flow")).unwrap();
     let words = ["check", "two-rents.flow", ".", "./two-rents.flow"];
-    folder.run(&words).printed(&format!(
+    folder.run(&words).printed(
         "\
 FLOW              KIND         COUNT                 TOTAL    RECORDS
 two-rents.flow    requests         2                830,50         16
 ./one-rent.flow   requests         1                450,00          9
 
-2 flows accepted: 3 requests, 1.280,50 euro. 1 warning.
-{}",
-        rossi_twice("two-rents.flow 1; ./one-rent.flow 1")
-    ));
+2 flows accepted: 3 requests, 1.280,50 euro.
+",
+    );
 }
 
 #[test]
@@ -481,13 +425,13 @@ fn the_amounts_of_the_requests_found_are_added_up() {
 #[test]
 fn nothing_found_is_said_and_gives_status_1() {
     let folder = Folder::with(&["two-rents.flow"]);
-    // Text of the flow that is in none of a request's texts: a type of record, and two cells in one.
-    for text in ["verdi", "51000", "450,00  ROSSI", "GIULIA 0"] {
+    // Text of the flow that is in no cell of a row: a room, a type of record, and two cells in one.
+    for text in ["verdi", "STANZA", "51000", "450,00  ROSSI", "GIULIA 0"] {
         folder
             .run(&["show", "two-rents.flow", "--find", text])
             .failed(
                 1,
-                &format!("mavdesk: no request of two-rents.flow has \"{text}\".\n"),
+                &format!("mavdesk: no request of two-rents.flow has \"{text}\" in its row.\n"),
             );
     }
 }
@@ -579,7 +523,6 @@ fn what_only_reads_leaves_every_file_as_it_was() {
     folder.run(&["show", "refused-13-total.flow"]);
     folder.run(&["show", "two-rents.flow", "2"]);
     folder.run(&["show", "two-rents.flow", "--find", "rossi"]);
-    folder.run(&["find", "rossi", "."]);
     folder.run(&["diff", "two-rents.flow", "two-rents.flow"]);
     folder.run(&["diff", "two-rents.flow", "refused-13-total.flow"]);
     left(
@@ -600,7 +543,7 @@ fn an_amount_is_changed_after_a_yes() {
     ] {
         let folder = Folder::with(&["two-rents.flow"]);
         let ended = folder.answer(&["amount", "two-rents.flow", "2", "400"], answer);
-        ended.printed(&format!("{TO_400}Save it? [y/N] \n{SAVED_400}{KEPT}"));
+        ended.printed(&format!("{TO_400}Save it? [y/N] \n{SAVED}"));
         replaced(&folder, "two-rents.flow", &old, &new);
     }
 }
@@ -634,7 +577,7 @@ fn with_yes_among_the_words_nothing_is_asked() {
     ] {
         let folder = Folder::with(&["two-rents.flow"]);
         let ended = folder.answer(&words, "n\n");
-        ended.printed(&format!("{TO_400}{SAVED_400}{KEPT}"));
+        ended.printed(&format!("{TO_400}{SAVED}"));
         replaced(&folder, "two-rents.flow", &old, &new);
     }
 }
@@ -646,7 +589,7 @@ fn an_amount_is_written_in_three_ways() {
     for euros in ["400", "400,00", "400.00"] {
         let folder = Folder::with(&["two-rents.flow"]);
         let ended = folder.run(&["amount", "--yes", "two-rents.flow", "2", euros]);
-        ended.printed(&format!("{TO_400}{SAVED_400}{KEPT}"));
+        ended.printed(&format!("{TO_400}{SAVED}"));
         replaced(&folder, "two-rents.flow", &old, &new);
     }
 }
@@ -669,10 +612,7 @@ trailer, requests                              2                       2
 trailer, total                            830,50      100.000.000.380,49
 trailer, records                              16                      16
 
-Note: 99.999.999.999,99 is more than ten times 450,00.
-Note: 99.999.999.999,99 is above every amount of the flow; the largest is 450,00 (request 1, ROSSI GIULIA).
-
-Saved: request 1, ROSSI GIULIA, 450,00 to 99.999.999.999,99 euro. Version 1 is kept: mavdesk undo two-rents.flow gives it back.
+Saved. The flow as it was is kept as two-rents.flow.before.
 ",
     );
     replaced(&folder, "two-rents.flow", &old, &new);
@@ -713,15 +653,11 @@ trailer, requests                              2                       2
 trailer, total                100.000.000.380,49                  380,51
 trailer, records                              16                      16
 
-Note: 0,01 is less than a tenth of 99.999.999.999,99.
-
-Saved: request 1, ROSSI GIULIA, 99.999.999.999,99 to 0,01 euro. Version 2 is kept: mavdesk undo two-rents.flow gives it back.
+Saved. The flow as it was is kept as two-rents.flow.before.
 ",
     );
-    // Every version is kept.
-    left_with_versions(&folder, &[("two-rents.flow", &cent)]);
-    let landed = sample("two-rents.flow");
-    assert!(versions(&folder, "two-rents.flow") == [landed, new, cent]);
+    // The version before the last amendment is kept, and no older one.
+    replaced(&folder, "two-rents.flow", &new, &cent);
 }
 
 #[test]
@@ -758,9 +694,7 @@ trailer, requests                              2                       2
 trailer, total                            830,50                  830,51
 trailer, records                              16                      16
 
-Note: 450,01 is above every amount of the flow; the largest is 450,00 (request 1, ROSSI GIULIA).
-
-Saved: request 1, ROSSI GIULIA, 450,00 to 450,01 euro. Version 1 is kept: mavdesk undo two-rents-filler.flow gives it back.
+Saved. The flow as it was is kept as two-rents-filler.flow.before.
 ",
     );
     replaced(&folder, "two-rents-filler.flow", &old, &new);
@@ -777,7 +711,7 @@ fn a_request_is_withdrawn_after_a_yes() {
     for answer in ["y\n", "yes\n"] {
         let folder = Folder::with(&["two-rents.flow"]);
         let ended = folder.answer(&["withdraw", "two-rents.flow", "1"], answer);
-        ended.printed(&format!("{WITHOUT_1}Save it? [y/N] \n{SAVED_1}{KEPT}"));
+        ended.printed(&format!("{WITHOUT_1}Save it? [y/N] \n{SAVED}"));
         replaced(&folder, "two-rents.flow", &old, &new);
     }
 }
@@ -806,9 +740,7 @@ fn with_yes_among_the_words_requests_are_withdrawn_without_asking() {
         ["withdraw", "two-rents.flow", "1", "--yes"],
     ] {
         let folder = Folder::with(&["two-rents.flow"]);
-        folder
-            .run(&words)
-            .printed(&format!("{WITHOUT_1}{SAVED_1}{KEPT}"));
+        folder.run(&words).printed(&format!("{WITHOUT_1}{SAVED}"));
         replaced(&folder, "two-rents.flow", &old, &new);
     }
 }
@@ -834,7 +766,7 @@ trailer, requests                              2                       1
 trailer, total                            830,50                  450,00
 trailer, records                              16                       9
 
-Saved: request 2, BIANCHI MARCO, 380,50 euro, is withdrawn. Version 1 is kept: mavdesk undo two-rents.flow gives it back.
+Saved. The flow as it was is kept as two-rents.flow.before.
 ",
         );
     replaced(&folder, "two-rents.flow", &old, &new);
@@ -858,7 +790,7 @@ trailer, requests                             40                      36
 trailer, total                         22.250,00               20.425,00
 trailer, records                             368                     333
 
-Saved: 4 requests, 1.825,00 euro, are withdrawn. Version 1 is kept: mavdesk undo forty-rents.flow gives it back.
+Saved. The flow as it was is kept as forty-rents.flow.before.
 "
     );
     for numbers in [
@@ -889,7 +821,7 @@ trailer, requests                             40                      38
 trailer, total                         22.250,00               20.662,50
 trailer, records                             368                     348
 
-Saved: 2 requests, 1.587,50 euro, are withdrawn. Version 1 is kept: mavdesk undo forty-rents.flow gives it back.
+Saved. The flow as it was is kept as forty-rents.flow.before.
 "
     ));
     replaced(&folder, "forty-rents.flow", &old, &new);
@@ -917,7 +849,7 @@ trailer, requests                             40                       1
 trailer, total                         22.250,00                  512,50
 trailer, records                             368                      13
 
-Saved: 39 requests, 21.737,50 euro, are withdrawn. Version 1 is kept: mavdesk undo forty-rents.flow gives it back.
+Saved. The flow as it was is kept as forty-rents.flow.before.
 "
     ));
     replaced(&folder, "forty-rents.flow", &old, &new);
@@ -939,7 +871,7 @@ fn words_behind_two_dashes_are_no_options() {
     left(&folder, &[("--yes", &old)]);
     let ended = folder.run(&["amount", "--yes", "--", "--yes", "2", "400"]);
     ended.printed(&format!(
-        "{due}{SAVED_400} Version 1 is kept: mavdesk undo -- --yes gives it back.\n"
+        "{due}Saved. The flow as it was is kept as --yes.before.\n"
     ));
     replaced(&folder, "--yes", &old, &new);
     let ended = folder.run(&["show", "--find", "rossi", "--", "--yes"]);
@@ -1003,7 +935,7 @@ fn a_list_of_one_request_is_told_in_the_singular() {
 fn a_file_is_replaced_after_a_yes_and_kept() {
     let (flow, list) = (sample("two-rents.flow"), sample("two-rents.list"));
     let told = "out: 2 requests, 830,50 euro\n";
-    let saved = "Saved. Version 1 is kept: mavdesk undo out gives it back.\n";
+    let saved = "Saved. The file as it was is kept as out.before.\n";
     for (words, old, new) in [
         (["list", "two-rents.flow", "out"], &flow, &list),
         (["write", "two-rents.list", "out"], &list, &flow),
@@ -1015,16 +947,15 @@ fn a_file_is_replaced_after_a_yes_and_kept() {
             folder.answer(&words, answer).printed(&format!(
                 "{told}out is there already. Replace it? [y/N] \n{saved}"
             ));
-            left_with_versions(&folder, &[(from, old), ("out", new)]);
-            assert!(versions(&folder, "out") == [b"an older file", &new[..]]);
+            let kept: &[u8] = b"an older file";
+            left(&folder, &[(from, old), ("out", new), ("out.before", kept)]);
         }
         let folder = Folder::with(&[from]);
         fs::write(folder.path("out"), b"").unwrap();
         let [command, from, out] = words;
         let ended = folder.run(&[command, from, "--yes", out]);
         ended.printed(&format!("{told}{saved}"));
-        left_with_versions(&folder, &[(from, old), ("out", new)]);
-        assert!(versions(&folder, "out") == [b"", &new[..]]);
+        left(&folder, &[(from, old), ("out", new), ("out.before", b"")]);
     }
 }
 
@@ -1175,7 +1106,7 @@ fn every_command_has_a_page() {
         );
         assert!(page.starts_with(&front), "{page}");
         assert!(page.ends_with('\n') && !page.ends_with("\n\n"), "{page}");
-        let has_options = !["find", "history", "explain"].contains(&command);
+        let has_options = !["check", "explain"].contains(&command);
         let examples = sections(page).pop().unwrap();
         assert!(["EXAMPLE", "EXAMPLES"].contains(&examples), "{page}");
         let due = match has_options {
@@ -1206,11 +1137,10 @@ fn every_command_has_a_page() {
 fn the_options_of_a_command_are_on_its_page() {
     let folder = Folder::new();
     for (command, option) in [
-        ("check", "--against FOLDER"),
         ("show", "--find TEXT"),
         ("diff", "--all"),
-        ("amount", "--ref R"),
-        ("withdraw", "--ref R"),
+        ("amount", "--yes"),
+        ("withdraw", "--yes"),
         ("list", "--yes"),
         ("write", "--yes"),
         ("recall", "--name NAME"),
@@ -1266,7 +1196,6 @@ fn a_reader_that_has_gone_ends_what_only_shows_in_silence_and_a_save_with_a_word
         (&["show", "large.flow"][..], ""),
         (&["show", "large.flow", "--find", "rossi"], ""),
         (&["show", "two-rents.flow", "1"], ""),
-        (&["find", "rossi", "large.flow"], ""),
         (&["check", "large.flow", "refused-09-block-twice.flow"], ""),
         (&["explain"], ""),
         (&["--help"], ""),

@@ -4,7 +4,7 @@
 
 mod common;
 
-use std::ffi::OsStr;
+use std::ffi::{OsStr, OsString};
 use std::fs::{self, File, OpenOptions, Permissions};
 use std::io::{Read, Write};
 use std::os::unix::ffi::OsStrExt;
@@ -13,13 +13,9 @@ use std::path::{Path, PathBuf};
 use std::process::{Command, Stdio};
 
 use common::{
-    amended, are_root, change, flow_of, gives_back, left, left_with_versions, replaced,
-    run_as_clerk, run_limited, sample, versions, withdraw, Ended, Folder, DATE, NAME, SAVED_400,
-    VERSIONS,
+    amended, are_root, change, flow_of, left, replaced, run_as_clerk, run_limited, sample,
+    withdraw, Ended, Folder, DATE, NAME,
 };
-
-/// The first version of two-rents.flow.
-const KEPT_AS: &str = ".mavdesk/two-rents.flow/000001";
 
 /// What `amount FILE 2 400` shows of two-rents.flow after the file's name.
 const TO_400: &str = ": Request 2, due 31/03/2026, BIANCHI MARCO, reference 0000000023
@@ -918,28 +914,19 @@ fn a_find_without_a_text_is_told() {
 #[test]
 fn too_few_and_too_many_words_are_told() {
     const SHOW: &str = "mavdesk show FILE [--find TEXT], or mavdesk show FILE K";
-    const FIND: &str = "mavdesk find TEXT FILE..";
-    const AMOUNT: &str = "mavdesk amount [--yes] [--only-if TEXT] FILE K|--ref R EUROS";
-    const WITHDRAW: &str = "mavdesk withdraw [--yes] [--only-if TEXT] FILE K|--ref R..";
+    const AMOUNT: &str = "mavdesk amount [--yes] FILE K EUROS";
+    const WITHDRAW: &str = "mavdesk withdraw [--yes] FILE K..";
     const LIST: &str = "mavdesk list [--yes] FLOW LIST";
     const WRITE: &str = "mavdesk write [--yes] LIST FLOW";
-    const RECALL: &str = "mavdesk recall [OPTIONS] SENT OUT K|--ref R..";
+    const RECALL: &str = "mavdesk recall [--yes] [--name NAME] [--date GGMMAA] SENT OUT K..";
     let folder = Folder::with(&["two-rents.flow"]);
     for (words, form) in [
-        (
-            "check",
-            "mavdesk check [--strict] [--against FOLDER].. FILE..",
-        ),
-        (
-            "check --",
-            "mavdesk check [--strict] [--against FOLDER].. FILE..",
-        ),
+        ("check", "mavdesk check FILE.."),
+        ("check --", "mavdesk check FILE.."),
         ("show", SHOW),
         ("show two-rents.flow 1 2", SHOW),
         ("show two-rents.flow 1 --find rossi", SHOW),
         ("show --find rossi", SHOW),
-        ("find", FIND),
-        ("find rossi", FIND),
         ("amount", AMOUNT),
         ("amount --yes", AMOUNT),
         ("amount two-rents.flow", AMOUNT),
@@ -948,14 +935,9 @@ fn too_few_and_too_many_words_are_told() {
         ("amount --yes two-rents.flow 2 400 euro", AMOUNT),
         ("amount -y two-rents.flow 2 400", AMOUNT),
         ("amount -- --yes two-rents.flow 2 400", AMOUNT),
-        ("amount --ref 23 two-rents.flow", AMOUNT),
-        ("amount --ref 23 two-rents.flow 2 400", AMOUNT),
-        ("amount --ref 23 --ref 17 two-rents.flow 400", AMOUNT),
         ("withdraw", WITHDRAW),
         ("withdraw two-rents.flow", WITHDRAW),
         ("withdraw --yes two-rents.flow", WITHDRAW),
-        ("withdraw --only-if rossi two-rents.flow", WITHDRAW),
-        ("withdraw --ref 17", WITHDRAW),
         ("list", LIST),
         ("list two-rents.flow", LIST),
         ("list --yes two-rents.flow", LIST),
@@ -966,7 +948,6 @@ fn too_few_and_too_many_words_are_told() {
         ("recall", RECALL),
         ("recall two-rents.flow", RECALL),
         ("recall two-rents.flow new.flow", RECALL),
-        ("recall --ref 17 two-rents.flow", RECALL),
         (
             "recall --yes --name A --date 170326 two-rents.flow 2",
             RECALL,
@@ -1003,13 +984,17 @@ fn control_characters_of_a_name_are_spelled_out() {
     told(
         &folder.run(&["show", name, "--find", "\u{1b}[0m"]),
         1,
-        &format!("no request of {shown} has \"\\u{{1b}}[0m\"."),
+        &format!("no request of {shown} has \"\\u{{1b}}[0m\" in its row."),
     );
     let ended = folder.run(&["amount", "--yes", name, "2", "400"]);
     ended.printed(&format!(
-        "{shown}{TO_400}{SAVED_400} Version 1 is kept: mavdesk undo '{shown}' gives it back.\n"
+        "{shown}{TO_400}Saved. The flow as it was is kept as {shown}.before.\n"
     ));
-    replaced(&folder, name, &sample("two-rents.flow"), &at_400());
+    let before = format!("{name}.before");
+    left(
+        &folder,
+        &[(name, &at_400()), (&before, &sample("two-rents.flow"))],
+    );
 }
 
 #[test]
@@ -1021,11 +1006,12 @@ fn a_name_that_is_no_text_is_no_hindrance() {
     let words = ["amount", "--yes"].map(OsStr::new);
     let words = [&words[..], &[name], &["2", "400"].map(OsStr::new)].concat();
     folder.run(&words).printed(&format!(
-        "casa-\u{FFFD}.flow{TO_400}{SAVED_400} Version 1 is kept: mavdesk undo 'casa-\u{FFFD}.flow' gives it back.\n"
+        "casa-\u{FFFD}.flow{TO_400}Saved. The flow as it was is kept as casa-\u{FFFD}.flow.before.\n"
     ));
-    let kept = folder.path(VERSIONS).join(name).join("000001");
+    let mut before = OsString::from(&path);
+    before.push(".before");
     assert!(fs::read(&path).unwrap() == at_400());
-    assert!(fs::read(&kept).unwrap() == sample("two-rents.flow"));
+    assert!(fs::read(&before).unwrap() == sample("two-rents.flow"));
     assert_eq!(fs::read_dir(folder.path(".")).unwrap().count(), 2);
 }
 
@@ -1033,16 +1019,23 @@ fn a_name_that_is_no_text_is_no_hindrance() {
 fn an_amendment_through_a_link_changes_the_file_and_leaves_the_link() {
     let folder = Folder::with(&["two-rents.flow"]);
     symlink("two-rents.flow", folder.path("link")).unwrap();
+    let real = fs::canonicalize(folder.path(".")).unwrap();
+    let before = real.join("two-rents.flow.before");
     let ended = folder.run(&["amount", "--yes", "link", "2", "400"]);
-    let kept = gives_back("link", 1);
-    ended.printed(&format!("link{TO_400}{SAVED_400} {kept}\n"));
+    ended.printed(&format!(
+        "link{TO_400}Saved. The flow as it was is kept as {}.\n",
+        before.display()
+    ));
     let link = fs::read_link(folder.path("link")).unwrap();
     assert_eq!(link, Path::new("two-rents.flow"));
-    left_with_versions(
+    left(
         &folder,
-        &[("link", &at_400()), ("two-rents.flow", &at_400())],
+        &[
+            ("link", &at_400()),
+            ("two-rents.flow", &at_400()),
+            ("two-rents.flow.before", &sample("two-rents.flow")),
+        ],
     );
-    assert!(versions(&folder, "two-rents.flow")[0] == sample("two-rents.flow"));
     assert!(!folder.path("two-rents.flow").is_symlink());
 }
 
@@ -1070,9 +1063,9 @@ trailer, requests                              2                       1
 trailer, total                            830,50                  380,50
 trailer, records                              16                       9
 
-Saved: request 1, ROSSI GIULIA, 450,00 euro, is withdrawn. {}
+Saved. The flow as it was is kept as {}.before.
 ",
-            gives_back("second", 1)
+            file.display()
         ));
     assert_eq!(fs::read_link(folder.path("first")).unwrap(), file);
     assert_eq!(
@@ -1080,8 +1073,13 @@ Saved: request 1, ROSSI GIULIA, 450,00 euro, is withdrawn. {}
         PathBuf::from("first")
     );
     assert_eq!(folder.names(), ["first", "second"]);
-    let landed = sample("two-rents.flow");
-    replaced(&home, "two-rents.flow", &landed, &left_over);
+    left(
+        &home,
+        &[
+            ("two-rents.flow", &left_over),
+            ("two-rents.flow.before", &sample("two-rents.flow")),
+        ],
+    );
 }
 
 #[test]
@@ -1089,25 +1087,26 @@ fn a_list_replaces_the_file_behind_a_link() {
     let folder = Folder::with(&["two-rents.flow"]);
     fs::write(folder.path("old.list"), b"an older file").unwrap();
     symlink("old.list", folder.path("link")).unwrap();
+    let real = fs::canonicalize(folder.path(".")).unwrap();
     let ended = folder.answer(&["list", "two-rents.flow", "link"], "y\n");
     ended.printed(&format!(
         "link: 2 requests, 830,50 euro\n\
          link is there already. Replace it? [y/N] \n\
-         Saved. {}\n",
-        gives_back("link", 1)
+         Saved. The file as it was is kept as {}.\n",
+        real.join("old.list.before").display()
     ));
     assert_eq!(
         fs::read_link(folder.path("link")).unwrap(),
         Path::new("old.list")
     );
     let list = sample("two-rents.list");
-    let files: [(&str, &[u8]); 3] = [
+    let files: [(&str, &[u8]); 4] = [
         ("link", &list),
         ("old.list", &list),
+        ("old.list.before", b"an older file"),
         ("two-rents.flow", &sample("two-rents.flow")),
     ];
-    left_with_versions(&folder, &files);
-    assert!(versions(&folder, "old.list") == [b"an older file", &list[..]]);
+    left(&folder, &files);
 }
 
 #[test]
@@ -1157,7 +1156,7 @@ fn the_file_saved_has_the_permissions_of_the_old_one() {
         set_mode(&folder.path("two-rents.flow"), permissions);
         let ended = folder.run(&["amount", "--yes", "two-rents.flow", "2", "400"]);
         ended.printed(&format!(
-            "two-rents.flow{TO_400}{SAVED_400} Version 1 is kept: mavdesk undo two-rents.flow gives it back.\n"
+            "two-rents.flow{TO_400}Saved. The flow as it was is kept as two-rents.flow.before.\n"
         ));
         replaced(
             &folder,
@@ -1165,7 +1164,7 @@ fn the_file_saved_has_the_permissions_of_the_old_one() {
             &sample("two-rents.flow"),
             &at_400(),
         );
-        for name in ["two-rents.flow", KEPT_AS] {
+        for name in ["two-rents.flow", "two-rents.flow.before"] {
             assert_eq!(mode(&folder.path(name)), permissions, "{name}");
         }
         // A file replaced by another one keeps its permissions too.
@@ -1174,7 +1173,7 @@ fn the_file_saved_has_the_permissions_of_the_old_one() {
         let ended = folder.run(&["list", "--yes", "two-rents.flow", "new.list"]);
         ended.printed(
             "new.list: 2 requests, 850,00 euro\n\
-             Saved. Version 1 is kept: mavdesk undo new.list gives it back.\n",
+             Saved. The file as it was is kept as new.list.before.\n",
         );
         assert_eq!(mode(&folder.path("new.list")), permissions);
     }
@@ -1192,10 +1191,10 @@ fn the_file_saved_has_the_group_of_the_old_one() {
     folder
         .run(&["amount", "--yes", "two-rents.flow", "2", "400"])
         .printed(&format!(
-            "two-rents.flow{TO_400}{SAVED_400} Version 1 is kept: mavdesk undo two-rents.flow gives it back.\n"
+            "two-rents.flow{TO_400}Saved. The flow as it was is kept as two-rents.flow.before.\n"
         ));
     assert!(folder.read("two-rents.flow") == at_400());
-    for name in ["two-rents.flow", KEPT_AS] {
+    for name in ["two-rents.flow", "two-rents.flow.before"] {
         let saved = fs::metadata(folder.path(name)).unwrap();
         assert_eq!(
             (saved.gid(), mode(&folder.path(name))),
@@ -1299,13 +1298,7 @@ FLOW             KIND         COUNT                 TOTAL    RECORDS
 one-rent.flow    requests         1                450,00          9
 two-rents.flow   requests         2                830,50         16
 
-2 flows accepted: 3 requests, 1.280,50 euro. 1 warning.
-
-1 request stands more than once, the same in all but its number: 450,00 euro again.
-
-  DUE                   AMOUNT  DEBTOR                         REFERENCE
-  31/03/2026            450,00  ROSSI GIULIA                   0000000017
-      one-rent.flow 1; two-rents.flow 1
+2 flows accepted: 3 requests, 1.280,50 euro.
 ",
     );
 }
@@ -1324,29 +1317,16 @@ fn an_answer_without_an_end_is_no_yes() {
 #[test]
 fn where_the_old_version_cannot_be_kept_nothing_is_changed_and_nothing_left_behind() {
     let folder = Folder::with(&["two-rents.flow"]);
-    // In the place of a version that is to be written there is a folder, and in that of all versions a file.
-    fs::create_dir_all(folder.path(".mavdesk/two-rents.flow/new")).unwrap();
+    fs::create_dir(folder.path("two-rents.flow.before")).unwrap();
     let ended = folder.run(&["amount", "--yes", "two-rents.flow", "2", "400"]);
     assert_eq!(ended.out, format!("two-rents.flow{TO_400}"));
     assert_eq!(
         ended.err,
-        "mavdesk: two-rents.flow cannot be saved and is as it was: its history cannot be written: it is a \
-         folder, and a file is due.\n"
+        "mavdesk: two-rents.flow cannot be saved and is as it was: two-rents.flow.before cannot be \
+         written: it is a folder, and a file is due.\n"
     );
     assert_eq!(ended.status, Some(2));
-    assert_eq!(folder.names(), [VERSIONS, "two-rents.flow"]);
-    assert!(folder.read("two-rents.flow") == sample("two-rents.flow"));
-    let kept = fs::read_dir(folder.path(".mavdesk/two-rents.flow")).unwrap();
-    assert_eq!(kept.count(), 1);
-    fs::remove_dir_all(folder.path(VERSIONS)).unwrap();
-    fs::write(folder.path(VERSIONS), b"").unwrap();
-    let ended = folder.run(&["amount", "--yes", "two-rents.flow", "2", "400"]);
-    assert_eq!(
-        ended.err,
-        "mavdesk: two-rents.flow cannot be changed: its history cannot be read: a part of its path is not a \
-         folder.\n"
-    );
-    assert_eq!(ended.status, Some(2));
+    assert_eq!(folder.names(), ["two-rents.flow", "two-rents.flow.before"]);
     assert!(folder.read("two-rents.flow") == sample("two-rents.flow"));
 }
 

@@ -35,7 +35,6 @@
 /* Declared here because the header forbids the null pointers that a program may still pass. */
 int statx(int folder, const char *path, int flags, unsigned mask, void *into);
 int fchmod(int fd, mode_t mode);
-int mkdir(const char *path, mode_t mode);
 int flock(int fd, int operation);
 int renameat2(int from_folder, const char *from, int to_folder, const char *to, unsigned flags);
 ssize_t sendfile(int to, int from, off_t *offset, size_t count);
@@ -344,16 +343,6 @@ int renameat2(int from_folder, const char *from, int to_folder, const char *to, 
 int unlink(const char *path)
 {
     return interrupted("unlink", path, "") ? -1 : REAL(unlink)(path);
-}
-
-int mkdir(const char *path, mode_t mode)
-{
-    return interrupted("mkdir", path, "") ? -1 : REAL(mkdir)(path, mode);
-}
-
-int rmdir(const char *path)
-{
-    return interrupted("rmdir", path, "") ? -1 : REAL(rmdir)(path);
 }
 
 int unlinkat(int folder, const char *path, int flags)

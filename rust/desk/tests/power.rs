@@ -16,8 +16,8 @@ use std::thread;
 use std::time::{Duration, Instant};
 
 use common::{
-    amended, change, flow_of, interrupt_library, list_of, recalled, run_limited, sample, versions,
-    withdraw, Ended, Folder, VERSIONS,
+    amended, change, flow_of, interrupt_library, list_of, recalled, run_limited, sample, withdraw,
+    Ended, Folder,
 };
 use oracle::{reader, samples, Answer};
 
@@ -34,8 +34,8 @@ struct Save {
     source: Option<(&'static str, Vec<u8>)>,
     /// The file that is saved.
     target: &'static str,
-    /// What stood there first, the amendment after that, and what it left; nothing where no version is kept yet.
-    earlier: Option<(Vec<u8>, &'static [&'static str], Vec<u8>)>,
+    /// What stands as NAME.before from an earlier save.
+    older: Option<Vec<u8>>,
     /// What stands under the name, and what is to stand there.
     old: Option<Vec<u8>>,
     new: Vec<u8>,
@@ -44,73 +44,32 @@ struct Save {
 }
 
 impl Save {
-    /// The first save of a flow that has landed.
-    fn first_amount() -> Save {
+    fn amount() -> Save {
         let old = sample("forty-rents.flow");
         Save {
             words: &["amount", "--yes", "house.flow", "3", "123,45"],
             source: None,
             target: "house.flow",
-            earlier: None,
+            older: Some(sample("one-rent.flow")),
             new: amended(&old, &[change(3, 12_345)]),
             old: Some(old),
             links: true,
         }
     }
 
-    /// The second one.
-    fn amount() -> Save {
-        let landed = sample("forty-rents.flow");
-        let old = amended(&landed, &[change(1, 5_000)]);
+    fn amount_without_hard_links() -> Save {
         Save {
-            earlier: Some((
-                landed,
-                &["amount", "--yes", "house.flow", "1", "50,00"],
-                old.clone(),
-            )),
-            new: amended(&old, &[change(3, 12_345)]),
-            old: Some(old),
-            ..Save::first_amount()
+            links: false,
+            ..Save::amount()
         }
     }
 
     /// The numbers are those of the flow as it is; the ledger is told of the last one first.
     fn withdrawal() -> Save {
-        let amount = Save::amount();
-        let old = amount.old.as_ref().unwrap();
+        let old = sample("forty-rents.flow");
         Save {
             words: &["withdraw", "--yes", "house.flow", "2", "17", "40"],
-            new: amended(old, &[withdraw(40), withdraw(17), withdraw(2)]),
-            ..amount
-        }
-    }
-
-    /// The version before put back.
-    fn undo() -> Save {
-        let amount = Save::amount();
-        let (landed, ..) = amount.earlier.as_ref().unwrap();
-        Save {
-            words: &["undo", "--yes", "house.flow"],
-            new: landed.clone(),
-            ..amount
-        }
-    }
-
-    /// The first version put back where the flow is gone.
-    fn undo_onto_nothing() -> Save {
-        Save {
-            words: &["undo", "--yes", "house.flow", "1"],
-            old: None,
-            ..Save::undo()
-        }
-    }
-
-    /// An amendment of a flow that another program has put there after two versions.
-    fn amount_of_a_foreign_flow() -> Save {
-        let foreign = amended(&sample("forty-rents.flow"), &[withdraw(7)]);
-        Save {
-            new: amended(&foreign, &[change(3, 12_345)]),
-            old: Some(foreign),
+            new: amended(&old, &[withdraw(40), withdraw(17), withdraw(2)]),
             ..Save::amount()
         }
     }
@@ -120,7 +79,7 @@ impl Save {
         Save {
             words: &["list", "--yes", "house.flow", "house.list"],
             target: "house.list",
-            earlier: None,
+            older: Some(list_of(&sample("one-rent.flow"))),
             old: Some(list_of(&sample("two-rents.flow"))),
             new: list_of(&flow),
             source: Some(("house.flow", flow)),
@@ -130,6 +89,7 @@ impl Save {
 
     fn list_onto_nothing() -> Save {
         Save {
+            older: None,
             old: None,
             ..Save::list_onto_a_list()
         }
@@ -147,7 +107,7 @@ impl Save {
 
     fn flow_onto_nothing() -> Save {
         Save {
-            earlier: None,
+            older: None,
             old: None,
             ..Save::flow_onto_a_flow()
         }
@@ -167,7 +127,7 @@ impl Save {
                 "2",
             ],
             target: "recall.flow",
-            earlier: None,
+            older: None,
             old: None,
             new: recalled(&sent, &[2, 17], "170326", "RECALL-MARCH"),
             source: Some(("house.flow", sent)),
@@ -189,37 +149,17 @@ impl Save {
         if let Some((name, bytes)) = &self.source {
             write(name, bytes);
         }
-        if let Some((landed, amendment, amended)) = &self.earlier {
-            write(self.target, landed);
-            assert_eq!(folder.run(amendment).status, Some(0));
-            assert!(folder.read(self.target) == *amended);
+        if let Some(old) = &self.old {
+            write(self.target, old);
         }
-        match &self.old {
-            Some(old) => write(self.target, old),
-            None => drop(fs::remove_file(folder.path(self.target))),
+        if let Some(older) = &self.older {
+            write(&self.before(), older);
         }
         folder
     }
 
-    /// The versions that are kept before the save.
-    fn kept(&self) -> Vec<Vec<u8>> {
-        match &self.earlier {
-            Some((landed, _, amended)) => vec![landed.clone(), amended.clone()],
-            None => Vec::new(),
-        }
-    }
-
-    /// The versions that are kept after it.
-    fn kept_after(&self) -> Vec<Vec<u8>> {
-        let mut versions = self.kept();
-        if self.old.is_none() && versions.is_empty() {
-            return Vec::new();
-        }
-        versions.extend(self.old.clone().filter(|old| !versions.contains(old)));
-        if self.words[0] != "undo" {
-            versions.push(self.new.clone());
-        }
-        versions
+    fn before(&self) -> String {
+        format!("{}.before", self.target)
     }
 
     fn is_of_flow(&self) -> bool {
@@ -257,65 +197,16 @@ impl Save {
         }
     }
 
-    /// What is only read is as it was, no version is lost, and the history agrees with what stands there, or says
-    /// plainly which step was not saved.
+    /// What is only read is as it was, and NAME.before is a whole version: the old one where the new one is
+    /// saved, else that or the older one.
     fn check_others(&self, folder: &Folder, saved: bool) -> Result<(), String> {
         if let Some((name, bytes)) = &self.source {
             let right = folder.read(name) == *bytes;
             ensure(right, "what is only read was written to")?;
         }
-        for (index, version) in self.kept().iter().enumerate() {
-            let right = version_of(folder, self.target, index + 1).as_ref() == Some(version);
-            ensure(right, format!("version {} is lost", index + 1))?;
-        }
-        self.check_history(folder, saved)
-    }
-
-    /// What the command says of the history.
-    fn check_history(&self, folder: &Folder, saved: bool) -> Result<(), String> {
-        let ended = folder.run(&["history", self.target]);
-        let target = self.target;
-        let none = format!("mavdesk: {target} has no history: no version of it is kept.\n");
-        let missing = format!("mavdesk: {target} cannot be read: there is no such file.\n");
-        let after = self.kept_after();
-        let unnamed = format!("mavdesk: {target} has no history, and ");
-        if ended.err == none || ended.err == missing || ended.err.starts_with(&unnamed) {
-            // Only before anything was saved over.
-            let right = self.earlier.is_none() && (after.is_empty() || !saved);
-            let right = right && (ended.err != missing) == self.there(folder).is_some();
-            return ensure(right, &ended);
-        }
-        let number = |bytes: &Vec<u8>| 1 + after.iter().position(|kept| kept == bytes).unwrap();
-        let new = number(&self.new);
-        let stands = match &self.old {
-            Some(old) => format!("{target} is version {}", number(old)),
-            None => format!("there is no {target}"),
-        };
-        let last = ended.out.lines().last().unwrap_or_default();
-        let right = match saved {
-            true => last == format!("{target} is version {new}."),
-            false => [
-                format!("{stands}."),
-                format!("The last step, to version {new}, was not saved, unless another program has taken it back: {stands}, \
-                     as before it."),
-                format!("There is no {target}; mavdesk undo {target} 2 gives version 2 back."),
-                format!(
-                    "Another program has changed {target} since version 2; the next save keeps it as a version too."
-                ),
-            ]
-            .contains(&last.to_owned()),
-        };
-        ensure(right && ended.status == Some(0), &ended)?;
-        // Every version that the history names is there.
-        let named = (1..=after.len()).filter(|number| {
-            let row = format!("{number:>7}  ");
-            ended.out.lines().any(|line| line.starts_with(&row))
-        });
-        for number in named {
-            let right = version_of(folder, target, number).as_ref() == after.get(number - 1);
-            ensure(right, format!("version {number} is not what it should be"))?;
-        }
-        Ok(())
+        let before = bytes_of(&folder.path(&self.before()));
+        let right = before == self.old || (before == self.older && !saved);
+        ensure(right, "NAME.before is no version that is due")
     }
 
     /// Both readers accept what stands under the name of a flow.
@@ -337,36 +228,16 @@ impl Save {
                 folder.run(&["amount", "--yes", self.target, "1", "77,77"]),
                 amended(flow, &[change(1, 7_777)]),
             ),
-            Some(_) => {
-                let other = sample("one-rent.flow");
-                fs::write(folder.path("other.flow"), &other).unwrap();
-                let words = ["list", "--yes", "other.flow", self.target];
-                (folder.run(&words), list_of(&other))
-            }
-            None => (folder.run(self.words), self.new.clone()),
+            _ => (folder.run(self.words), self.new.clone()),
         };
         ensure(ended.status == Some(0) && ended.err.is_empty(), &ended)?;
         ensure(
             self.there(folder) == Some(due),
             "the next save is not right",
         )?;
-        ensure(hidden(folder).is_empty(), hidden(folder))?;
-        let Some(there) = there else {
-            let right = self.earlier.is_some() || !folder.path(VERSIONS).exists();
-            return ensure(right, "a new file has versions");
-        };
-        let kept = versions(folder, self.target);
-        ensure(
-            kept.contains(&there),
-            "the next save does not keep what stood there",
-        )?;
-        ensure(kept.starts_with(&self.kept()), "a version is lost")?;
-        let ended = folder.run(&["undo", "--yes", self.target]);
-        ensure(ended.status == Some(0), &ended)?;
-        ensure(
-            self.there(folder) == Some(there),
-            "undo does not give it back",
-        )
+        let before = bytes_of(&folder.path(&self.before()));
+        ensure(before == there, "the next save keeps something else")?;
+        ensure(hidden(folder).is_empty(), hidden(folder))
     }
 }
 
@@ -384,16 +255,10 @@ fn bytes_of(path: &Path) -> Option<Vec<u8>> {
     path.exists().then(|| fs::read(path).unwrap())
 }
 
-/// A version of a file that is kept, if it is there.
-fn version_of(folder: &Folder, name: &str, number: usize) -> Option<Vec<u8>> {
-    let kept = folder.path(VERSIONS).join(name);
-    bytes_of(&kept.join(format!("{number:06}")))
-}
-
-/// The hidden files of a folder, but for the folder of the versions.
+/// The hidden files of a folder.
 fn hidden(folder: &Folder) -> Vec<String> {
     let mut names = folder.names();
-    names.retain(|name| name.starts_with('.') && name != VERSIONS);
+    names.retain(|name| name.starts_with('.'));
     names
 }
 
@@ -456,19 +321,8 @@ fn an_amount_change_killed_before_any_call() {
 }
 
 #[test]
-fn the_first_amount_change_killed_before_any_call() {
-    kill_at_every_call(&Save::first_amount(), &KILL);
-}
-
-#[test]
-fn an_undoing_killed_before_any_call() {
-    kill_at_every_call(&Save::undo(), &KILL);
-    kill_at_every_call(&Save::undo_onto_nothing(), &KILL);
-}
-
-#[test]
-fn an_amount_change_of_a_foreign_flow_killed_before_any_call() {
-    kill_at_every_call(&Save::amount_of_a_foreign_flow(), &KILL);
+fn an_amount_change_on_a_disk_without_hard_links_killed_before_any_call() {
+    kill_at_every_call(&Save::amount_without_hard_links(), &KILL);
 }
 
 #[test]
@@ -508,8 +362,7 @@ fn a_save_killed_when_half_of_a_write_is_done() {
     for save in [
         Save::recall(),
         Save::amount(),
-        Save::first_amount(),
-        Save::undo(),
+        Save::amount_without_hard_links(),
         Save::withdrawal(),
         Save::list_onto_a_list(),
         Save::flow_onto_nothing(),
@@ -530,19 +383,13 @@ fn check_sentence(ended: &Ended, cause: &str) -> Result<(), String> {
 }
 
 /// Whether a save is still right where this call fails: what it would have done is not needed.
-fn may_fail(call: &Line, is_named: bool) -> bool {
+fn may_fail(call: &Line) -> bool {
     match &call.call[..] {
-        // Once the file has its new bytes, the journal need not say so.
-        _ if is_named && call.path.contains(VERSIONS) => true,
         // The group and a copy's hard link are given where the system allows it; the others tell nothing
         // that a save relies on, or close a file that is on the disk already.
         "fchown" | "link" | "close" | "statx" | "realpath" => true,
         "fchmod" => call.path.ends_with("-lock"),
-        // Without the zone's file the time is told by the rule, or in UTC.
-        "open" => call.path.contains("/zoneinfo/"),
-        "unlink" | "rmdir" => ["-lock", "-new", "-dir"]
-            .iter()
-            .any(|end| call.path.ends_with(end)),
+        "unlink" => call.path.ends_with("-lock") || call.path.ends_with("-new"),
         _ => false,
     }
 }
@@ -561,19 +408,15 @@ impl Save {
         &self,
         folder: &Folder,
         ended: &Ended,
-        failed: (&Line, bool),
+        failed: &Line,
         cause: &str,
     ) -> Vec<String> {
-        let (failed, is_named) = failed;
         let mut wrong = Vec::new();
         let mut note = |checked: Result<(), String>| wrong.extend(checked.err());
         let saved = self.is_saved(folder);
         match ended.status {
             Some(0) => {
-                note(ensure(
-                    may_fail(failed, is_named),
-                    "the failure is not told",
-                ));
+                note(ensure(may_fail(failed), "the failure is not told"));
                 note(ensure(saved == Ok(true), "status 0, but not saved"));
                 note(ensure(
                     ended.err.is_empty(),
@@ -618,21 +461,16 @@ fn fail_at_every_call(save: &Save, error: &str, told: &[(&str, &str)]) {
         let number = at.to_string();
         let here = [("INTERRUPT_ERROR", error), ("INTERRUPT_AT", &number)];
         let ended = save.run(&folder, &[told, &here].concat());
-        let all = calls(&folder);
-        let is_counted = |line: &&Line| only.is_none_or(|(_, call)| line.call == *call);
-        let Some(failed) = all.iter().filter(is_counted).nth(at - 1) else {
+        let mut counted = calls(&folder);
+        counted.retain(|line| only.is_none_or(|(_, call)| line.call == *call));
+        let Some(failed) = counted.get(at - 1) else {
             assert_eq!((ended.status, &ended.err[..]), (Some(0), ""));
             assert_eq!(save.is_saved(&folder), Ok(true));
             assert!(at > 1, "no call has failed");
             assert!(all_wrong.is_empty(), "\n{}", all_wrong.join("\n"));
             return;
         };
-        let target = real(&folder, save.target);
-        let names =
-            |line: &&Line| ["rename", "link"].contains(&&line.call[..]) && line.third == target;
-        let before = all.iter().take_while(|line| !std::ptr::eq(*line, failed));
-        let is_named = before.filter(names).count() > 0;
-        for wrong in save.check_failed(&folder, &ended, (failed, is_named), cause) {
+        for wrong in save.check_failed(&folder, &ended, failed, cause) {
             let words = save.words.join(" ");
             let err = &ended.err;
             all_wrong.push(format!(
@@ -653,23 +491,9 @@ fn any_call_of_an_amount_change_failing() {
 }
 
 #[test]
-fn any_call_of_the_first_amount_change_failing() {
-    for error in ["ENOSPC", "EIO", "EDQUOT", "EACCES"] {
-        fail_at_every_call(&Save::first_amount(), error, &FAIL);
-    }
-}
-
-#[test]
-fn any_call_of_an_undoing_failing() {
-    fail_at_every_call(&Save::undo(), "ENOSPC", &FAIL);
-    fail_at_every_call(&Save::undo(), "EIO", &FAIL);
-    fail_at_every_call(&Save::undo_onto_nothing(), "EIO", &FAIL);
-}
-
-#[test]
-fn any_call_of_an_amount_change_of_a_foreign_flow_failing() {
-    fail_at_every_call(&Save::amount_of_a_foreign_flow(), "ENOSPC", &FAIL);
-    fail_at_every_call(&Save::amount_of_a_foreign_flow(), "EIO", &FAIL);
+fn any_call_of_an_amount_change_on_a_disk_without_hard_links_failing() {
+    fail_at_every_call(&Save::amount_without_hard_links(), "ENOSPC", &FAIL);
+    fail_at_every_call(&Save::amount_without_hard_links(), "EIO", &FAIL);
 }
 
 #[test]
@@ -716,8 +540,7 @@ fn any_write_failing_after_half_of_its_bytes() {
     for save in [
         Save::recall(),
         Save::amount(),
-        Save::first_amount(),
-        Save::undo(),
+        Save::amount_without_hard_links(),
         Save::withdrawal(),
         Save::list_onto_a_list(),
         Save::flow_onto_nothing(),
@@ -730,6 +553,14 @@ fn any_write_failing_after_half_of_its_bytes() {
 fn real(folder: &Folder, name: &str) -> String {
     let folder = fs::canonicalize(folder.path("")).unwrap();
     folder.join(name).into_os_string().into_string().unwrap()
+}
+
+/// Where the first call of this name with this path and third word stands in the log.
+fn place(calls: &[Line], call: &str, path: &str, third: &str) -> usize {
+    let found = calls
+        .iter()
+        .position(|line| (&line.call[..], &line.path[..], &line.third[..]) == (call, path, third));
+    found.unwrap_or_else(|| panic!("no {call} of {path} {third} in {calls:#?}"))
 }
 
 /// Where all calls of this name with this path stand in the log.
@@ -747,25 +578,16 @@ fn renaming_to(calls: &[Line], path: &str) -> (usize, String) {
     let place = found
         .next()
         .unwrap_or_else(|| panic!("nothing is renamed to {path}"));
-    // The journal is replaced once more when the file has its new bytes.
-    let is_once = found.next().is_none() || path.ends_with("/history");
-    assert!(is_once, "{path} gets its name twice");
+    assert_eq!(found.next(), None, "{path} gets its name twice");
     (place, calls[place].path.clone())
 }
 
 /// What is written to a file is flushed before the file gets its name, and read back before that too.
 fn check_flushed(calls: &[Line], path: &str) -> usize {
     let (named, made_as) = renaming_to(calls, path);
-    // Another file may have been made under that name before it.
-    let earlier = places(calls, "rename", &made_as);
-    let earlier = earlier.into_iter().filter(|&place| place < named).max();
-    let own = |call: &str| -> Vec<usize> {
-        let places = places(calls, call, &made_as).into_iter();
-        places
-            .filter(|&place| Some(place) > earlier && place < named)
-            .collect()
-    };
-    let [writes, flushes, reads] = ["write", "fsync", "read"].map(own);
+    let writes = places(calls, "write", &made_as);
+    let flushes = places(calls, "fsync", &made_as);
+    let reads = places(calls, "read", &made_as);
     let last_write = *writes.last().expect("nothing is written");
     let flush = *flushes.last().expect("nothing is flushed");
     assert!(last_write < flush && flush < named, "{calls:#?}");
@@ -785,16 +607,18 @@ fn check_order(save: &Save) {
     let target = real(&folder, save.target);
     let named = check_flushed(&calls, &target);
     if save.old.is_some() {
-        let beside = |name: &str| real(&folder, &format!("{VERSIONS}/{}/{name}", save.target));
-        let journal = check_flushed(&calls, &beside("history"));
-        for number in save.kept().len() + 1..=save.kept_after().len() {
-            let kept = check_flushed(&calls, &beside(&format!("{number:06}")));
-            assert!(kept < journal, "{calls:#?}");
-        }
-        // The names are on the disk too before the file gets its own.
-        let flushed = places(&calls, "fsync", beside("").trim_end_matches('/'));
-        let between = |flush: &usize| journal < *flush && *flush < named;
-        assert!(flushed.iter().any(between), "{calls:#?}");
+        let before = real(&folder, &save.before());
+        let kept = if save.links {
+            let (kept, made_as) = renaming_to(&calls, &before);
+            assert!(
+                place(&calls, "link", &target, &made_as) < kept,
+                "{calls:#?}"
+            );
+            kept
+        } else {
+            check_flushed(&calls, &before)
+        };
+        assert!(kept < named, "{calls:#?}");
     }
     let flushed = places(&calls, "fsync", real(&folder, "").trim_end_matches('/'));
     assert!(flushed.iter().any(|&flush| named < flush), "{calls:#?}");
@@ -812,15 +636,35 @@ fn check_order(save: &Save) {
 
 #[test]
 fn the_new_version_is_on_the_disk_and_the_old_one_kept_before_the_name_is_given() {
-    check_order(&Save::first_amount());
     check_order(&Save::amount());
-    check_order(&Save::undo());
     check_order(&Save::withdrawal());
     check_order(&Save::list_onto_a_list());
     check_order(&Save::list_onto_nothing());
     check_order(&Save::flow_onto_a_flow());
     check_order(&Save::flow_onto_nothing());
     check_order(&Save::recall());
+}
+
+#[test]
+fn without_hard_links_the_copy_is_on_the_disk_before_it_gets_its_name() {
+    check_order(&Save::amount_without_hard_links());
+}
+
+#[test]
+fn a_disk_without_hard_links_keeps_a_copy() {
+    let save = Save::amount_without_hard_links();
+    let folder = save.folder();
+    let ended = save.run(&folder, &[]);
+    assert_eq!((ended.status, &ended.err[..]), (Some(0), ""));
+    // The link was tried, and it failed.
+    let links = calls(&folder)
+        .iter()
+        .filter(|line| line.call == "link")
+        .count();
+    assert_eq!(links, 1);
+    assert_eq!(Some(folder.read("house.flow.before")), save.old);
+    assert_eq!(folder.read("house.flow"), save.new);
+    assert_eq!(folder.names(), [LOG, "house.flow", "house.flow.before"]);
 }
 
 #[test]
@@ -832,7 +676,7 @@ fn a_folder_that_cannot_be_flushed_is_no_obstacle_and_a_file_is() {
         ("INTERRUPT_ERROR", "EINVAL"),
     ];
     let mut saved = Vec::new();
-    for at in ["1", "2", "3", "4", "5", "6", "7"] {
+    for at in ["1", "2", "3"] {
         let folder = save.folder();
         let ended = save.run(&folder, &[&told[..], &[("INTERRUPT_AT", at)]].concat());
         saved.push((ended.status, save.is_saved(&folder).unwrap()));
@@ -840,15 +684,9 @@ fn a_folder_that_cannot_be_flushed_is_no_obstacle_and_a_file_is() {
         flushed.retain(|line| line.call == "fsync");
         let failed = &flushed[saved.len() - 1];
         let is_folder = Path::new(&failed.path).is_dir();
-        assert_eq!(is_folder, ["3", "5", "6"].contains(&at));
+        assert_eq!(is_folder, at != "1");
     }
-    // The new flow, its copy and the folder of the copies, the journal and that folder, the folder of the flow, and
-    // the journal again, which only says what the flow itself says by then.
-    let (unsaved, is_saved) = ((Some(2), false), (Some(0), true));
-    let due = [
-        unsaved, unsaved, is_saved, unsaved, is_saved, is_saved, is_saved,
-    ];
-    assert_eq!(saved, due);
+    assert_eq!(saved, [(Some(2), false), (Some(0), true), (Some(0), true)]);
 }
 
 #[test]
@@ -878,50 +716,26 @@ fn a_disk_that_gives_back_other_bytes_is_found_out() {
             said.push(ended.err);
         }
     }
-    // The journal and the flow as they are read first, the new flow, the copy of the old one, that of the new one, the
-    // flow as it is compared, the new journal, and the flow once more.
-    let journal = said.remove(0);
-    assert!(journal.starts_with("mavdesk: house.flow cannot be changed: line 1 of its history, /"));
-    assert!(
-        journal.contains("/.mavdesk/house.flow/history, is spoiled; its versions stand beside ")
-    );
+    // The flow as it is read first, the new version, and the flow as it is compared.
     let changed = "mavdesk: house.flow is not saved: \
                    another program has changed it since it was read.\n";
     let spoiled = "mavdesk: house.flow cannot be saved and is as it was: \
                    the disk gives back other bytes than were written.\n";
-    let unkept = spoiled.replace("the disk", "its history cannot be written: the disk");
-    let copy = "mavdesk: house.flow cannot be saved and is as it was: its history cannot be written: version 2 has \
-                other bytes and the same checksum.\n";
-    assert_eq!(
-        said,
-        [changed, spoiled, copy, &unkept, changed, &unkept, changed]
-    );
+    assert_eq!(said, [changed, spoiled, changed]);
 }
 
 #[test]
-fn the_new_flow_and_all_that_is_kept_have_the_permissions_of_the_old() {
+fn the_new_version_and_a_copy_of_the_old_have_the_permissions_of_the_old() {
     for mode in [0o600, 0o640, 0o664, 0o666] {
-        let save = Save::first_amount();
-        let folder = save.folder();
-        let set = |name: &str, mode: u32| {
-            fs::set_permissions(folder.path(name), Permissions::from_mode(mode)).unwrap();
-        };
-        set("house.flow", mode);
-        // Whoever may write in the folder of the flows may write in that of their versions.
-        let of_folder = mode | 0o111;
-        set(".", of_folder | 0o700);
-        assert_eq!(save.run(&folder, &[]).status, Some(0));
-        let mode_of = |name: &str| {
-            let permissions = fs::metadata(folder.path(name)).unwrap().permissions();
-            permissions.mode() & 0o7777
-        };
-        let kept = format!("{VERSIONS}/house.flow");
-        for name in ["000001", "000002", "history"] {
-            assert_eq!(mode_of(&format!("{kept}/{name}")), mode, "{name}");
-        }
-        assert_eq!(mode_of("house.flow"), mode);
-        for name in [VERSIONS, &kept] {
-            assert_eq!(mode_of(name), of_folder | 0o700, "{name}");
+        for save in [Save::amount(), Save::amount_without_hard_links()] {
+            let folder = save.folder();
+            let old = folder.path("house.flow");
+            fs::set_permissions(old, Permissions::from_mode(mode)).unwrap();
+            assert_eq!(save.run(&folder, &[]).status, Some(0));
+            for name in ["house.flow", "house.flow.before"] {
+                let permissions = fs::metadata(folder.path(name)).unwrap().permissions();
+                assert_eq!(permissions.mode() & 0o7777, mode, "{name}");
+            }
         }
     }
 }
@@ -972,6 +786,7 @@ fn a_large_save_killed_at_moments_spread_over_its_time() {
         let there = folder.read("house.flow");
         let found = versions.iter().position(|version| *version == there);
         standing = found.unwrap_or_else(|| panic!("{} bytes at moment {moment}", there.len()));
+        assert!(versions.contains(&folder.read("house.flow.before")));
     }
     // Both versions are accepted, and the next save clears away what is left.
     for _ in 0..2 {
@@ -982,11 +797,7 @@ fn a_large_save_killed_at_moments_spread_over_its_time() {
         standing = 1 - standing;
         assert!(folder.read("house.flow") == versions[standing]);
     }
-    assert_eq!(folder.names(), [VERSIONS, "house.flow"]);
-    // Every version that the journal names is one of both, and the first is the flow as it landed.
-    let kept = common::versions(&folder, "house.flow");
-    assert!(kept.len() > 3 && kept[0] == versions[0]);
-    assert!(kept.iter().all(|version| versions.contains(version)));
+    assert_eq!(folder.names(), ["house.flow", "house.flow.before"]);
 }
 
 #[test]
@@ -1032,7 +843,7 @@ const FULL_DISK: &str = r#"
     "$@" >../next-out 2>../next-err; echo $? >../next-status
     ls -A >../next-names
     cp "$target" ../next
-    cp -r .mavdesk ../next-versions
+    cp "$target.before" ../next.before
 "#;
 
 /// Runs a save of or from the forty rents on a full disk with so much room left, where this machine lets one
@@ -1060,15 +871,14 @@ fn on_a_full_disk(save: &Save, room: &str, sentence: &str) {
         (&text("next-err")[..], &text("next-status")[..]),
         ("", "0\n")
     );
-    assert!(text("next-out").contains("Saved"));
+    assert!(text("next-out").contains("Saved."));
     assert!(folder.read("next") == save.new);
-    let landed = format!("next-versions/{}/000001", save.target);
-    assert!(bytes_of(&folder.path(&landed)) == save.old);
-    let names = match save.old {
-        Some(_) => ".mavdesk\nhouse.flow\n".to_owned(),
-        None => format!("house.flow\n{}\n", save.target),
-    };
-    assert_eq!(text("next-names"), names);
+    assert!(bytes_of(&folder.path("next.before")) == save.old);
+    let beside = save
+        .old
+        .as_ref()
+        .map_or(save.target.to_owned(), |_| save.before());
+    assert_eq!(text("next-names"), format!("house.flow\n{beside}\n"));
     // Nothing was left over on the full disk.
     assert_eq!(text("names"), "filler\nhouse.flow\n");
 }
@@ -1076,20 +886,9 @@ fn on_a_full_disk(save: &Save, room: &str, sentence: &str) {
 #[test]
 fn a_disk_without_room_for_the_new_flow() {
     on_a_full_disk(
-        &Save::first_amount(),
+        &Save::amount(),
         "16384",
         "mavdesk: house.flow cannot be saved and is as it was: the disk is full.\n",
-    );
-}
-
-#[test]
-fn a_disk_without_room_for_the_versions() {
-    // Room for the lock and the new flow, and not for a copy.
-    on_a_full_disk(
-        &Save::first_amount(),
-        "65536",
-        "mavdesk: house.flow cannot be saved and is as it was: its history cannot be written: the disk is full; \
-         mavdesk tidy shows the room that versions take, and asks whether to remove them.\n",
     );
 }
 
@@ -1106,7 +905,7 @@ fn a_disk_without_room_for_a_recall_flow() {
 #[test]
 fn a_disk_without_any_room() {
     on_a_full_disk(
-        &Save::first_amount(),
+        &Save::amount(),
         "0",
         "mavdesk: house.flow cannot be locked: the disk is full.\n",
     );

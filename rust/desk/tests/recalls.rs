@@ -44,9 +44,6 @@ recall.flow: recalls of AB123, 17/03/2026, RECALL-MARCH
 
 ";
 
-/// What is said when it is saved.
-const SAVED_2: &str = "Saved: request 2, BIANCHI MARCO, 380,50 euro, is recalled.\n";
-
 fn recall_of_2() -> Vec<u8> {
     RECALL_OF_2.concat().into_bytes()
 }
@@ -72,7 +69,7 @@ fn told(folder: &Folder, ended: &Ended, status: i32, sentence: &str) {
 fn one_request_is_recalled() {
     let folder = Folder::with(&["two-rents.flow"]);
     let ended = folder.run(&of_two_rents(&["2", NAME, DATE, "--yes"]));
-    ended.printed(&format!("{SHOWN_OF_2}{SAVED_2}"));
+    ended.printed(&format!("{SHOWN_OF_2}Saved.\n"));
     left(
         &folder,
         &[
@@ -132,7 +129,7 @@ fn several_requests_are_recalled_in_the_order_of_the_flow() {
 new: recalls of AB123, 01/04/2026, RECALL 4
 4 recalls, 1.825,00 euro, 37 records, numbered anew from 1 on.
 
-Saved: 4 requests, 1.825,00 euro, are recalled.
+Saved.
 "
     );
     for numbers in [
@@ -196,7 +193,7 @@ fn all_requests_are_recalled_and_keep_their_numbers() {
 recall.flow: recalls of AB123, 17/03/2026, RENT-MARCH
 2 recalls, 830,50 euro, 16 records.
 
-Saved: 2 requests, 830,50 euro, are recalled.
+Saved.
 "
         ));
         left(
@@ -227,7 +224,7 @@ fn all_of_forty_requests_are_recalled() {
 new: recalls of AB123, 17/03/2026, RECALL-MARCH
 40 recalls, 22.250,00 euro, 368 records.
 
-Saved: 40 requests, 22.250,00 euro, are recalled.
+Saved.
 "
         ),
         "{}",
@@ -248,7 +245,7 @@ fn the_first_requests_keep_their_numbers() {
 recall.flow: recalls of AB123, 17/03/2026, RECALL-MARCH
 1 recall, 450,00 euro, 9 records.
 
-Saved: request 1, ROSSI GIULIA, 450,00 euro, is recalled.
+Saved.
 "
         ),
         "{}",
@@ -280,7 +277,7 @@ fn a_recall_is_saved_after_a_yes_alone() {
     for answer in ["y\n", "yes\n", "Y\n", " y \n", "y"] {
         let folder = Folder::with(&["two-rents.flow"]);
         let ended = folder.answer(&words, answer);
-        ended.printed(&format!("{SHOWN_OF_2}Save it? [y/N] \n{SAVED_2}"));
+        ended.printed(&format!("{SHOWN_OF_2}Save it? [y/N] \nSaved.\n"));
         assert!(folder.read("recall.flow") == recall_of_2());
     }
     for answer in ["n\n", "\n", "", "maybe\n", "n\ny\n"] {
@@ -307,7 +304,7 @@ fn the_options_of_a_recall_may_stand_anywhere() {
         let words: Vec<&str> = words.split(' ').collect();
         let ended = folder.run(&words);
         // A date that is given twice is looked at once, in its last form.
-        ended.printed(&format!("{SHOWN_OF_2}{SAVED_2}"));
+        ended.printed(&format!("{SHOWN_OF_2}Saved.\n"));
         assert!(folder.read("recall.flow") == recall_of_2());
     }
 }
@@ -396,7 +393,7 @@ fn a_flow_that_may_only_be_read_can_be_recalled() {
     let ended = run_as_clerk(&folder, ":", &words);
     mode(&archive, 0o755);
     ended.printed(&format!(
-        "{}{SAVED_2}",
+        "{}Saved.\n",
         SHOWN_OF_2.replacen("two-rents.flow", sent, 1)
     ));
     assert!(folder.read("recall.flow") == recall_of_2());
@@ -417,7 +414,7 @@ fn a_flow_sent_is_read_from_a_pipe_too() {
         "2",
     ];
     folder.answer(&words, &flow).printed(&format!(
-        "{}{SAVED_2}",
+        "{}Saved.\n",
         SHOWN_OF_2.replacen("two-rents.flow", "/dev/stdin", 1)
     ));
     left(&folder, &[("recall.flow", &recall_of_2())]);
@@ -742,7 +739,7 @@ fn the_recalls_of_a_flow_are_shown_and_found_as_recalls() {
     ));
     find("verdi").failed(
         1,
-        "mavdesk: no recall of two-rents-recall.flow has \"verdi\".\n",
+        "mavdesk: no recall of two-rents-recall.flow has \"verdi\" in its row.\n",
     );
     let flow = sample("two-rents-recall.flow");
     let mut due = format!("{heading}{TITLES}{BIANCHI}");
@@ -771,7 +768,7 @@ trailer, recalls                               2                       2
 trailer, total                            830,50                  850,00
 trailer, records                              16                      16
 
-Saved: recall 2, BIANCHI MARCO, 380,50 to 400,00 euro. Version 1 is kept: mavdesk undo two-rents-recall.flow gives it back.
+Saved. The flow as it was is kept as two-rents-recall.flow.before.
 ",
     );
     replaced(&folder, "two-rents-recall.flow", &old, &new);
@@ -807,7 +804,7 @@ trailer, recalls                               2                       1
 trailer, total                            830,50                  380,50
 trailer, records                              16                       9
 
-Saved: recall 1, ROSSI GIULIA, 450,00 euro, is withdrawn. Version 1 is kept: mavdesk undo two-rents-recall.flow gives it back.
+Saved. The flow as it was is kept as two-rents-recall.flow.before.
 "
     ));
     replaced(&folder, "two-rents-recall.flow", &old, &new);

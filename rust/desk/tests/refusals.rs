@@ -7,8 +7,8 @@ mod common;
 use std::fs;
 
 use common::{
-    amended, change, drawn, flow_of, left, record, replaced, sample, samples, Folder, DATE, NAME,
-    RULER_1, RULER_2,
+    amended, change, drawn, flow_of, left, record, sample, samples, Folder, DATE, NAME, RULER_1,
+    RULER_2,
 };
 use oracle::answer::Answer;
 use oracle::list::write_flow;
@@ -291,17 +291,6 @@ const ACCEPTED: [(&str, &str); 5] = [
     ),
 ];
 
-/// Both rents of the flows accepted, where the first is in three of them and the second in two.
-const TWICE: &str = "
-2 requests stand more than once, the same in all but their numbers: 1.280,50 euro again.
-
-  DUE                   AMOUNT  DEBTOR                         REFERENCE
-  31/03/2026            380,50  BIANCHI MARCO                  0000000023
-      night/house-00.flow 2; night/house-02.flow 2
-  31/03/2026            450,00  ROSSI GIULIA                   0000000017
-      night/house-00.flow 1; night/house-02.flow 1; night/house-03.flow 1
-";
-
 #[test]
 fn every_flow_of_a_folder_is_judged_once() {
     let folder = Folder::new();
@@ -327,29 +316,14 @@ fn every_flow_of_a_folder_is_judged_once() {
         }
     }
     // 42 flows are the 21 samples twice: twice 45 requests and 24.361,00 euro, and twice the two rents
-    // recalled. So each accepted one has the bytes of another, and both rents are in two of the first 21 flows,
-    // the first of them in a third.
-    let same = |index: usize, numbers: &str| {
-        let [first, second] = [index, index + 21].map(|index| flow(index).0);
-        format!("{first} and {second} are the same flow, byte for byte: {numbers} euro.\n")
-    };
-    let warnings = [
-        "\n".to_owned(),
-        same(0, "2 requests, 830,50"),
-        same(1, "2 recalls, 830,50"),
-        same(2, "2 requests, 830,50"),
-        same(3, "1 request, 450,00"),
-        same(4, "40 requests, 22.250,00"),
-        TWICE.to_owned(),
-    ];
+    // recalled.
     let ended = folder.run(&["check", "night"]);
     assert_eq!(
         ended.out,
         format!(
             "FLOW                  KIND         COUNT                 TOTAL    RECORDS\n{rows}\n\
-             10 flows accepted: 90 requests, 48.722,00 euro; 4 recalls, 1.661,00 euro. 32 refused. 7 warnings.\n\
-             {pictures}{}",
-            warnings.concat()
+             10 flows accepted: 90 requests, 48.722,00 euro; 4 recalls, 1.661,00 euro. 32 refused.\n\
+             {pictures}"
         )
     );
     assert_eq!(ended.err, "");
@@ -678,10 +652,12 @@ trailer, requests                            101                     101
 trailer, total              9.999.999.999.999,99    9.999.999.999.999,98
 trailer, records                             709                     709
 
-Saved: request 101, ROSSI GIULIA, 0,99 to 0,98 euro. Version 1 is kept: mavdesk undo full.flow gives it back.
+Saved. The flow as it was is kept as full.flow.before.
 ",
         );
-    replaced(&folder, "full.flow", &flow, &less);
+    assert_eq!(folder.names(), ["full.flow", "full.flow.before"]);
+    assert!(folder.read("full.flow") == less);
+    assert!(folder.read("full.flow.before") == flow);
 }
 
 #[test]

@@ -17,7 +17,6 @@ use std::sync::OnceLock;
 use oracle::amend;
 use oracle::ledger::{Call, Ledger};
 use oracle::list::{items, write_flow, write_list};
-use oracle::record::put;
 use oracle::Answer;
 
 /// A new folder, which is removed with all in it when this is dropped.
@@ -68,8 +67,7 @@ impl Folder {
         command
             .args(words)
             .current_dir(&self.0)
-            .env("LOGNAME", "anna")
-            .env("TZ", "UTC0");
+            .env("LOGNAME", "anna");
         command
     }
 
@@ -154,74 +152,10 @@ pub fn left(folder: &Folder, files: &[(&str, &[u8])]) {
     }
 }
 
-/// The folder has a file with these bytes, what it was before as its version before, and no other file.
+/// The folder has a file with these bytes, what it was before as its earlier version, and no other file.
 #[track_caller]
 pub fn replaced(folder: &Folder, name: &str, before: &[u8], now: &[u8]) {
-    left_with_versions(folder, &[(name, now)]);
-    assert!(versions(folder, name) == [before, now], "other versions");
-}
-
-/// The folder has these files with these bytes, the hidden folder of the versions, and no other file.
-#[track_caller]
-pub fn left_with_versions(folder: &Folder, files: &[(&str, &[u8])]) {
-    let mut names: Vec<&str> = files.iter().map(|(name, _)| *name).collect();
-    names.push(VERSIONS);
-    names.sort_unstable();
-    assert_eq!(folder.names(), names);
-    for (name, bytes) in files {
-        assert!(folder.read(name) == *bytes, "{name} has other bytes");
-    }
-}
-
-/// The hidden folder in which the versions of files are kept.
-pub const VERSIONS: &str = ".mavdesk";
-
-/// The versions of a file that are kept, the first one first. They are numbered without a gap, and nothing else
-/// stands beside them but the journal, if there is one.
-#[track_caller]
-pub fn versions(folder: &Folder, name: &str) -> Vec<Vec<u8>> {
-    let kept = folder.path(VERSIONS).join(name);
-    let Ok(entries) = fs::read_dir(&kept) else {
-        return Vec::new();
-    };
-    let mut names: Vec<String> = entries
-        .map(|entry| entry.unwrap().file_name().into_string().unwrap())
-        .filter(|name| name != "history")
-        .collect();
-    names.sort();
-    let numbers = 1..=names.len();
-    let due: Vec<String> = numbers.map(|number| format!("{number:06}")).collect();
-    assert_eq!(names, due);
-    let read = |name: &String| fs::read(kept.join(name)).unwrap();
-    names.iter().map(read).collect()
-}
-
-/// What the command says after a save over version `kept` of a file.
-pub fn gives_back(name: &str, kept: u64) -> String {
-    format!("Version {kept} is kept: mavdesk undo {name} gives it back.")
-}
-
-/// A flow of so many requests, each with a debtor and an amount that no other has. One that is not canonical has
-/// bytes of its own at a position that no list has.
-pub fn flow_with(requests: usize, canonical: bool) -> Vec<u8> {
-    let mut draft = oracle::samples::forty_rents();
-    let forty = draft.dispositions.iter().cycle();
-    draft.dispositions = forty.take(requests).cloned().collect();
-    for (index, records) in draft.dispositions.iter_mut().enumerate() {
-        let opening = &mut records[0];
-        put(opening, 34, format!("{:013}", 50_000 + index).as_bytes());
-        if !canonical {
-            put(opening, 11, format!("{:09}", index % 1_000).as_bytes());
-        }
-        let debtor = records.iter_mut().find(|record| &record[1..3] == b"30");
-        put(debtor.unwrap(), 11, debtor_of(index + 1).as_bytes());
-    }
-    draft.flow()
-}
-
-/// The debtor of request `k` of such a flow as it was made.
-pub fn debtor_of(k: usize) -> String {
-    format!("STUDENTE {k:04}")
+    left(folder, &[(name, now), (&format!("{name}.before"), before)]);
 }
 
 /// The call that gives request `k` another amount.
@@ -328,9 +262,6 @@ pub const ROSSI: &str =
     "      1  31/03/2026            450,00  ROSSI GIULIA                   0000000017\n";
 pub const BIANCHI: &str =
     "      2  31/03/2026            380,50  BIANCHI MARCO                  0000000023\n";
-
-/// What is said when request 2 of two-rents.flow has got 400,00 euro.
-pub const SAVED_400: &str = "Saved: request 2, BIANCHI MARCO, 380,50 to 400,00 euro.";
 
 /// The row of request `number` of forty-rents.flow: 300,00 euro and 12,50 more for each.
 pub fn student(number: u64) -> String {
