@@ -1,10 +1,9 @@
 -- `evenings::fit` meets its contract. Assumes nothing.
 use mathlib.Core.Bool.{true, false}
-use mathlib.Core.Path.{◌≡◌, refl, sym, ◌∙◌, ap}
-use native.Mathlib.Omega.{arith}
+use mathlib.Core.Path.{◌≡◌, refl, sym, ◌∙◌}
 use lib.Dec.{leb}
 use borrow.Author.Rules.{rules}
-use borrow.Author.Tests.{le-leb, lt-leb, not-true, not-false}
+use borrow.Author.Tests.{le-leb, lt-leb}
 use Rattle.evenings.specs.Pair.{same_kind}
 use Rattle.evenings.proofs.pair.fit.Statement.{statement}
 use Rattle.evenings.proofs.pair.fit.Tie as tie

@@ -1,7 +1,6 @@
 -- `fields::calendar::days_in` meets its contract. Assumes nothing.
 use Prim.Native.Nat.{ℕ, ◌+◌, ◌-◌}
 use mathlib.Core.Path.{◌≡◌, ◌∙◌, ap}
-use mathlib.Core.Logic.{⊎_elim}
 use native.Mathlib.Omega.{arith}
 use lib.ListN.{get_or, drop, get_or-eq_default}
 use lib.Seq.{get_or-drop}

@@ -1,10 +1,9 @@
 -- `fields::all_blank` meets its contract. What is left from i on decides as the whole does. Assumes nothing.
-use Prim.Native.Nat.{◌-◌}
 use mathlib.Core.Path.{refl, sym, ◌∙◌}
 use native.Mathlib.Omega.{arith}
 use borrow.Author.Tests.{eq-eqb, ne_eqb}
 use Rattle.sequences.proofs.Every.{every_next, every_end}
-use Rattle.fields.specs.Bytes.{is_blank, is_blank_byte}
+use Rattle.fields.specs.Bytes.{is_blank_byte}
 use Rattle.fields.proofs.compare.all_blank.Goals as goal
 
 pub loop-i-init : goal.loop-i-init

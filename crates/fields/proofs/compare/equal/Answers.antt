@@ -1,5 +1,5 @@
 -- `fields::equal` meets its contract. What is left from i on decides as the whole does. Assumes nothing.
-use Prim.Native.Nat.{ℕ, ◌<◌, ◌+◌, ◌-◌}
+use Prim.Native.Nat.{ℕ, ◌<◌, ◌+◌}
 use mathlib.Core.Path.{◌≡◌, refl, sym, ◌∙◌, ap}
 use mathlib.Core.Bool.{false, ◌&&◌}
 use mathlib.Core.List.{List}

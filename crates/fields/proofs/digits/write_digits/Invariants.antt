@@ -1,5 +1,5 @@
 -- `fields::write_digits` meets its contract. The digits of rest, and then what is written after i, are those of the whole. Assumes nothing.
-use Prim.Native.Nat.{◌-◌, ◌≤◌}
+use Prim.Native.Nat.{◌≤◌}
 use mathlib.Core.Path.{◌≡◌}
 use mathlib.Core.List.{◌++◌}
 use lib.ListN.{length, drop}

@@ -6,7 +6,7 @@ use native.Mathlib.Omega.{arith}
 use lib.ListN.{length}
 use Rattle.sequences.specs.Part.{part}
 use Rattle.flow.specs.Find.{found_verdict, bytes_at, offset_at, find}
-use Rattle.flow.specs.Verdict.{Verdict, accepted, refused}
+use Rattle.flow.specs.Verdict.{Verdict, refused}
 use Rattle.flow.specs.declared.location.Location.{Location}
 use Rattle.flow.specs.declared.location.Found.{Found}
 use Rattle.flow.specs.declared.location.Found.TheVariants.{At}

@@ -1,12 +1,6 @@
 -- `flow::find_with_totals` meets its contract. Assumes nothing.
-use Prim.Native.Nat.{ℕ}
-use mathlib.Core.Bool.{◌&&◌}
-use mathlib.Core.List.{List}
-use mathlib.Core.Path.{◌≡◌, sym, ◌∙◌, ap}
-use lib.Dec.{leb}
-use Rattle.flow.specs.Judge.{judge}
-use Rattle.flow.specs.Verdict.{accepted, refused, answer_verdict}
-use Rattle.flow.specs.declared.answer.Totals.{Totals}
+use mathlib.Core.Path.{sym, ◌∙◌, ap}
+use Rattle.flow.specs.Verdict.{refused, answer_verdict}
 use Rattle.flow.proofs.Dispositions.{has-disposition}
 use Rattle.flow.proofs.FindWithTotals.{not_read, no_number, numbered}
 use Rattle.flow.proofs.location.find_with_totals.Goals as goal

@@ -8,7 +8,7 @@ use lib.ListN.{length, drop, get_or}
 use borrow.Author.Rules.{rules}
 use Rattle.sequences.specs.Part.{part, put}
 use Rattle.sequences.proofs.Part.{part_length}
-use Rattle.records.specs.Field.{Span, width}
+use Rattle.records.specs.Field.{Span}
 use Rattle.list.specs.Encode.{fill, body_placed}
 use Rattle.list.specs.Table.{carried, body_length, four_of, bounds_of}
 use Rattle.list.specs.declared.table.ItemKind.{ItemKind}

@@ -1,6 +1,5 @@
 -- `list::store_list` meets its contract: after each record, the items of the others still find room, and then all are there. Assumes nothing.
 use Prim.Native.Nat.{◌-◌, ◌/◌, ◌≤◌}
-use mathlib.Core.List.{List}
 use lib.ListN.{length}
 use Rattle.list.proofs.OwnList.{Listing}
 use Rattle.list.proofs.own_list.store_list.Given as goal

@@ -1,8 +1,7 @@
 -- `list::carries_same` meets its contract. Assumes nothing.
 use mathlib.Core.Bool.{Bool, true, false, ◌&&◌}
-use mathlib.Core.Path.{◌≡◌, refl, sym, ◌∙◌, ap}
+use mathlib.Core.Path.{◌≡◌, sym, ◌∙◌, ap}
 use borrow.Author.Rules.{rules}
-use borrow.Author.Tests.{not-true, not-false}
 use Rattle.records.specs.Kinds.{has_type}
 use Rattle.list.specs.Same.{is_alike, carries_same}
 use Rattle.list.specs.Table.{record_of, carried, row_in, with_row}

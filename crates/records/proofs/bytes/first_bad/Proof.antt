@@ -5,7 +5,6 @@ use mathlib.Core.Path.{◌≡◌, refl, sym, ◌∙◌}
 use native.Mathlib.Omega.{arith}
 use lib.ListN.{length, drop, get_or}
 use borrow.Author.Rules.{rules}
-use borrow.Author.Tests.{not-true, not-false}
 use Rattle.records.specs.Bytes.{is_printable, bad_from, bad_byte}
 use Rattle.records.proofs.Printable.{bad_from_next, bad_from_end}
 use Rattle.records.proofs.bytes.first_bad.Statement.{statement}

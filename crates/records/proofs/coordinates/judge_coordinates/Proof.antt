@@ -3,7 +3,6 @@ use mathlib.Core.Bool.{not, ◌||◌}
 use mathlib.Core.List.{◌++◌}
 use mathlib.Core.Path.{refl, sym, ◌∙◌, ap, ap₂}
 use borrow.Author.Rules.{rules}
-use borrow.Author.Tests.{not-true, not-false}
 use Rattle.fields.specs.FieldVerdict.{number_verdict}
 use Rattle.records.specs.Checks.{number_checks, coordinates_checks}
 use Rattle.records.specs.Context.{header_of}

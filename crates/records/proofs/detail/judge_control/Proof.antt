@@ -2,7 +2,6 @@
 use mathlib.Core.List.{[], ◌∷◌, ◌++◌}
 use mathlib.Core.Path.{refl, sym, ◌∙◌, ap}
 use borrow.Author.Rules.{rules}
-use borrow.Author.Tests.{not-true, not-false}
 use Rattle.sequences.specs.Text.{text}
 use Rattle.fields.specs.FieldVerdict.{number_verdict}
 use Rattle.records.specs.Checks.{is_listed, number_checks}

@@ -2,7 +2,6 @@
 use mathlib.Core.List.{List, [], ◌++◌}
 use mathlib.Core.Path.{◌≡◌, refl, sym, ◌∙◌, ap}
 use borrow.Author.Rules.{rules}
-use borrow.Author.Tests.{not-true, not-false}
 use Rattle.fields.specs.FieldVerdict.{number_verdict}
 use Rattle.fields.specs.Digits.{number}
 use Rattle.records.specs.Amount.{amount_in}

@@ -2,9 +2,7 @@
 use Prim.Native.Nat.{ℕ}
 use mathlib.Core.List.{List, ◌++◌}
 use mathlib.Core.Path.{◌≡◌, refl, sym, ◌∙◌, ap}
-use native.Mathlib.Omega.{arith}
 use borrow.Author.Rules.{rules}
-use borrow.Author.Tests.{not-true, not-false}
 use Rattle.fields.specs.FieldVerdict.{number_verdict, date_verdict}
 use Rattle.fields.specs.Bytes.{is_equal}
 use Rattle.fields.specs.Digits.{number}
@@ -19,7 +17,7 @@ use Rattle.records.specs.declared.flow_kind.KindFound.TheVariants.{Of}
 use Rattle.records.specs.declared.kind.RecordKind.TheVariants.{R14}
 use Rattle.records.proofs.Amounts.{amount_by}
 use Rattle.records.proofs.FirstFault.{Reached, enter, pass, pass_row, pass_all, stop, stop_all, done}
-use Rattle.records.proofs.FieldTests.{fits, digits-both, date-both, stop_digits, stop_date}
+use Rattle.records.proofs.FieldTests.{digits-both, date-both, stop_digits, stop_date}
 use Rattle.records.proofs.disposition.judge_payment.Statement.{statement}
 use Rattle.records.proofs.disposition.judge_payment.Tie as tie
 

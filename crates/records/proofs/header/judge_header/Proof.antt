@@ -2,7 +2,6 @@
 use mathlib.Core.Bool.{not, ◌||◌}
 use mathlib.Core.Path.{refl, sym, ◌∙◌, ap, ap₂}
 use borrow.Author.Rules.{rules}
-use borrow.Author.Tests.{not-true, not-false}
 use Rattle.fields.specs.FieldVerdict.{date_verdict}
 use Rattle.records.specs.Checks.{header_checks}
 use Rattle.records.specs.RecordVerdict.{right}

@@ -5,7 +5,6 @@ use mathlib.Core.Path.{◌≡◌, refl, sym, ◌∙◌, ap}
 use native.Mathlib.Omega.{arith}
 use lib.Dec.{eqb}
 use borrow.Author.Rules.{rules}
-use borrow.Author.Tests.{not-true, not-false}
 use Rattle.fields.specs.FieldVerdict.{FieldVerdict, number_verdict}
 use Rattle.fields.specs.Digits.{number}
 use Rattle.records.specs.Checks.{trailer_checks}
