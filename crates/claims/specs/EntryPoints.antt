@@ -185,7 +185,7 @@ pub record EntryPoints : Type 2 where
   pub compare : EntryPoint compare-statement compare-requires
   pub find_line : EntryPoint find_line-statement find_line-requires
   pub line : EntryPoint line-statement line-requires
-  -- capi: the C interface
+  -- capi: the C interface, which `capi_c` exports by the same clauses
   pub mav_digits : EntryPoint mav_digits-statement mav_digits-requires
   pub mav_amount : EntryPoint mav_amount-statement mav_amount-requires
   pub mav_date : EntryPoint mav_date-statement mav_date-requires

@@ -2,7 +2,8 @@
 // them are found changed after it, and a checksum that stands for long runs of bytes.
 //
 // No public function has a `requires`. Each says its answer and every byte that it changes, but
-// `print_kept`, whose writing is tested and not proved, and answers the error of a write that fails.
+// `print_kept`, whose writing is tested and not proved, and which answers with the error of a write that
+// fails.
 #![tactic(auto)]
 
 mod checksum;
