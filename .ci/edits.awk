@@ -15,10 +15,10 @@
 #
 #     # renames OLD to NEW                 the proof is read with NEW for OLD throughout
 #
-# The function has to be refused, and by a fact: an error in its own proof that is more than a name that is gone or a
-# step that no longer fits, or a goal of its own that is left open. Such a goal counts where every name of its proof
-# still stands, or where the checker has values at which the goal is false. Of an edit of specs/ a proof of the crate
-# has to fail in the same way.
+# An edit of src/ that shares its file with others changes the body of its function, or a constant that this function
+# alone cites. The function has to be refused, and by a fact: the first error in its own proof is more than a name that
+# is gone or a step that no longer fits, or there is none and a goal of its own is left open. Of an edit of specs/ the
+# first error of the crate has to be a fact in the same way.
 
 FNR == 1 {
     judge_file()
@@ -57,7 +57,7 @@ function fault(name, what) {
 }
 
 # Judges the file that was read: its labels and places, then what the checks said.
-function judge_file(   i, k, own, meant, error, named, log_file) {
+function judge_file(   i, k, own, meant, error, found, named, log_file) {
     split("", own)
     split("", meant)
     split("", named)
@@ -65,8 +65,14 @@ function judge_file(   i, k, own, meant, error, named, log_file) {
         i = pair_of[k]
         own[i]++
         if (pair_source[k] ~ /^specs\//) meant[i]++
-        if (!i) fault("", "an edit without a label: " pair_old[k])
-        else if (pair_source[k] !~ /^(src|specs)\//) fault(label[i], "an edit of neither src/ nor specs/: " pair_source[k])
+        if (!i) {
+            fault("", "an edit without a label: " pair_old[k])
+        } else if (pair_source[k] !~ /^(src|specs)\//) {
+            fault(label[i], "an edit of neither src/ nor specs/: " pair_source[k])
+        } else if (edits > 1 && place[i] != "") {
+            found = place_of(pair_source[k], pair_old[k])
+            if (found != place[i]) fault(label[i], "not a part of " place[i] " alone" (found == "" ? "" : ", but of " found) ": " pair_old[k])
+        }
     }
     for (i = 1; i <= edits; i++) {
         if (!own[i]) fault(label[i], "there is no edit after the label")
@@ -109,19 +115,16 @@ function gate_error(   line, start, error) {
     return error
 }
 
-# Why a check of the crate shows nothing; or nothing, where a proof has a fact that fails.
-function crate_error(log_file,   line, first, shown) {
-    while ((getline line < log_file) > 0) {
-        if (is_fact(line)) shown = 1
-        else if (first == "" && line ~ /: error/) first = line
-    }
+# Why a check of the crate shows nothing; or nothing, where its first error is a fact that fails.
+function crate_error(log_file,   line, first) {
+    while (first == "" && (getline line < log_file) > 0) if (line ~ /: error/ || is_open(line)) first = line
     close(log_file)
-    if (shown) return ""
+    if (is_fact(first)) return ""
     return first == "" ? "nothing was refused in the crate" : "refused in the crate, but for no fact: " first
 }
 
-# The same of a function, which was checked alone with the functions that it calls.
-function function_error(log_file, function_path,   name, line, own, state, first, shown, gone, open) {
+# The same of a function, which was checked alone with the functions that it calls: of its own proof.
+function function_error(log_file, function_path,   name, line, own, state, first, first_own, open) {
     name = function_path
     gsub(/\//, "::", name)
     name = "fn " crate "::" name ": "
@@ -130,17 +133,70 @@ function function_error(log_file, function_path,   name, line, own, state, first
         if (index(line, name) == 1) state = substr(line, length(name) + 1)
         if (is_open(line)) {
             open = 1
-            if (line ~ /allow values at which this goal is false/) shown = 1
         } else if (line ~ /: error/) {
             if (first == "") first = line
-            if (index(line, own) > 3 || !index(line, own)) continue
-            if (is_fact(line)) shown = 1
-            else gone = 1
+            if (first_own == "" && index(line, own) && index(line, own) <= 3) first_own = line
         }
     }
     close(log_file)
     if (state == "") return "no check of " function_path (first == "" ? "" : ": " first)
     if (state ~ /^proved/) return "nothing was refused in " function_path
-    if (shown || (open && !gone)) return ""
-    return "refused in " function_path ", but for no fact: " first
+    if (first_own == "" ? open : is_fact(first_own)) return ""
+    return "refused in " function_path ", but for no fact: " (first_own == "" ? first : first_own)
+}
+
+# The function, by its path in proofs/, in whose body a text of a source file stands; of a constant that
+# one function of the crate cites and that no other crate sees, this function; else nothing.
+function place_of(path, text,   i) {
+    read_source(path)
+    for (i = 1; i <= lines && !index(line_of[i], text); i++) {}
+    if (i > lines || owner[i] != "" || line_of[i] !~ /^(pub\(crate\) )?const /) return owner[i]
+    return cited_by(line_of[i])
+}
+
+# The function that alone cites the constant that a line defines, in any file of the crate.
+function cited_by(definition,   name, list, file, path, i, found) {
+    name = definition
+    gsub(/^(pub\(crate\) )?const |:.*$/, "", name)
+    list = "ls crates/" crate "/src/*.rt"
+    while ((list | getline file) > 0) {
+        path = file
+        sub(/^crates\/[^\/]*\//, "", path)
+        read_source(path)
+        for (i = 1; i <= lines; i++) {
+            if (line_of[i] == definition || line_of[i] ~ /^use /) continue
+            if ((" " line_of[i] " ") !~ ("[^A-Z0-9_]" name "[^A-Z0-9_]")) continue
+            if (owner[i] == "" || (found != "" && found != owner[i])) found = "no function alone"
+            else found = owner[i]
+        }
+    }
+    close(list)
+    return found
+}
+
+# The lines of a source file, and of each the function in whose body it stands.
+function read_source(path,   module, type, name, body, line, word) {
+    module = path
+    gsub(/^src\/|\.rt$/, "", module)
+    module = module == "lib" ? "" : module "/"
+    path = "crates/" crate "/" path
+    split("", line_of)
+    split("", owner)
+    lines = 0
+    while ((getline line < path) > 0) {
+        line_of[++lines] = line
+        if (line ~ /^impl /) {
+            split(line, word, " ")
+            type = word[2] "/"
+        } else if (match(line, /^ *(pub(\([a-z]+\))? )?(extern "C" )?fn [a-z0-9_]+/)) {
+            name = substr(line, 1, RLENGTH)
+            sub(/.* /, "", name)
+            name = module type name
+            body = 0
+        }
+        owner[lines] = body ? name : ""
+        if (line ~ /^ *\{$|\) (-> .*)?\{$/) body = 1
+        if (line ~ /^\}/) type = body = ""
+    }
+    close(path)
 }

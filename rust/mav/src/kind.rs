@@ -28,7 +28,7 @@ pub enum FlowKind {
 
 impl FlowKind {
     /// The kind with a number that the library gave with an accepted flow: by the contracts of the crate `capi`
-    /// it is one that `kindEntry` has, in crates/capi/specs/Returned.antt.
+    /// it is one that `kind_entry` has, in crates/capi/specs/Returned.antt.
     pub(crate) fn from_entry(entry: u64) -> FlowKind {
         match entry {
             1 => FlowKind::Requests,
