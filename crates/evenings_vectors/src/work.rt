@@ -1,6 +1,6 @@
 // The working memory: the marks that stand in it before a call, and what is found of it after one. Its first
 // `lent` numbers are lent to the call.
-ghost use Rattle.std.specs.Prelude.{◌≡◌, ◌≤◌, length};
+ghost use Rattle.std.specs.Prelude.{◌≡◌, ◌≤◌, length, slice_index, EachIndex};
 
 use printing::labelled;
 use std::io;
@@ -20,7 +20,8 @@ pub(crate) struct Left {
 
 // N zeros. Its length is told apart from its numbers, so that a long one can be lent.
 pub(crate) fn zeros<const N: usize>() -> [u16; N]
-    ensures { length result ≡ N }
+    ensures size { length result ≡ N }
+    ensures zeros { EachIndex result (λ k. slice_index result k ≡ 0) }
 {
     [0; N]
 }

@@ -3,14 +3,16 @@
 // No public function has a `requires`.
 #![tactic(auto)]
 
-ghost use Rattle.std.specs.Prelude.{◌≡◌, ◌≤◌, length};
+ghost use Rattle.std.specs.Prelude.{◌≡◌, ◌≤◌, length, take, slice_index, EachIndex};
+ghost use Rattle.std.specs.Io.KnownBytes.{Consumes};
 
 use std::io::Read;
 
 // Reads until `buf` is full, the input ends or a read fails, and answers how many bytes it put at the
-// start of `buf`.
+// start of `buf`: the next ones of the input, in order, and it takes no others from it.
 pub fn read_full<R: Read>(from: &mut R, buf: &mut [u8]) -> usize
-    ensures { result ≤ length buf.new }
+    ensures bound { result ≤ length buf.new }
+    ensures bytes { Consumes (R.remaining from.old) (R.remaining from.new) (take result buf.new) }
 {
     let mut done = 0;
     while done < buf.len() {
@@ -25,7 +27,8 @@ pub fn read_full<R: Read>(from: &mut R, buf: &mut [u8]) -> usize
 
 // N zeros, for a buffer. Its length is told apart from its bytes, so that a long one can be lent.
 pub fn buffer<const N: usize>() -> [u8; N]
-    ensures { length result ≡ N }
+    ensures size { length result ≡ N }
+    ensures zeros { EachIndex result (λ k. slice_index result k ≡ 0) }
 {
     [0; N]
 }
