@@ -51,7 +51,7 @@ abbrev are_among : List ℕ → List ℕ → Bool
 are_among ns ms = every (λ (m : ℕ). is_listed m ns) ms
 
 among : (ns ms : List ℕ) (n : ℕ) → are_among ns ms ≡ true → OneOf ms n → OneOf ns n
-unfolding every is_listed
+unfolding is_listed
 among ns [] n all h = absurd (true≢false (sym h))
 among ns (m ∷ ms) n all h = by (eqb n m) refl (is_listed m ns) refl all h (among ns ms n)
   where
@@ -77,7 +77,7 @@ row-broken ctx rec k n p (held, others, same, h) = subst (λ (cs : List Check). 
 
 -- one record: the numbers of every row, and 1 for its length
 row_number : (ctx : Context) (rec : List ℕ) (k : RecordKind) (n : ℕ) → OneOf (numbers_of (checks k ctx rec)) n → OneOf record_numbers n
-unfolding every is_listed checks
+unfolding is_listed checks
 row_number ctx rec k n h =
     among record_numbers (numbers_of (checks k ctx rec)) n
     (each-kind (λ (k : RecordKind). are_among record_numbers (numbers_of (checks k ctx rec)) ≡ true) (refl, (refl, (refl, (refl, (refl, (refl, (refl, (refl, (refl, (refl, (refl, tt))))))))))) k) h
@@ -96,7 +96,7 @@ record_judging k ctx rec n p = by (eqb (length rec) 120)
 
 -- at its place: 2, 3, or a number of the row of its kind
 place-number : {may : RecordKind → Type 0} {asked : RecordKind → Context} {rec : List ℕ} {n p : ℕ} → Fault may asked rec n p → OneOf place_numbers n
-unfolding every is_listed
+unfolding is_listed
 place-number (bad_byte_lem bs b cs same before bad) = refl
 place-number (wrong_type printable none) = refl
 place-number {rec = rec} (broken k n p printable type permitted first) = among place_numbers record_numbers n refl (row_number _ rec k n (row-broken _ rec k n p first))
@@ -117,7 +117,7 @@ walking header w company i rec n p e = by (eqb (length rec) 120) refl
 
 -- reading
 read_number : {f : List ℕ} {x : Refusal} → FirstFault f x → OneOf reading_numbers x.number
-unfolding every is_listed
+unfolding is_listed
 read_number (wrong_length wrong) = refl
 read_number (in_record before rec after n p sized same each fault) = among reading_numbers place_numbers n refl (place-number fault)
 read_number (still_due sized each none) = refl
@@ -127,7 +127,7 @@ reading f x e = read_number ((first_fault_exact f x).0 e)
 
 -- where a disposition is
 finding : (f : List ℕ) (k : ℕ) (x : Refusal) → find f k ≡ refused x → OneOf finding_numbers x.number
-unfolding every is_listed
+unfolding is_listed
 finding f k x e = by ((find-refused f k x).0 e)
   where
     by : (judge f ≡ refused x) ⊎ ((t : Totals) × (judge f ≡ accepted t) × ¬ IsNumber k t.dispositions × (x ≡ of_call 15)) → OneOf finding_numbers x.number
@@ -139,7 +139,7 @@ abbrev row_numbers : List ℕ
 row_numbers = 9 ∷ 22 ∷ writing_numbers
 
 writing-row : (ctx : Context) (rec : List ℕ) (k : RecordKind) → closes k ≡ false → are_among row_numbers (numbers_of (checks k ctx rec)) ≡ true
-unfolding every is_listed checks
+unfolding is_listed checks
 writing-row ctx rec =
     each-kind (λ (k : RecordKind). closes k ≡ false → are_among row_numbers (numbers_of (checks k ctx rec)) ≡ true)
     (λ h. refl, (λ h. refl, (λ h. refl, (λ h. refl, (λ h. refl, (λ h. refl, (λ h. refl, (λ h. refl, (λ h. refl, (λ h. refl, (λ h. absurd (true≢false h), tt)))))))))))
@@ -157,14 +157,14 @@ writing list room x e =
 
 -- the calls that read first, and then have numbers of their own
 change-number : {f : List ℕ} {k new : ℕ} {x : Refusal} → ChangeFault f k new x → OneOf change_numbers x.number
-unfolding every is_listed
+unfolding is_listed
 change-number {f} (not_read x wrong) = among change_numbers reading_numbers x.number refl (reading f x wrong)
 change-number (no_disposition t read none) = refl
 change-number (not_an_amount t read some not-one) = refl
 change-number (total_too_large t s read found asked large) = refl
 
 withdraw-number : {f : List ℕ} {k : ℕ} {x : Refusal} → WithdrawFault f k x → OneOf withdrawal_numbers x.number
-unfolding every is_listed
+unfolding is_listed
 withdraw-number {f} (not_read x wrong) = among withdrawal_numbers reading_numbers x.number refl (reading f x wrong)
 withdraw-number (no_disposition t read none) = refl
 withdraw-number (only_one t read count one) = refl
@@ -173,7 +173,7 @@ abbrev pair_numbers : List ℕ
 pair_numbers = reading_numbers ++ (27 ∷ 28 ∷ 34 ∷ [])
 
 pair_number : {old new : List ℕ} {lent : ℕ} {x : Refusal} → PairFault old new lent x → OneOf pair_numbers x.number
-unfolding every is_listed
+unfolding is_listed
 pair_number {old} (old_not_read x wrong) = among pair_numbers reading_numbers x.number refl (reading old x wrong)
 pair_number {old} {new} (new_not_read t x read wrong) = among pair_numbers reading_numbers x.number refl (reading new x wrong)
 pair_number (too_many t u read read' many) = refl
@@ -181,7 +181,7 @@ pair_number (kinds-differ t u read read' few few' other) = refl
 pair_number (little_memory t u read read' few few' same short) = refl
 
 pub numbers_given : NumbersGiven
-unfolding every is_listed
+unfolding is_listed
 numbers_given =
     record {
       digits = λ bs n e. rw ((field-refused bs n).0 e).0;

@@ -9,11 +9,11 @@ use lib.Dec.{leb, eqb}
 use lib.ListN.{length}
 use borrow.Author.Tests.{leb-true, le-leb, eqb-true, eqb-false, eq-eqb, ne_eqb, not-true, not-false}
 use Rattle.fields.specs.Amount.{most_amount, IsAmount, is_amount, asked_for, amount_field}
-use Rattle.fields.specs.FieldVerdict.{accepted, refused, not_digits, zero_amount}
+use Rattle.fields.specs.FieldVerdict.{accepted, refused, zero_amount}
 use Rattle.fields.specs.Digits.{number, is_above_zero, digits, digit_field}
 use Rattle.fields.specs.Laws.{DigitsOf, AmountExact, AmountTested, AmountRefused}
 use Rattle.fields.proofs.Decimal.{number_below, written-length, written-digits, written_read_fits, read-written}
-use Rattle.fields.proofs.DigitField.{digit_field-accepted, digit_field_no_digits}
+use Rattle.fields.proofs.DigitField.{digit_field-accepted, digit_field_no_digits, field-refused}
 use Rattle.fields.proofs.FixedSize.{digits_tested, fixed_accepted, fixed_refused}
 
 -- above zero, as a test and as it is said
@@ -59,10 +59,10 @@ module _ (bs : List ℕ) (thirteen : length bs ≡ 13) where
       let read = digit_field-accepted bs n e in
       rw read.3 at (thirteen_fit bs (thirteen, read.2))
 
-  -- no digits
-  pub amount_field-refused : (n : ℕ) → digit_field bs ≡ refused n → amount_field bs ≡ refused not_digits
+  -- what is no digits is refused alike
+  pub amount_field-refused : (n : ℕ) → digit_field bs ≡ refused n → amount_field bs ≡ refused n
   unfolding amount_field
-  amount_field-refused n e = rw (eq-eqb (length bs) 13 thirteen, digit_field_no_digits bs n (omega arith) (omega arith) e)
+  amount_field-refused n e = rw (eq-eqb (length bs) 13 thirteen, digit_field_no_digits bs n (omega arith) (omega arith) e) (ap refused (sym ((field-refused bs n).0 e).0))
 
 pub amount_exact : AmountExact
 unfolding amount_field

@@ -5,9 +5,10 @@ use mathlib.Core.Logic.{◌↔◌, ◌⊎◌, inl, inr}
 use mathlib.Core.Bool.{Bool, true, false, cond}
 use native.Mathlib.Omega.{arith}
 use Rattle.fields.specs.FieldVerdict.{FieldVerdict, accepted, refused}
-use Rattle.fields.specs.Laws.{NumberDetermined, DateDetermined}
-use Rattle.fields.specs.declared.digits.Number.TheVariants.{Value, Refused}
-use Rattle.fields.specs.declared.date.Date.TheVariants.{On, Refused as Date-as-Refused}
+use Rattle.fields.specs.Laws.{FieldDetermined, NumberDetermined, DateDetermined}
+use Rattle.fields.specs.declared.calendar.Day.{Day}
+use Rattle.refusals.proofs.Numbers.{number_told}
+use Rattle.std.specs.Prelude.{Ok, Err}
 
 module _ {A : Type 0} where
   -- a value is no refusal
@@ -46,14 +47,14 @@ module _ {A : Type 0} where
   failed false x n m e = refl
 
 -- what an answer stands for determines it
+pub field_determined : FieldDetermined
+field_determined A (Ok a) (Ok b) e = cc
+field_determined A (Ok a) (Err m) e = absurd (accepted-not-refused e)
+field_determined A (Err n) (Ok b) e = absurd (accepted-not-refused (sym e))
+field_determined A (Err n) (Err m) e = ap Err (number_told n m (refused-same e))
+
 pub number_determined : NumberDetermined
-number_determined (Value a) (Value b) e = cc
-number_determined (Value a) (Refused m) e = absurd (accepted-not-refused e)
-number_determined (Refused n) (Value b) e = absurd (accepted-not-refused (sym e))
-number_determined (Refused n) (Refused m) e = cc
+number_determined = field_determined ℕ
 
 pub date_determined : DateDetermined
-date_determined (On d m y) (On d' m' y') e = let t = accepted-same e in λ i. On (t i).day (t i).month (t i).year
-date_determined (On d m y) (Date-as-Refused n) e = absurd (accepted-not-refused e)
-date_determined (Date-as-Refused n) (On d m y) e = absurd (accepted-not-refused (sym e))
-date_determined (Date-as-Refused n) (Date-as-Refused m) e = cc
+date_determined = field_determined Day

@@ -10,12 +10,12 @@ use borrow.Author.Tests.{eq-eqb}
 use Rattle.sequences.specs.Part.{part}
 use Rattle.sequences.proofs.Every.{every_append}
 use Rattle.sequences.proofs.Part.{part_length, part_join}
-use Rattle.fields.specs.FieldVerdict.{accepted, refused, not_digits}
-use Rattle.fields.specs.Calendar.{Day}
+use Rattle.fields.specs.FieldVerdict.{accepted, refused}
+use Rattle.fields.specs.declared.calendar.Day.{Day}
 use Rattle.fields.specs.Date.{day_of, on_calendar, date_field}
 use Rattle.fields.specs.Digits.{is_digit, is_digits, number, digit_field}
 use Rattle.fields.proofs.Decimal.{number_append, number_below}
-use Rattle.fields.proofs.DigitField.{digit_field-accepted, digit_field_no_digits}
+use Rattle.fields.proofs.DigitField.{digit_field-accepted, digit_field_no_digits, field-refused}
 
 -- the day that six digits name, read as one number
 abbrev pub day_from : ℕ → Day
@@ -62,7 +62,7 @@ module _ (bs : List ℕ) (six : length bs ≡ 6) where
       let read = digit_field-accepted bs n e in
       rw (eq-eqb (length bs) 6 six, read.2) (ap on_calendar (day_from_number read.2 ∙ ap day_from read.3))
 
-  -- no digits
-  pub date_field-refused : (n : ℕ) → digit_field bs ≡ refused n → date_field bs ≡ refused not_digits
+  -- what is no digits is refused alike
+  pub date_field-refused : (n : ℕ) → digit_field bs ≡ refused n → date_field bs ≡ refused n
   unfolding date_field
-  date_field-refused n e = rw (eq-eqb (length bs) 6 six, digit_field_no_digits bs n (omega arith) (omega arith) e)
+  date_field-refused n e = rw (eq-eqb (length bs) 6 six, digit_field_no_digits bs n (omega arith) (omega arith) e) (ap refused (sym ((field-refused bs n).0 e).0))

@@ -11,7 +11,6 @@ use lib.Dec.{leb}
 use lib.ListN.{length, drop, set, length-append}
 use lib.Seq.{append_snoc}
 use borrow.Author.Tests.{leb-true, le-leb}
-use Rattle.sequences.specs.Every.{every}
 use Rattle.sequences.proofs.Drop.{drop-set}
 use Rattle.sequences.proofs.Every.{every_append}
 use Rattle.fields.specs.Laws.{NumberBelow, WrittenLength, WrittenDigits, WrittenRead, ReadWritten}
@@ -19,14 +18,12 @@ use Rattle.fields.specs.Digits.{is_digit, is_digits, number_from, number, digits
 
 -- the first digit of a digit field, and the rest
 pub first_digit : (b : ℕ) (bs : List ℕ) → is_digits (b ∷ bs) ≡ true → (48 ≤ b) × (b ≤ 57)
-unfolding every
 first_digit b bs t =
     let here = ((and-eq-true_iff (is_digit b) (is_digits bs)).0 t).0 in
     let ends = (and-eq-true_iff (leb 48 b) (leb b 57)).0 here in
     (leb-true 48 b ends.0, leb-true b 57 ends.1)
 
 pub other-digits : (b : ℕ) (bs : List ℕ) → is_digits (b ∷ bs) ≡ true → is_digits bs ≡ true
-unfolding every
 other-digits b bs t = ((and-eq-true_iff (is_digit b) (is_digits bs)).0 t).1
 
 -- two fields read one after the other
@@ -67,7 +64,7 @@ written-length (suc n) v = length-append (digits n (v / 10)) ((48 + v % 10) ∷ 
 
 -- and is all digits
 pub written-digits : WrittenDigits
-unfolding digits every
+unfolding digits
 written-digits zero v = refl
 written-digits (suc n) v =
     simp (every_append, written-digits n (v / 10), le-leb 48 (48 + v % 10) (omega arith), le-leb (48 + v % 10) 57 (omega arith))

@@ -8,7 +8,6 @@ use native.Mathlib.Omega.{arith}
 use lib.Dec.{leb}
 use lib.ListN.{length, drop, get_or, drop_of_length-le}
 use borrow.Author.Tests.{leb-true, le-leb, lt-leb}
-use Rattle.sequences.specs.Every.{every}
 use Rattle.sequences.proofs.Drop.{drop_next}
 use Rattle.fields.specs.FieldVerdict.{FieldVerdict, accepted, refused, not_digits}
 use Rattle.fields.specs.Digits.{is_digit, is_digits, number_from, number, digits, digits_from, digit_field}
@@ -95,7 +94,7 @@ field-refused bs =
 pub digits_from_next :
     (v : ℕ) (xs : List ℕ) (i : ℕ)
     → i < length xs → digits_from v (drop i xs) ≡ cond (is_digit (get_or xs i 0)) (digits_from (v * 10 + (get_or xs i 0 - 48)) (drop (i + 1) xs)) (refused not_digits)
-unfolding number_from every
+unfolding number_from
 digits_from_next v xs i h = rw (drop_next xs i h) (pick (is_digit (get_or xs i 0)) (is_digits (drop (i + 1) xs)) _ _)
   where
     pick : (a b : Bool) (x y : FieldVerdict ℕ) → cond (a && b) x y ≡ cond a (cond b x y) y
@@ -103,5 +102,5 @@ digits_from_next v xs i h = rw (drop_next xs i h) (pick (is_digit (get_or xs i 0
     pick false b x y = refl
 
 pub digits_from_end : (v : ℕ) (xs : List ℕ) (i : ℕ) → length xs ≤ i → digits_from v (drop i xs) ≡ accepted v
-unfolding number_from every
+unfolding number_from
 digits_from_end v xs i h = rw (drop_of_length-le xs h)

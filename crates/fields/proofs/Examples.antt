@@ -1,6 +1,5 @@
 -- The worked examples, by computation. Assumes nothing.
 use mathlib.Core.Path.{refl}
-use Rattle.sequences.specs.Every.{every}
 use Rattle.fields.specs.Amount.{amount_field}
 use Rattle.fields.specs.Calendar.{is_leap, days_in, is_day}
 use Rattle.fields.specs.Date.{date_field}
@@ -8,7 +7,7 @@ use Rattle.fields.specs.Digits.{number_from, digits, digit_field}
 use Rattle.fields.specs.Examples.{months_days, years_days, FieldExamples}
 
 pub examples : FieldExamples
-unfolding amount_field date_field digit_field digits number_from every is_day days_in is_leap months_days years_days
+unfolding amount_field date_field digit_field digits number_from is_day days_in is_leap months_days years_days
 examples =
     record {
       leap_day = refl;

@@ -15,7 +15,8 @@ use Rattle.sequences.specs.Part.{part}
 use Rattle.sequences.proofs.Below.{below}
 use Rattle.sequences.proofs.Every.{every_append}
 use Rattle.fields.specs.FieldVerdict.{accepted, no_such_day}
-use Rattle.fields.specs.Calendar.{Day, common_year, is_leap, days_in, is_day, Leap, Gregorian}
+use Rattle.fields.specs.Calendar.{common_year, is_leap, days_in, is_day, Leap, Gregorian}
+use Rattle.fields.specs.declared.calendar.Day.{Day}
 use Rattle.fields.specs.Date.{day_of, on_calendar, date_field, date_digits}
 use Rattle.fields.specs.Digits.{is_digits, number, digits}
 use Rattle.fields.specs.Laws.{DateExact, DateRefused}

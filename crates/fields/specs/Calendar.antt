@@ -1,10 +1,6 @@
 -- The Gregorian calendar, twice: as a test that computes, and as what it means to be a day of it. Assumes nothing.
 use Rattle.std.specs.Prelude.{ℕ, ◌+◌, ◌%◌, ◌≤◌, Bool, not, cond, ◌&&◌, ◌||◌, List, [], ◌∷◌, ◌⊎◌, ◌≢◌, ◌≡◌, leb, eqb, get_or}
-
-pub record Day : Type 0 where
-  pub day : ℕ
-  pub month : ℕ
-  pub year : ℕ
+use Rattle.fields.specs.declared.calendar.Day.{Day}
 
 -- the days of the months of a common year, January at 1; no month is 0 or above 12, and has no day
 abbrev pub common_year : List ℕ

@@ -2,7 +2,8 @@
 use Rattle.std.specs.Prelude.{ℕ, ◌+◌, ◌-◌, cond, ◌&&◌, List, ◌++◌, eqb, length}
 use Rattle.sequences.specs.Part.{part}
 use Rattle.fields.specs.FieldVerdict.{FieldVerdict, accepted, refused, not_digits, no_such_day}
-use Rattle.fields.specs.Calendar.{Day, is_day}
+use Rattle.fields.specs.Calendar.{is_day}
+use Rattle.fields.specs.declared.calendar.Day.{Day}
 use Rattle.fields.specs.Digits.{is_digits, number, digits}
 
 -- the day that GGMMAA names

@@ -1,14 +1,14 @@
 -- What is proved of the field rules: each law once, over the field's length. `proofs/` has its proof under the law's name in small
 -- letters. Assumes nothing.
-use Rattle.std.specs.Prelude.{ℕ, ◌%◌, ◌^◌, ◌≤◌, ◌<◌, ◌≡◌, true, List, ◌↔◌, ◌⊎◌, length, replicate}
+use Rattle.std.specs.Prelude.{ℕ, ◌%◌, ◌^◌, ◌≤◌, ◌<◌, ◌≡◌, true, List, ◌↔◌, ◌⊎◌, length, replicate, Result}
 use Rattle.fields.specs.Amount.{is_amount, amount_field}
-use Rattle.fields.specs.FieldVerdict.{accepted, refused, number_verdict, date_verdict}
+use Rattle.fields.specs.FieldVerdict.{accepted, refused, field_verdict}
 use Rattle.fields.specs.Bytes.{is_blank, is_equal}
-use Rattle.fields.specs.Calendar.{Day, Gregorian}
+use Rattle.fields.specs.Calendar.{Gregorian}
 use Rattle.fields.specs.Date.{day_of, date_field, date_digits}
 use Rattle.fields.specs.Digits.{is_digits, number, digits, digit_field}
-use Rattle.fields.specs.declared.date.Date.{Date}
-use Rattle.fields.specs.declared.digits.Number.{Number}
+use Rattle.refusals.specs.declared.Reason.{Reason}
+use Rattle.fields.specs.declared.calendar.Day.{Day}
 
 -- the number of n digits is below 10 ^ n
 abbrev pub NumberBelow : Type 0
@@ -73,9 +73,13 @@ EqualExact = (xs ys : List ℕ) → (is_equal xs ys ≡ true) ↔ (xs ≡ ys)
 abbrev pub BlankExact : Type 0
 BlankExact = (bs : List ℕ) → (is_blank bs ≡ true) ↔ (bs ≡ replicate (length bs) 32)
 
--- what an answer stands for on paper determines it: a contract that gives the one gives the other
+-- what an answer stands for on paper determines it, whatever it gives where it is accepted: a contract that gives the one gives the other
+abbrev pub FieldDetermined : Type 1
+FieldDetermined = (A : Type 0) (r s : Result A Reason) → field_verdict r ≡ field_verdict s → r ≡ s
+
+-- that of a digit field or an amount, and that of a date
 abbrev pub NumberDetermined : Type 0
-NumberDetermined = (r s : Number) → number_verdict r ≡ number_verdict s → r ≡ s
+NumberDetermined = (r s : Result ℕ Reason) → field_verdict r ≡ field_verdict s → r ≡ s
 
 abbrev pub DateDetermined : Type 0
-DateDetermined = (r s : Date) → date_verdict r ≡ date_verdict s → r ≡ s
+DateDetermined = (r s : Result Day Reason) → field_verdict r ≡ field_verdict s → r ≡ s

@@ -2,7 +2,7 @@
 // dates, the one digit writer, two tests on bytes and one on cents.
 //
 // No public function has a `requires`: whatever bytes it is given, it ends with an answer, and its
-// contract says which. Only `write_digits` changes a byte. A refusal is its number alone.
+// contract says which. Only `write_digits` changes a byte. A refusal is its reason alone.
 #![tactic(auto)]
 
 mod amount;
@@ -11,10 +11,9 @@ mod compare;
 mod date;
 mod digits;
 mod limits;
-mod refusals;
 
 pub use amount::{is_amount, read_amount};
+pub use calendar::Day;
 pub use compare::{all_blank, equal};
-pub use date::{Date, read_date};
-pub use digits::{Number, read_digits, write_digits};
-pub use refusals::{NO_SUCH_DAY, NOT_DIGITS, ZERO_AMOUNT};
+pub use date::read_date;
+pub use digits::{read_digits, write_digits};

@@ -11,7 +11,7 @@ use Rattle.records.specs.Bytes.{is_printable, bad_from}
 
 -- a record all of text has no bad byte
 pub no_bad_byte : (p : ℕ) (bs : List ℕ) → every is_printable bs ≡ true → bad_from p bs ≡ 0
-unfolding bad_from every
+unfolding bad_from
 no_bad_byte p [] t = refl
 no_bad_byte p (b ∷ bs) t =
     let both = (and-eq-true_iff (is_printable b) (every is_printable bs)).0 t in

@@ -11,7 +11,6 @@ use Rattle.sequences.proofs.Drop.{drop_next}
 
 -- of two lists joined, each passes
 pub every_append : (p : ℕ → Bool) (xs ys : List ℕ) → every p (xs ++ ys) ≡ (every p xs && every p ys)
-unfolding every
 every_append p [] ys = refl
 every_append p (x ∷ xs) ys = ap (λ (b : Bool). p x && b) (every_append p xs ys) ∙ sym (and_assoc (p x) (every p xs) (every p ys))
 
@@ -21,16 +20,13 @@ every_split p n xs = ap (every p) (sym (take-append-drop n xs)) ∙ every_append
 
 -- for a loop over i: the test at i, then the rest; and past the end nothing is left to test
 pub every_next : (p : ℕ → Bool) (xs : List ℕ) (i : ℕ) → i < length xs → every p (drop i xs) ≡ (p (get_or xs i 0) && every p (drop (i + 1) xs))
-unfolding every
 every_next p xs i h = rw (drop_next xs i)
 
 pub every_end : (p : ℕ → Bool) (xs : List ℕ) (i : ℕ) → length xs ≤ i → every p (drop i xs) ≡ true
-unfolding every
 every_end p xs i h = rw (drop_of_length-le xs h)
 
 -- a test that says P of each element says it of all
 pub all-every : (p : ℕ → Bool) (P : ℕ → Type 0) → ((b : ℕ) → (p b ≡ true) ↔ P b) → (bs : List ℕ) → (every p bs ≡ true) ↔ All P bs
-unfolding every
 all-every p P e [] = (λ t. tt, λ t. refl)
 all-every p P e (b ∷ bs) =
     let both = and-eq-true_iff (p b) (every p bs) in

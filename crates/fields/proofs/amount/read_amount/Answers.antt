@@ -1,13 +1,15 @@
 -- `fields::read_amount` meets its contract. Assumes nothing.
-use mathlib.Core.Path.{◌≡◌, sym, ◌∙◌, ap}
+use Prim.Native.Nat.{ℕ}
+use mathlib.Core.Path.{◌≡◌, sym}
 use mathlib.Core.Bool.{Bool, cond}
 use mathlib.Core.List.{List}
-use Prim.Native.Nat.{ℕ}
 use lib.ListN.{length}
+use borrow.Author.Rules.{rules}
 use borrow.Author.Tests.{ne_eqb}
+use Rattle.std.specs.Prelude.{Err}
 use Rattle.fields.specs.Digits.{digit_field}
 use Rattle.fields.specs.Amount.{is_amount, amount_field}
-use Rattle.fields.specs.FieldVerdict.{accepted, refused, zero_amount, number_verdict}
+use Rattle.fields.specs.FieldVerdict.{accepted, refused, zero_amount}
 use Rattle.fields.proofs.Amounts.{amount_field-number, amount_decided, amount_field-refused}
 use Rattle.fields.proofs.amount.read_amount.Goals as goal
 
@@ -15,9 +17,10 @@ pub returns-then-field-ne13 : goal.returns-then-field-ne13
 unfolding amount_field
 returns-then-field-ne13 c = simp (ne_eqb _ 13 c.if-field-ne13.true)
 
-pub returns-in_default : goal.returns-in_default
-returns-in_default c =
-    sym (amount_field-refused _ c.if-field-ne13.false _ (sym c.read_digits.ensures ∙ ap number_verdict c.in_default.is))
+pub returns-in_err-cents : goal.returns-in_err-cents
+returns-in_err-cents c =
+    let passed_on : c.from_residual.result ≡ Err c.in_err-cents.field-0.0 = search rules in
+    rw passed_on (sym (amount_field-refused _ c.if-field-ne13.false _ (sym c.in_err-cents.ensures)))
 
 -- of thirteen digits it decides whether they can be asked for
 decided :
@@ -26,7 +29,7 @@ decided :
 decided field n right thirteen read held = rw (held, amount_decided field thirteen n read) (amount_field-number field thirteen n read)
 
 pub returns-then-is_amount : goal.returns-then-is_amount
-returns-then-is_amount c = rw (decided _ _ _ c.if-field-ne13.false (sym c.read_digits.ensures ∙ ap number_verdict c.in-Value.is) c.is_amount.ensures, c.if-is_amount.true)
+returns-then-is_amount c = rw (decided _ _ _ c.if-field-ne13.false (sym c.in_ok-cents.ensures) c.is_amount.ensures, c.if-is_amount.true)
 
-pub returns : goal.returns
-returns c = rw (decided _ _ _ c.if-field-ne13.false (sym c.read_digits.ensures ∙ ap number_verdict c.in-Value.is) c.is_amount.ensures, c.if-is_amount.false)
+pub returns-else-is_amount : goal.returns-else-is_amount
+returns-else-is_amount c = rw (decided _ _ _ c.if-field-ne13.false (sym c.in_ok-cents.ensures) c.is_amount.ensures, c.if-is_amount.false)

@@ -1,7 +1,7 @@
 -- `fields::calendar::leap` meets its contract. Assumes nothing.
 use Prim.Native.Nat.{◌%◌}
 use mathlib.Core.Path.{◌≡◌}
-use mathlib.Core.Bool.{and-true, or-false}
+use mathlib.Core.Bool.{or-false}
 use native.Mathlib.Omega.{arith}
 use borrow.Author.Tests.{eq-eqb, ne_eqb}
 use Rattle.fields.specs.Calendar.{is_leap}
@@ -17,10 +17,8 @@ returns-then-year-eq0 c =
 
 pub returns-then-year-eq0-2 : goal.returns-then-year-eq0-2
 unfolding is_leap
-returns-then-year-eq0-2 c =
-    let fourth : c.args.year % 4 ≡ 0 = omega arith in
-    simp (ne_eqb _ 0 c.if-year-eq0.false, eq-eqb _ 0 c.if-year-eq0-2.true, eq-eqb _ 0 fourth)
+returns-then-year-eq0-2 c = simp (ne_eqb _ 0 c.if-year-eq0.false, eq-eqb _ 0 c.if-year-eq0-2.true, or-false)
 
-pub returns : goal.returns
+pub returns-else-year-eq0-2 : goal.returns-else-year-eq0-2
 unfolding is_leap
-returns c = simp (ne_eqb _ 0 c.if-year-eq0.false, ne_eqb _ 0 c.if-year-eq0-2.false, and-true, or-false)
+returns-else-year-eq0-2 c = simp (ne_eqb _ 0 c.if-year-eq0.false, ne_eqb _ 0 c.if-year-eq0-2.false)

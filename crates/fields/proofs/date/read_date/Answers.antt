@@ -1,11 +1,13 @@
 -- `fields::read_date` meets its contract. Assumes nothing.
-use mathlib.Core.Path.{◌≡◌, sym, ◌∙◌, ap}
+use Prim.Native.Nat.{ℕ}
+use mathlib.Core.Path.{◌≡◌, sym}
 use mathlib.Core.Bool.{Bool, cond}
 use mathlib.Core.List.{List}
-use Prim.Native.Nat.{ℕ}
 use lib.ListN.{length}
+use borrow.Author.Rules.{rules}
 use borrow.Author.Tests.{ne_eqb}
-use Rattle.fields.specs.FieldVerdict.{accepted, refused, no_such_day, number_verdict}
+use Rattle.std.specs.Prelude.{Err}
+use Rattle.fields.specs.FieldVerdict.{accepted, refused, no_such_day}
 use Rattle.fields.specs.Calendar.{is_day}
 use Rattle.fields.specs.Digits.{digit_field}
 use Rattle.fields.specs.Date.{date_field}
@@ -16,9 +18,10 @@ pub returns-then-field-ne6 : goal.returns-then-field-ne6
 unfolding date_field
 returns-then-field-ne6 c = simp (ne_eqb _ 6 c.if-field-ne6.true)
 
-pub returns-in_default : goal.returns-in_default
-returns-in_default c =
-    sym (date_field-refused _ c.if-field-ne6.false _ (sym c.read_digits.ensures ∙ ap number_verdict c.in_default.is))
+pub returns-in_err-n : goal.returns-in_err-n
+returns-in_err-n c =
+    let passed_on : c.from_residual.result ≡ Err c.in_err-n.field-0.0 = search rules in
+    rw passed_on (sym (date_field-refused _ c.if-field-ne6.false _ (sym c.in_err-n.ensures)))
 
 -- of six digits the calendar decides
 decided :
@@ -26,8 +29,8 @@ decided :
     date_field field ≡ cond right (accepted (day_from n)) (refused no_such_day)
 decided field n right six read held = rw held (date_field-number field six n read)
 
-pub returns-then-has_day : goal.returns-then-has_day
-returns-then-has_day c = rw (decided _ _ _ c.if-field-ne6.false (sym c.read_digits.ensures ∙ ap number_verdict c.in-Value.is) c.has_day.ensures, c.if-has_day.true)
+pub returns-then-is_real : goal.returns-then-is_real
+returns-then-is_real c = rw (decided _ _ _ c.if-field-ne6.false (sym c.in_ok-n.ensures) c.is_real.ensures, c.if-is_real.true)
 
-pub returns : goal.returns
-returns c = rw (decided _ _ _ c.if-field-ne6.false (sym c.read_digits.ensures ∙ ap number_verdict c.in-Value.is) c.has_day.ensures, c.if-has_day.false)
+pub returns-else-is_real : goal.returns-else-is_real
+returns-else-is_real c = rw (decided _ _ _ c.if-field-ne6.false (sym c.in_ok-n.ensures) c.is_real.ensures, c.if-is_real.false)

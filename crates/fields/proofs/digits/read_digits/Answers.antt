@@ -1,4 +1,4 @@
--- `fields::read_digits` meets its contract. What is left from i on, read after value, decides as the whole field does. Assumes nothing.
+-- `fields::read_digits` meets its contract. What is left of the field, read after value, decides as the whole field does. Assumes nothing.
 use Prim.Native.Nat.{ℕ, ◌+◌, ◌*◌, ◌-◌, ◌^◌, ◌≤◌, ◌<◌}
 use mathlib.Core.Path.{◌≡◌, sym, ◌∙◌}
 use mathlib.Core.Bool.{cond}
@@ -11,6 +11,7 @@ use Rattle.fields.specs.Digits.{is_digit, digit_field, digits_from}
 use Rattle.fields.proofs.Decimal.{digit_more}
 use Rattle.fields.proofs.DigitField.{digit_low, digit_high, digit_right, digit_field-empty, digit_field_long, digit_field-sized, digits_from_next, digits_from_end}
 use Rattle.fields.proofs.digits.read_digits.Goals as goal
+use Rattle.fields.proofs.digits.read_digits.Goals.{then-field-eq0-via-then-field-eq0, then-field-eq0-via-else-field-eq0+then-field-gt-MOST_DIGITS, then-b-lt48-via-then-b-lt48, then-b-lt48-via-else-b-lt48+then-b-gt57}
 
 -- the field decides as its byte at i does, and then the rest
 turn :
@@ -25,33 +26,32 @@ room value i below early =
     omega (arith, digit_more i value 9 below (omega arith), pow-le-pow_right {n = 10} (omega arith) places)
 
 pub returns-then-field-eq0 : goal.returns-then-field-eq0
-returns-then-field-eq0 c = sym (digit_field-empty _ c.if-field-eq0.true)
+returns-then-field-eq0 c = elim c.then-field-eq0.branch [
+  | then-field-eq0-via-then-field-eq0 w ↦ sym (digit_field-empty _ w.if-field-eq0.true)
+  | then-field-eq0-via-else-field-eq0+then-field-gt-MOST_DIGITS w ↦ sym (digit_field_long _ w.if-field-gt-MOST_DIGITS.true)
+]
 
-pub returns-then-field-gt-MOST_DIGITS : goal.returns-then-field-gt-MOST_DIGITS
-returns-then-field-gt-MOST_DIGITS c = sym (digit_field_long _ c.if-field-gt-MOST_DIGITS.true)
-
-pub loop-i-init : goal.loop-i-init
-loop-i-init c = (omega arith, omega arith, digit_field-sized _ (omega arith) c.if-field-gt-MOST_DIGITS.false)
+pub loop-b-init : goal.loop-b-init
+loop-b-init c = (omega arith, digit_field-sized _ (omega arith) c.if-field-gt-MOST_DIGITS.false)
 
 pub returns-then-b-lt48 : goal.returns-then-b-lt48
-returns-then-b-lt48 c = let loop = c.loop-i in rw (turn _ _ _ loop.invariant.2 c.loop-i-test.true, digit_low _ c.if-b-lt48.true)
-
-pub returns-then-b-gt57 : goal.returns-then-b-gt57
-returns-then-b-gt57 c = let loop = c.loop-i in rw (turn _ _ _ loop.invariant.2 c.loop-i-test.true, digit_high _ c.if-b-gt57.true)
+returns-then-b-lt48 c = elim c.then-b-lt48.branch [
+  | then-b-lt48-via-then-b-lt48 w ↦ rw (turn _ _ _ c.loop-b.invariant.1 c.loop-b-test.true, digit_low _ w.if-b-lt48.true)
+  | then-b-lt48-via-else-b-lt48+then-b-gt57 w ↦ rw (turn _ _ _ c.loop-b.invariant.1 c.loop-b-test.true, digit_high _ w.if-b-gt57.true)
+]
 
 pub overflow_mul-value : goal.overflow_mul-value
-overflow_mul-value c = omega (arith, room c.loop-i.value c.loop-i.i c.loop-i.invariant.1 (omega arith))
+overflow_mul-value c = omega (arith, room c.loop-b.value c.loop-b.b-index c.loop-b.invariant.0 (omega arith))
 
 pub overflow_add-value : goal.overflow_add-value
-overflow_add-value c = omega (arith, room c.loop-i.value c.loop-i.i c.loop-i.invariant.1 (omega arith))
+overflow_add-value c = omega (arith, c.from.ensures, room c.loop-b.value c.loop-b.b-index c.loop-b.invariant.0 (omega arith))
 
-pub loop-i-preserved : goal.loop-i-preserved
-loop-i-preserved c =
-    let loop = c.loop-i in (
-      omega arith,
-      digit_more loop.i loop.value (c.wide.result - 48) loop.invariant.1 (omega arith),
-      rw (c.wide.ensures, turn _ _ _ loop.invariant.2 c.loop-i-test.true, digit_right _ c.if-b-lt48.false c.if-b-gt57.false),
+pub loop-b-preserved : goal.loop-b-preserved
+loop-b-preserved c =
+    let loop = c.loop-b in (
+      digit_more loop.b-index loop.value c.from.result loop.invariant.0 (omega (arith, c.from.ensures)),
+      rw (c.from.ensures, turn _ _ _ loop.invariant.1 c.loop-b-test.true, digit_right _ c.if-b-lt48.false c.if-b-gt57.false),
     )
 
 pub returns : goal.returns
-returns c = sym (c.loop-i.invariant.2 ∙ digits_from_end _ _ _ c.loop-i-test.false)
+returns c = sym (c.loop-b.invariant.1 ∙ digits_from_end _ _ _ c.loop-b-test.false)
