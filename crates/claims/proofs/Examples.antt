@@ -30,7 +30,7 @@ use Rattle.claims.specs.Examples.{Examples, RecallExamples, CompanyExamples, Not
 use Rattle.claims.specs.Ledger.{with_amount, without_disposition, change_on, withdraw_on, list_after, replies_on}
 
 pub examples : Examples
-unfolding kind_among judge walk_from cut judge_record judge_typed among judge_as first_fault checks is_listed bad_from is_equal number_from digits is_day days_in is_leap find groups lead flatten find_with_totals fill body_placed encode_item encode_trailer encode_from last_header list_dispositions list_cents items_from first_row change numbered_from withdraw
+unfolding kind_among judge walk_from cut judge_record judge_typed among judge_as first_fault checks bad_from is_equal number_from digits is_day days_in is_leap find groups lead flatten find_with_totals fill body_placed encode_item encode_trailer encode_from last_header list_dispositions list_cents items_from first_row change numbered_from withdraw
 examples =
     record {
       one = (list.trailer, list.two_rents_lem);
@@ -46,7 +46,7 @@ examples =
     }
 
 pub recall-examples : RecallExamples
-unfolding kind_among judge walk_from cut judge_record judge_typed among judge_as first_fault checks is_listed bad_from is_equal number_from digits is_day days_in is_leap find groups lead flatten find_with_totals last_header list_dispositions list_cents items_from first_row change numbered_from withdraw with_amount without_disposition change_on withdraw_on list_after replies_on
+unfolding kind_among judge walk_from cut judge_record judge_typed among judge_as first_fault checks bad_from is_equal number_from digits is_day days_in is_leap find groups lead flatten find_with_totals last_header list_dispositions list_cents items_from first_row change numbered_from withdraw with_amount without_disposition change_on withdraw_on list_after replies_on
 recall-examples =
     record {
       encoded = list.two_recalls_lem;
@@ -61,7 +61,7 @@ recall-examples =
     }
 
 pub company-examples : CompanyExamples
-unfolding kind_among judge walk_from cut judge_record judge_typed among judge_as first_fault checks is_listed bad_from is_equal number_from digits is_day days_in is_leap find groups lead flatten find_with_totals change numbered_from withdraw company_of
+unfolding kind_among judge walk_from cut judge_record judge_typed among judge_as first_fault checks bad_from is_equal number_from digits is_day days_in is_leap find groups lead flatten find_with_totals change numbered_from withdraw company_of
 company-examples =
     record {
       read = (flow.two_rents_lem, flow.no_codes_lem);
@@ -74,7 +74,7 @@ company-examples =
     }
 
 pub nothing-examples : NothingExamples
-unfolding kind_among judge walk_from cut judge_record judge_typed among judge_as first_fault checks is_listed bad_from is_equal number_from digits is_day days_in is_leap find groups lead flatten find_with_totals last_header list_dispositions list_cents items_from first_row change withdraw with_amount change_on list_after replies_on
+unfolding kind_among judge walk_from cut judge_record judge_typed among judge_as first_fault checks bad_from is_equal number_from digits is_day days_in is_leap find groups lead flatten find_with_totals last_header list_dispositions list_cents items_from first_row change withdraw with_amount change_on list_after replies_on
 nothing-examples =
     record {
       field = (fields.zero-amount, fields.least-amount);

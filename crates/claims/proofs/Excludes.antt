@@ -166,7 +166,7 @@ abbrev two_faults : List ℕ
 two_faults = put 240 (10 ∷ []) (flow_of (header_im ∷ (second ++ (trailer_ef ∷ []))))
 
 lowest_record : judge two_faults ≡ refused (refusal 9 2 4)
-unfolding kind_among judge walk_from cut judge_record judge_typed among judge_as first_fault checks is_listed bad_from is_equal number_from is_day days_in is_leap
+unfolding kind_among judge walk_from cut judge_record judge_typed among judge_as first_fault checks bad_from is_equal number_from is_day days_in is_leap
 lowest_record = refl
 
 later_fault : FaultAfter two_faults (take 2 (records_of two_faults)) (record_at 2 two_faults) 2 1
@@ -182,12 +182,12 @@ not_lowest read exact lowest =
     omega arith
 
 mixed_judged : (judge (with_further (take 1 first_closed ++ (further59 ∷ []))) ≡ refused (refusal 3 7 2)) × (judge (with_further (further59 ∷ take 1 first_closed)) ≡ refused (refusal 3 7 2))
-unfolding kind_among judge walk_from cut judge_record judge_typed among judge_as first_fault checks is_listed bad_from is_equal number_from is_day days_in is_leap
+unfolding kind_among judge walk_from cut judge_record judge_typed among judge_as first_fault checks bad_from is_equal number_from is_day days_in is_leap
 mixed_judged = (refl, refl)
 
 -- with room the last record is refused, without it the call
 last_judged : judge_items (items_in last_wrong) ≡ refused (refusal 6 15 94)
-unfolding kind_among judge_items encode_from encode_item fill body_placed flatten items_from first_row digits walk_from judge_record judge_typed among judge_as first_fault checks is_listed bad_from is_equal number_from is_day days_in is_leap
+unfolding kind_among judge_items encode_from encode_item fill body_placed flatten items_from first_row digits walk_from judge_record judge_typed among judge_as first_fault checks bad_from is_equal number_from is_day days_in is_leap
 last_judged = refl
 
 last_read : parse last_wrong ≡ items (items_in last_wrong)
@@ -253,7 +253,7 @@ EveningFacts =
     × (kept_lines (drops_all two_rents two_rents) ≡ 0)
 
 evening_facts : EveningFacts
-unfolding kind_among kind_from judge walk_from cut judge_record judge_typed among judge_as first_fault checks is_listed bad_from is_equal number_from digits is_day days_in is_leap flatten fill body_placed encode_item encode_trailer encode_from last_header list_dispositions list_cents items_from first_row lead groups are_same count_lines kept_with most_kept lines_with account_of
+unfolding kind_among kind_from judge walk_from cut judge_record judge_typed among judge_as first_fault checks bad_from is_equal number_from digits is_day days_in is_leap flatten fill body_placed encode_item encode_trailer encode_from last_header list_dispositions list_cents items_from first_row lead groups are_same count_lines kept_with most_kept lines_with account_of
 evening_facts = (refl, refl, refl, refl, refl, refl, refl)
 
 pub excludes : Excludes

@@ -51,7 +51,6 @@ abbrev are_among : List ℕ → List ℕ → Bool
 are_among ns ms = every (λ (m : ℕ). is_listed m ns) ms
 
 among : (ns ms : List ℕ) (n : ℕ) → are_among ns ms ≡ true → OneOf ms n → OneOf ns n
-unfolding is_listed
 among ns [] n all h = absurd (true≢false (sym h))
 among ns (m ∷ ms) n all h = by (eqb n m) refl (is_listed m ns) refl all h (among ns ms n)
   where
@@ -62,12 +61,10 @@ among ns (m ∷ ms) n all h = by (eqb n m) refl (is_listed m ns) refl all h (amo
 
 -- and one that is not the first of some is one of the others
 other_than : (m : ℕ) (ns : List ℕ) (n : ℕ) → ¬ (n ≡ m) → OneOf (m ∷ ns) n → OneOf ns n
-unfolding is_listed
 other_than m ns n differs h = rw (ne_eqb n m differs) at h
 
 -- a check's number is one of theirs
 broken-number : (held others : List Check) (n p : ℕ) → OneOf (numbers_of (held ++ (check false n p ∷ others))) n
-unfolding is_listed
 broken-number [] others n p = rw (eq-eqb n n refl)
 broken-number (check holds m q ∷ held) others n p = rw (broken-number held others n p, or-true)
 
@@ -77,13 +74,13 @@ row-broken ctx rec k n p (held, others, same, h) = subst (λ (cs : List Check). 
 
 -- one record: the numbers of every row, and 1 for its length
 row_number : (ctx : Context) (rec : List ℕ) (k : RecordKind) (n : ℕ) → OneOf (numbers_of (checks k ctx rec)) n → OneOf record_numbers n
-unfolding is_listed checks
+unfolding checks
 row_number ctx rec k n h =
     among record_numbers (numbers_of (checks k ctx rec)) n
     (each-kind (λ (k : RecordKind). are_among record_numbers (numbers_of (checks k ctx rec)) ≡ true) (refl, (refl, (refl, (refl, (refl, (refl, (refl, (refl, (refl, (refl, (refl, tt))))))))))) k) h
 
 record_judging : (k : RecordKind) (ctx : Context) (rec : List ℕ) (n p : ℕ) → judge_as k ctx rec ≡ RecordVerdict-refused n p → OneOf record_numbers n
-unfolding judge_as is_listed
+unfolding judge_as
 record_judging k ctx rec n p = by (eqb (length rec) 120)
   where
     told : (is_listed n (numbers_of (checks k ctx rec)) ≡ true) ⊎ (right k (asked k rec) ≡ RecordVerdict-refused n p) → OneOf record_numbers n
@@ -96,13 +93,11 @@ record_judging k ctx rec n p = by (eqb (length rec) 120)
 
 -- at its place: 2, 3, or a number of the row of its kind
 place-number : {may : RecordKind → Type 0} {asked : RecordKind → Context} {rec : List ℕ} {n p : ℕ} → Fault may asked rec n p → OneOf place_numbers n
-unfolding is_listed
 place-number (bad_byte_lem bs b cs same before bad) = refl
 place-number (wrong_type printable none) = refl
 place-number {rec = rec} (broken k n p printable type permitted first) = among place_numbers record_numbers n refl (row_number _ rec k n (row-broken _ rec k n p first))
 
 walking : (header : Header) (w : Walk) (company : List ℕ) (i : ℕ) (rec : List ℕ) (n p : ℕ) → judge_record header w company i rec ≡ RecordVerdict-refused n p → OneOf place_numbers n
-unfolding is_listed
 walking header w company i rec n p e = by (eqb (length rec) 120) refl
   where
     exact : (length rec ≡ 120 → (n p : ℕ) → (judge_record header w company i rec ≡ RecordVerdict-refused n p) ↔ FaultAt header w company i rec n p) × (¬ (length rec ≡ 120) → judge_record header w company i rec ≡ RecordVerdict-refused 1 0)
@@ -117,7 +112,6 @@ walking header w company i rec n p e = by (eqb (length rec) 120) refl
 
 -- reading
 read_number : {f : List ℕ} {x : Refusal} → FirstFault f x → OneOf reading_numbers x.number
-unfolding is_listed
 read_number (wrong_length wrong) = refl
 read_number (in_record before rec after n p sized same each fault) = among reading_numbers place_numbers n refl (place-number fault)
 read_number (still_due sized each none) = refl
@@ -127,7 +121,6 @@ reading f x e = read_number ((first_fault_exact f x).0 e)
 
 -- where a disposition is
 finding : (f : List ℕ) (k : ℕ) (x : Refusal) → find f k ≡ refused x → OneOf finding_numbers x.number
-unfolding is_listed
 finding f k x e = by ((find-refused f k x).0 e)
   where
     by : (judge f ≡ refused x) ⊎ ((t : Totals) × (judge f ≡ accepted t) × ¬ IsNumber k t.dispositions × (x ≡ of_call 15)) → OneOf finding_numbers x.number
@@ -139,13 +132,12 @@ abbrev row_numbers : List ℕ
 row_numbers = 9 ∷ 22 ∷ writing_numbers
 
 writing-row : (ctx : Context) (rec : List ℕ) (k : RecordKind) → closes k ≡ false → are_among row_numbers (numbers_of (checks k ctx rec)) ≡ true
-unfolding is_listed checks
+unfolding checks
 writing-row ctx rec =
     each-kind (λ (k : RecordKind). closes k ≡ false → are_among row_numbers (numbers_of (checks k ctx rec)) ≡ true)
     (λ h. refl, (λ h. refl, (λ h. refl, (λ h. refl, (λ h. refl, (λ h. refl, (λ h. refl, (λ h. refl, (λ h. refl, (λ h. refl, (λ h. absurd (true≢false h), tt)))))))))))
 
 write-number : {list : List ℕ} {room : ℕ} {x : Refusal} → WriteFault list room x → OneOf row_numbers x.number
-unfolding is_listed
 write-number =
     write-refused_by (OneOf row_numbers) refl refl (λ k ctx rec so n p first. among row_numbers (numbers_of (checks k ctx rec)) n (writing-row ctx rec k so.not_ef) (row-broken ctx rec k n p first)) refl refl refl refl
 
@@ -157,14 +149,12 @@ writing list room x e =
 
 -- the calls that read first, and then have numbers of their own
 change-number : {f : List ℕ} {k new : ℕ} {x : Refusal} → ChangeFault f k new x → OneOf change_numbers x.number
-unfolding is_listed
 change-number {f} (not_read x wrong) = among change_numbers reading_numbers x.number refl (reading f x wrong)
 change-number (no_disposition t read none) = refl
 change-number (not_an_amount t read some not-one) = refl
 change-number (total_too_large t s read found asked large) = refl
 
 withdraw-number : {f : List ℕ} {k : ℕ} {x : Refusal} → WithdrawFault f k x → OneOf withdrawal_numbers x.number
-unfolding is_listed
 withdraw-number {f} (not_read x wrong) = among withdrawal_numbers reading_numbers x.number refl (reading f x wrong)
 withdraw-number (no_disposition t read none) = refl
 withdraw-number (only_one t read count one) = refl
@@ -173,7 +163,6 @@ abbrev pair_numbers : List ℕ
 pair_numbers = reading_numbers ++ (27 ∷ 28 ∷ 34 ∷ [])
 
 pair_number : {old new : List ℕ} {lent : ℕ} {x : Refusal} → PairFault old new lent x → OneOf pair_numbers x.number
-unfolding is_listed
 pair_number {old} (old_not_read x wrong) = among pair_numbers reading_numbers x.number refl (reading old x wrong)
 pair_number {old} {new} (new_not_read t x read wrong) = among pair_numbers reading_numbers x.number refl (reading new x wrong)
 pair_number (too_many t u read read' many) = refl
@@ -181,7 +170,6 @@ pair_number (kinds-differ t u read read' few few' other) = refl
 pair_number (little_memory t u read read' few few' same short) = refl
 
 pub numbers_given : NumbersGiven
-unfolding is_listed
 numbers_given =
     record {
       digits = λ bs n e. rw ((field-refused bs n).0 e).0;

@@ -15,7 +15,6 @@ use Rattle.records.specs.FlowKinds.{kind_in, or_requests, first_known}
 use Rattle.records.specs.RecordVerdict.{RecordVerdict, right}
 use Rattle.records.specs.RecordVerdict.{refused as RecordVerdict-refused}
 use Rattle.records.specs.Kinds.{is_opening, opened}
-use Rattle.records.specs.declared.flow_kind.KindFound.{KindFound}
 use Rattle.records.specs.declared.kind.RecordKind.{RecordKind}
 use Rattle.records.proofs.ByKind.{right-asked, opens-type}
 use Rattle.records.proofs.Numbers.{one_for_length}
@@ -29,12 +28,12 @@ use Rattle.flow.specs.Verdict.{Verdict, accepted, refused, refusal, of_call}
 use Rattle.flow.specs.declared.answer.Refusal.{Refusal}
 use Rattle.flow.specs.declared.answer.Totals.{Totals}
 use Rattle.flow.specs.declared.answer.Answer.TheVariants.{Accepted, Refused}
-use Rattle.flow.specs.declared.order.TypeFound.{TypeFound}
-use Rattle.flow.specs.declared.order.TypeFound.TheVariants.{Of, Missing}
 use Rattle.flow.specs.declared.walk.Walk.{Walk}
 use Rattle.flow.proofs.Cut.{cut-count, Whole, cut-whole}
 use Rattle.flow.proofs.Exact.{right_typed}
 use Rattle.flow.proofs.Lengths.{length-said}
+use Rattle.records.specs.declared.flow_kind.FlowKind.{FlowKind}
+use Rattle.std.specs.Prelude.{Option, Some, None}
 
 -- an acceptance is no refusal; and what was accepted, or refused, tells itself
 pub accepted-not-refused : {A : Type 0} {a : A} {x : Refusal} → refused x ≡ accepted a → ⊥
@@ -100,7 +99,7 @@ exact_from header w company i (rec ∷ recs) t = next (judge_record header w com
         let dispositions = counts.dispositions in
         let cents = counts.cents in
         let records = counts.records in
-        let kind = ap (λ (q : KindFound). or_requests (kind_from q recs)) (decides header w company (suc i) rec k a found) in
+        let kind = ap (λ (q : Option FlowKind). or_requests (kind_from q recs)) (decides header w company (suc i) rec k a found) in
         record { dispositions = omega arith; cents = omega arith; records = omega arith; kind = counts.kind ∙ kind }
     next (RecordVerdict-refused m p) found rest e = absurd (accepted-not-refused e)
 
@@ -123,9 +122,9 @@ record_not_one : (header : Header) (w : Walk) (company : List ℕ) (n : ℕ) (re
 unfolding judge_record judge_typed
 record_not_one header w company n rec p whole e = bytes (eqb (bad_byte rec) 0) (among (permitted w.place.due) rec) (rw (eq-eqb (length rec) 120 whole) at e)
   where
-    bytes : (b : Bool) (x : TypeFound) → ¬ (cond b (judge_typed header w company n rec x) (RecordVerdict-refused 2 (bad_byte rec)) ≡ RecordVerdict-refused 1 p)
-    bytes true Missing x = let z : ◌≡◌ {A = ℕ} 3 1 = cc in omega arith
-    bytes true (Of k) x = ((one_for_length k (context header company w.kind (counts_at w n k)) rec p).0 x).1 whole
+    bytes : (b : Bool) (x : Option RecordKind) → ¬ (cond b (judge_typed header w company n rec x) (RecordVerdict-refused 2 (bad_byte rec)) ≡ RecordVerdict-refused 1 p)
+    bytes true None x = let z : ◌≡◌ {A = ℕ} 3 1 = cc in omega arith
+    bytes true (Some k) x = ((one_for_length k (context header company w.kind (counts_at w n k)) rec p).0 x).1 whole
     bytes false found x = let z : ◌≡◌ {A = ℕ} 2 1 = cc in omega arith
 
 -- so of whole records no refusal is by 1

@@ -9,18 +9,17 @@ use Rattle.records.specs.Kinds.{has_type}
 use Rattle.records.specs.declared.kind.RecordKind.{RecordKind}
 use Rattle.records.proofs.ByKind.{one_type}
 use Rattle.flow.specs.Order.{In, among}
-use Rattle.flow.specs.declared.order.TypeFound.{TypeFound}
-use Rattle.flow.specs.declared.order.TypeFound.TheVariants.{Of, Missing}
+use Rattle.std.specs.Prelude.{Option, Some, None}
 
-missing_not_of : {k : RecordKind} → Missing ≡ Of k → ⊥
+missing_not_of : {k : RecordKind} → None ≡ Some k → ⊥
 missing_not_of e = let z : ◌≡◌ {A = ℕ} 0 1 = cc in omega arith
 
-pub among-said : (ks : List RecordKind) (rec : List ℕ) (k : RecordKind) → among ks rec ≡ Of k → In k ks × (has_type k rec ≡ true)
+pub among-said : (ks : List RecordKind) (rec : List ℕ) (k : RecordKind) → among ks rec ≡ Some k → In k ks × (has_type k rec ≡ true)
 unfolding among
 among-said [] rec k e = absurd (missing_not_of e)
 among-said (l ∷ ks) rec k e = go (among-said ks rec k) (has_type l rec) refl e
   where
-    go : (among ks rec ≡ Of k → In k ks × (has_type k rec ≡ true)) → (b : Bool) → has_type l rec ≡ b → cond b (Of l) (among ks rec) ≡ Of k → In k (l ∷ ks) × (has_type k rec ≡ true)
+    go : (among ks rec ≡ Some k → In k ks × (has_type k rec ≡ true)) → (b : Bool) → has_type l rec ≡ b → cond b (Some l) (among ks rec) ≡ Some k → In k (l ∷ ks) × (has_type k rec ≡ true)
     go rest true t e =
         let same : l ≡ k = cc in
         (inl (sym same), subst (λ (m : RecordKind). has_type m rec ≡ true) same t)
@@ -28,13 +27,13 @@ among-said (l ∷ ks) rec k e = go (among-said ks rec k) (has_type l rec) refl e
         let found = rest e in
         (inr found.0, found.1)
 
-pub among_tested : (ks : List RecordKind) (rec : List ℕ) (k : RecordKind) → In k ks → has_type k rec ≡ true → among ks rec ≡ Of k
+pub among_tested : (ks : List RecordKind) (rec : List ℕ) (k : RecordKind) → In k ks → has_type k rec ≡ true → among ks rec ≡ Some k
 unfolding among
 among_tested [] rec k i t = absurd i
 among_tested (l ∷ ks) rec k i t = go (among_tested ks rec k) (has_type l rec) refl i
   where
-    go : (In k ks → has_type k rec ≡ true → among ks rec ≡ Of k) → (b : Bool) → has_type l rec ≡ b → In k (l ∷ ks) → cond b (Of l) (among ks rec) ≡ Of k
-    go rest true u i = ap Of (one_type l k rec u t)
+    go : (In k ks → has_type k rec ≡ true → among ks rec ≡ Some k) → (b : Bool) → has_type l rec ≡ b → In k (l ∷ ks) → cond b (Some l) (among ks rec) ≡ Some k
+    go rest true u i = ap Some (one_type l k rec u t)
     go rest false u (inl same) = absurd (true≢false (sym (subst (λ (m : RecordKind). has_type m rec ≡ true) same t) ∙ u))
     go rest false u (inr i) = rest i t
 
@@ -45,12 +44,12 @@ Has ks rec = (k : RecordKind) × In k ks × (has_type k rec ≡ true)
 abbrev pub HasNone : List RecordKind → List ℕ → Type 0
 HasNone ks rec = (k : RecordKind) → In k ks → ¬ (has_type k rec ≡ true)
 
-found : (ks : List RecordKind) (rec : List ℕ) (x : TypeFound) → among ks rec ≡ x → Has ks rec ⊎ (HasNone ks rec × (among ks rec ≡ Missing))
-found ks rec (Of k) e = let said = among-said ks rec k e in inl (k, said.0, said.1)
-found ks rec Missing e = inr (λ k i t. missing_not_of (sym e ∙ among_tested ks rec k i t), e)
+found : (ks : List RecordKind) (rec : List ℕ) (x : Option RecordKind) → among ks rec ≡ x → Has ks rec ⊎ (HasNone ks rec × (among ks rec ≡ None))
+found ks rec (Some k) e = let said = among-said ks rec k e in inl (k, said.0, said.1)
+found ks rec None e = inr (λ k i t. missing_not_of (sym e ∙ among_tested ks rec k i t), e)
 
 pub has_or_none : (ks : List RecordKind) (rec : List ℕ) → Has ks rec ⊎ HasNone ks rec
 has_or_none ks rec = ⊎_elim (λ o. inl o) (λ o. inr o.0) (found ks rec (among ks rec) refl)
 
-pub none_missing : (ks : List RecordKind) (rec : List ℕ) → HasNone ks rec → among ks rec ≡ Missing
+pub none_missing : (ks : List RecordKind) (rec : List ℕ) → HasNone ks rec → among ks rec ≡ None
 none_missing ks rec none = ⊎_elim (λ o. absurd (none o.0 o.1 o.2)) (λ o. o.1) (found ks rec (among ks rec) refl)

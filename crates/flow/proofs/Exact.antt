@@ -13,7 +13,6 @@ use Rattle.records.specs.RecordVerdict.{RecordVerdict, right, refused}
 use Rattle.records.specs.Judge.{judge_as}
 use Rattle.records.specs.Kinds.{has_type, opened}
 use Rattle.records.specs.Limits.{count_limit, cents_limit, saturated_counts}
-use Rattle.records.specs.declared.flow_kind.KindFound.{KindFound}
 use Rattle.records.specs.declared.judged.Counts.{Counts}
 use Rattle.records.specs.declared.kind.RecordKind.{RecordKind}
 use Rattle.records.specs.declared.kind.RecordKind.TheVariants.{Im, R14, R16, R20, R30, R40, R50, R59, R51, R70, Ef}
@@ -24,13 +23,13 @@ use Rattle.flow.specs.Order.{In, permitted, is_due, place_due, place_after, amon
 use Rattle.flow.specs.Walking.{dispositions_with, kind_after, step, counts_at, judge_typed, judge_record, saturated}
 use Rattle.flow.specs.declared.order.Due.{Due}
 use Rattle.flow.specs.declared.order.Due.TheVariants.{OnlyIm, OnlyR14, R16OrR20, OnlyR20, OnlyR30, OnlyR40, R50OrR59, R59OrR51, OnlyR51, OnlyR70, R14OrEf, Nothing}
-use Rattle.flow.specs.declared.order.TypeFound.{TypeFound}
-use Rattle.flow.specs.declared.order.TypeFound.TheVariants.{Of, Missing}
 use Rattle.flow.specs.declared.walk.Walk.{Walk}
 use Rattle.flow.proofs.Among.{among-said}
+use Rattle.records.specs.declared.flow_kind.FlowKind.{FlowKind}
+use Rattle.std.specs.Prelude.{Option, Some, None}
 
 -- counts that stop alike are judged alike
-pub counts_alike : (header : Header) (company : List ℕ) (q : KindFound) (k : RecordKind) (a b : Counts) (rec : List ℕ) → saturated_counts a ≡ saturated_counts b → judge_as k (context header company q a) rec ≡ judge_as k (context header company q b) rec
+pub counts_alike : (header : Header) (company : List ℕ) (q : Option FlowKind) (k : RecordKind) (a b : Counts) (rec : List ℕ) → saturated_counts a ≡ saturated_counts b → judge_as k (context header company q a) rec ≡ judge_as k (context header company q b) rec
 counts_alike header company q k a b rec e =
     sym (saturation_unseen k (context header company q a) rec) ∙ ap (λ (c : Counts). judge_as k (context header company q c) rec) e ∙ saturation_unseen k (context header company q b) rec
 
@@ -47,10 +46,10 @@ saturated-counts w n k =
 
 -- so a state that has stopped judges as the exact one does, and has the same next state
 module _ (header : Header) (w : Walk) (company : List ℕ) (n : ℕ) (rec : List ℕ) where
-  typed_alike : (x : TypeFound) → judge_typed header (saturated w) company n rec x ≡ judge_typed header w company n rec x
+  typed_alike : (x : Option RecordKind) → judge_typed header (saturated w) company n rec x ≡ judge_typed header w company n rec x
   unfolding judge_typed
-  typed_alike Missing = refl
-  typed_alike (Of k) = counts_alike header company w.kind k (counts_at (saturated w) n k) (counts_at w n k) rec (saturated-counts w n k)
+  typed_alike None = refl
+  typed_alike (Some k) = counts_alike header company w.kind k (counts_at (saturated w) n k) (counts_at w n k) rec (saturated-counts w n k)
 
   pub record_alike : judge_record header (saturated w) company n rec ≡ judge_record header w company n rec
   unfolding judge_record
@@ -102,14 +101,14 @@ pub right_typed :
 unfolding judge_record judge_typed
 right_typed header w company n rec k c = sized (eqb (length rec) 120) (eqb (bad_byte rec) 0) (among (permitted w.place.due) rec) refl
   where
-    of : (x : TypeFound) → among (permitted w.place.due) rec ≡ x → judge_typed header w company n rec x ≡ right k c → (has_type k rec ≡ true) × (judge_as k (context header company w.kind (counts_at w n k)) rec ≡ right k c) × In k (permitted w.place.due)
-    of Missing t e = absurd (right-not-refused e)
-    of (Of l) t e =
+    of : (x : Option RecordKind) → among (permitted w.place.due) rec ≡ x → judge_typed header w company n rec x ≡ right k c → (has_type k rec ≡ true) × (judge_as k (context header company w.kind (counts_at w n k)) rec ≡ right k c) × In k (permitted w.place.due)
+    of None t e = absurd (right-not-refused e)
+    of (Some l) t e =
         let same = (right-asked l k (context header company w.kind (counts_at w n l)) rec c e).0 in
         let said = among-said (permitted w.place.due) rec l t in
         subst (λ (m : RecordKind). (has_type m rec ≡ true) × (judge_as m (context header company w.kind (counts_at w n m)) rec ≡ right k c) × In m (permitted w.place.due)) same (said.1, e, said.0)
 
-    sized : (a b : Bool) (x : TypeFound) → among (permitted w.place.due) rec ≡ x → cond a (cond b (judge_typed header w company n rec x) (refused 2 (bad_byte rec))) (refused 1 0) ≡ right k c → (has_type k rec ≡ true) × (judge_as k (context header company w.kind (counts_at w n k)) rec ≡ right k c) × In k (permitted w.place.due)
+    sized : (a b : Bool) (x : Option RecordKind) → among (permitted w.place.due) rec ≡ x → cond a (cond b (judge_typed header w company n rec x) (refused 2 (bad_byte rec))) (refused 1 0) ≡ right k c → (has_type k rec ≡ true) × (judge_as k (context header company w.kind (counts_at w n k)) rec ≡ right k c) × In k (permitted w.place.due)
     sized true true x t e = of x t e
     sized true false x t e = absurd (right-not-refused e)
     sized false b x t e = absurd (right-not-refused e)

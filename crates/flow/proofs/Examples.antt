@@ -19,7 +19,7 @@ use Rattle.flow.specs.Order.{among}
 use Rattle.flow.specs.Walking.{judge_typed, judge_record}
 
 pub examples : FlowExamples
-unfolding kind_among judge walk_from cut judge_record judge_typed among judge_as first_fault checks is_listed bad_from is_equal number_from is_day days_in is_leap find groups lead flatten
+unfolding kind_among judge walk_from cut judge_record judge_typed among judge_as first_fault checks bad_from is_equal number_from is_day days_in is_leap find groups lead flatten
 examples =
     record {
       two_rents_lem = refl;

@@ -30,27 +30,26 @@ use Rattle.flow.specs.Walking.{kind_after, dispositions_with, step, company_afte
 use Rattle.flow.specs.Verdict.{Verdict}
 use Rattle.flow.specs.declared.answer.Totals.{Totals}
 use Rattle.flow.specs.declared.order.Due.{Due}
-use Rattle.flow.specs.declared.order.TypeFound.{TypeFound}
-use Rattle.flow.specs.declared.order.TypeFound.TheVariants.{Of, Missing}
 use Rattle.flow.specs.declared.order.Place.{Place}
 use Rattle.flow.specs.declared.walk.Walk.{Walk}
 use Rattle.flow.proofs.Cut.{cut_next, record_whole}
 use Rattle.flow.proofs.Exact.{last-kind, right_typed}
 use Rattle.flow.proofs.Places.{handed, handed_alike, of_type}
 use Rattle.flow.proofs.Reading.{Reading}
+use Rattle.std.specs.Prelude.{Option, Some, None}
 
 -- a kind that was found among those permitted, where a disposition goes on
-pub inside_found : {due known : Due} (rec : List ℕ) {r : TypeFound} → due ≡ known → is_inside known ≡ true → r ≡ among (permitted known) rec → Inside due rec r
+pub inside_found : {due known : Due} (rec : List ℕ) {r : Option RecordKind} → due ≡ known → is_inside known ≡ true → r ≡ among (permitted known) rec → Inside due rec r
 inside_found {due} {known} rec {r} d inside e = subst (λ (x : Due). Inside x rec r) (sym d) (by r e)
   where
-    by : (x : TypeFound) → x ≡ among (permitted known) rec → Inside known rec x
-    by Missing e = tt
-    by (Of k) e = (inside, sym e)
+    by : (x : Option RecordKind) → x ≡ among (permitted known) rec → Inside known rec x
+    by None e = tt
+    by (Some k) e = (inside, sym e)
 
 -- a record that passes the quick test is right at its place
 right_at_place :
     (header : Header) (w : Walk) (company : List ℕ) (n : ℕ) (before rec : List ℕ) (k : RecordKind) → length rec ≡ 120 → NumberBefore w before
-    → Inside w.place.due rec (Of k) → passes_quick_test k (field 4 10 before) rec ≡ true → judge_record header w company n rec ≡ right k 0
+    → Inside w.place.due rec (Some k) → passes_quick_test k (field 4 10 before) rec ≡ true → judge_record header w company n rec ≡ right k 0
 right_at_place header w company n before rec k whole numbered inside passes =
     let told = quick_test_right k (field 4 10 before) rec passes in
     let known = numbered inside.0 in
@@ -98,7 +97,7 @@ numbered_saturated header w company n rec k c whole found inside =
 -- after one record more the kind and the counts stay, the place moves on, and what is left decides as it did
 pass_one :
     (end : Walk → ℕ → Verdict Totals) (header : Header) (company : List ℕ) (w : Walk) (i : ℕ) (before rec : List ℕ) (recs : List (List ℕ)) (p : Place) (k : RecordKind) → length rec ≡ 120
-    → NumberBefore (at_place w p) before → Inside p.due rec (Of k) → passes_quick_test k (field 4 10 before) rec ≡ true
+    → NumberBefore (at_place w p) before → Inside p.due rec (Some k) → passes_quick_test k (field 4 10 before) rec ≡ true
     → walk_from end header (at_place w p) company i (rec ∷ recs) ≡ walk_from end header (at_place w (place_after p.further k)) company (suc i) recs
 unfolding walk_from
 pass_one end header company w i before rec recs p k whole numbered inside passes =
@@ -139,7 +138,7 @@ pass_begin f from w some within =
 
 -- one record more
 pub pass_next :
-    (f : List ℕ) {from : ℕ} {w : Walk} (i : ℕ) (here : Walk) (k : RecordKind) → Passing f from w i here → i < length f / 120 → Inside here.place.due (record_at i f) (Of k)
+    (f : List ℕ) {from : ℕ} {w : Walk} (i : ℕ) (here : Walk) (k : RecordKind) → Passing f from w i here → i < length f / 120 → Inside here.place.due (record_at i f) (Some k)
     → passes_quick_test k (field 4 10 (record_at (i - 1) f)) (record_at i f) ≡ true → Passing f from w (suc i) (at_place here (place_after here.place.further k))
 pass_next f {from} {w} i here k so_far more inside passes =
     let passed = so_far.passed in

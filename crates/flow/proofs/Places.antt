@@ -16,11 +16,10 @@ use Rattle.records.specs.declared.judged.Counts.{Counts}
 use Rattle.records.specs.declared.kind.RecordKind.{RecordKind}
 use Rattle.flow.specs.Order.{In, permitted, among}
 use Rattle.flow.specs.Walking.{dispositions_with, judge_typed, judge_record, counts_at}
-use Rattle.flow.specs.declared.order.TypeFound.{TypeFound}
-use Rattle.flow.specs.declared.order.TypeFound.TheVariants.{Of, Missing}
 use Rattle.flow.specs.declared.walk.Walk.{Walk}
 use Rattle.flow.proofs.Among.{HasNone, among_tested, none_missing}
 use Rattle.flow.proofs.Exact.{counts_alike}
+use Rattle.std.specs.Prelude.{Option, Some, None}
 
 -- the counts handed to the rules: that of the dispositions may have stopped
 abbrev pub handed : Walk → ℕ → RecordKind → Counts
@@ -43,22 +42,22 @@ module _ (header : Header) (w : Walk) (company : List ℕ) (n : ℕ) (rec : List
     unfolding judge_record
     bad_byte_lem h = rw (eq-eqb (length rec) 120 whole, ne_eqb (bad_byte rec) 0 h)
 
-    by_type : (x : TypeFound) → bad_byte rec ≡ 0 → among (permitted w.place.due) rec ≡ x → judge_record header w company n rec ≡ judge_typed header w company n rec x
+    by_type : (x : Option RecordKind) → bad_byte rec ≡ 0 → among (permitted w.place.due) rec ≡ x → judge_record header w company n rec ≡ judge_typed header w company n rec x
     unfolding judge_record
     by_type x printable e = rw (eq-eqb (length rec) 120 whole, eq-eqb (bad_byte rec) 0 printable, e)
 
-    pub no_type : bad_byte rec ≡ 0 → among (permitted w.place.due) rec ≡ Missing → judge_record header w company n rec ≡ refused 3 2
+    pub no_type : bad_byte rec ≡ 0 → among (permitted w.place.due) rec ≡ None → judge_record header w company n rec ≡ refused 3 2
     unfolding judge_typed
-    no_type printable e = by_type Missing printable e
+    no_type printable e = by_type None printable e
 
-    pub of_type : (k : RecordKind) → bad_byte rec ≡ 0 → among (permitted w.place.due) rec ≡ Of k → judge_record header w company n rec ≡ judge_as k (context header company w.kind (handed w n k)) rec
+    pub of_type : (k : RecordKind) → bad_byte rec ≡ 0 → among (permitted w.place.due) rec ≡ Some k → judge_record header w company n rec ≡ judge_as k (context header company w.kind (handed w n k)) rec
     unfolding judge_typed
-    of_type k printable e = by_type (Of k) printable e ∙ handed_alike k
+    of_type k printable e = by_type (Some k) printable e ∙ handed_alike k
 
     -- a record of a permitted type is judged by the rules of its kind
     pub judged_of : (k : RecordKind) → bad_byte rec ≡ 0 → In k (permitted w.place.due) → has_type k rec ≡ true → judge_record header w company n rec ≡ judge_as k (context header company w.kind (counts_at w n k)) rec
     unfolding judge_typed
-    judged_of k printable i t = by_type (Of k) printable (among_tested (permitted w.place.due) rec k i t)
+    judged_of k printable i t = by_type (Some k) printable (among_tested (permitted w.place.due) rec k i t)
 
     -- one of none of them by 3
     pub judged_none : bad_byte rec ≡ 0 → HasNone (permitted w.place.due) rec → judge_record header w company n rec ≡ refused 3 2

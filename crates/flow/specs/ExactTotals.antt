@@ -6,8 +6,7 @@ use Rattle.records.specs.Amount.{amount_in}
 use Rattle.records.specs.FlowKinds.{kind_in, or_requests, first_known}
 use Rattle.records.specs.Kinds.{is_opening}
 use Rattle.records.specs.declared.flow_kind.FlowKind.{FlowKind}
-use Rattle.records.specs.declared.flow_kind.KindFound.{KindFound}
-use Rattle.records.specs.declared.flow_kind.KindFound.TheVariants.{Unknown}
+use Rattle.std.specs.Prelude.{Option, Some, None}
 
 -- the records that open a disposition among records, and the sum of their amounts
 unfoldable pub opening_count : List (List ℕ) → ℕ
@@ -19,9 +18,9 @@ amount_sum [] = 0
 amount_sum (rec ∷ recs) = cond (is_opening rec) (number (amount_in rec)) 0 + amount_sum recs
 
 -- the kind that the first record 14 among records says, where none is known before them; and with requests where there is no 14
-unfoldable pub kind_from : KindFound → List (List ℕ) → KindFound
+unfoldable pub kind_from : Option FlowKind → List (List ℕ) → Option FlowKind
 kind_from q [] = q
 kind_from q (rec ∷ recs) = kind_from (cond (is_opening rec) (first_known q (kind_in rec)) q) recs
 
 abbrev pub kind_of : List (List ℕ) → FlowKind
-kind_of recs = or_requests (kind_from Unknown recs)
+kind_of recs = or_requests (kind_from None recs)

@@ -10,19 +10,19 @@ use Rattle.flow.specs.Records.{record_at, records_from}
 use Rattle.flow.specs.Verdict.{Verdict}
 use Rattle.flow.specs.declared.answer.Totals.{Totals}
 use Rattle.flow.specs.declared.order.Due.{Due}
-use Rattle.flow.specs.declared.order.TypeFound.{TypeFound}
-use Rattle.flow.specs.declared.order.TypeFound.TheVariants.{Of, Missing}
 use Rattle.flow.specs.declared.order.Place.{Place}
 use Rattle.flow.specs.declared.walk.Walk.{Walk}
+use Rattle.records.specs.declared.kind.RecordKind.{RecordKind}
+use Rattle.std.specs.Prelude.{Option, Some, None}
 
 -- a disposition goes on here: a record is due, and whichever may come goes on with it
 abbrev pub is_inside : Due → Bool
 is_inside due = is_due (permitted due) && all_go_on (permitted due)
 
 -- what is known of a record whose kind was found where a disposition goes on
-abbrev pub Inside : Due → List ℕ → TypeFound → Type 0
-Inside due rec Missing = Unit
-Inside due rec (Of k) = (is_inside due ≡ true) × (among (permitted due) rec ≡ Of k)
+abbrev pub Inside : Due → List ℕ → Option RecordKind → Type 0
+Inside due rec None = Unit
+Inside due rec (Some k) = (is_inside due ≡ true) × (among (permitted due) rec ≡ Some k)
 
 -- inside a disposition, 4-10 of the record before are digits and give its number
 abbrev pub NumberBefore : Walk → List ℕ → Type 0

@@ -6,9 +6,8 @@ use Rattle.records.specs.declared.kind.RecordKind.{RecordKind}
 use Rattle.records.specs.declared.kind.RecordKind.TheVariants.{Im, R14, R16, R20, R30, R40, R50, R59, R51, R70, Ef}
 use Rattle.flow.specs.declared.order.Due.{Due}
 use Rattle.flow.specs.declared.order.Due.TheVariants.{OnlyIm, OnlyR14, R16OrR20, OnlyR20, OnlyR30, OnlyR40, R50OrR59, R59OrR51, OnlyR51, OnlyR70, R14OrEf, Nothing}
-use Rattle.flow.specs.declared.order.TypeFound.{TypeFound}
-use Rattle.flow.specs.declared.order.TypeFound.TheVariants.{Of, Missing}
 use Rattle.flow.specs.declared.order.Place.{Place}
+use Rattle.std.specs.Prelude.{Option, Some, None}
 
 -- the kinds of record that may come next
 abbrev pub permitted : Due → List RecordKind
@@ -64,6 +63,6 @@ place_after n R70 = place_due R14OrEf
 place_after n Ef = place_due Nothing
 
 -- the kind of a record among those permitted
-unfoldable pub among : List RecordKind → List ℕ → TypeFound
-among [] rec = Missing
-among (k ∷ ks) rec = cond (has_type k rec) (Of k) (among ks rec)
+unfoldable pub among : List RecordKind → List ℕ → Option RecordKind
+among [] rec = None
+among (k ∷ ks) rec = cond (has_type k rec) (Some k) (among ks rec)

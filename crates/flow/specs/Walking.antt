@@ -9,25 +9,23 @@ use Rattle.records.specs.RecordVerdict.{RecordVerdict, refused}
 use Rattle.records.specs.Judge.{judge_as}
 use Rattle.records.specs.Kinds.{opens, opened}
 use Rattle.records.specs.Limits.{count_limit, cents_limit}
-use Rattle.records.specs.declared.flow_kind.KindFound.{KindFound}
-use Rattle.records.specs.declared.flow_kind.KindFound.TheVariants.{Unknown}
 use Rattle.records.specs.declared.judged.Counts.{Counts}
 use Rattle.records.specs.declared.kind.RecordKind.{RecordKind}
 use Rattle.flow.specs.Order.{permitted, place_due, place_after, among}
 use Rattle.flow.specs.declared.order.Due.TheVariants.{OnlyIm}
-use Rattle.flow.specs.declared.order.TypeFound.{TypeFound}
-use Rattle.flow.specs.declared.order.TypeFound.TheVariants.{Of, Missing}
 use Rattle.flow.specs.declared.walk.Walk.{Walk}
+use Rattle.records.specs.declared.flow_kind.FlowKind.{FlowKind}
+use Rattle.std.specs.Prelude.{Option, Some, None}
 
 abbrev pub start : Walk
-start = record { place = place_due OnlyIm; kind = Unknown; dispositions = 0; cents = 0 }
+start = record { place = place_due OnlyIm; kind = None; dispositions = 0; cents = 0 }
 
 -- the dispositions up to and with a record of the kind
 abbrev pub dispositions_with : Walk → RecordKind → ℕ
 dispositions_with w k = w.dispositions + opened k
 
 -- the kind of flow after a record of the kind: the first record 14 decides it (document 02, E1)
-abbrev pub kind_after : KindFound → RecordKind → List ℕ → KindFound
+abbrev pub kind_after : Option FlowKind → RecordKind → List ℕ → Option FlowKind
 kind_after q k rec = cond (opens k) (first_known q (kind_in rec)) q
 
 -- the state after a right record of the kind that asks for c cents
@@ -51,9 +49,9 @@ abbrev pub counts_at : Walk → ℕ → RecordKind → Counts
 counts_at w n k = record { dispositions = dispositions_with w k; cents = w.cents; records = n }
 
 -- number 3 where no permitted type stands at 2-3, else what the rules of its kind find
-unfoldable pub judge_typed : Header → Walk → List ℕ → ℕ → List ℕ → TypeFound → RecordVerdict
-judge_typed header w company n rec Missing = refused 3 2
-judge_typed header w company n rec (Of k) = judge_as k (context header company w.kind (counts_at w n k)) rec
+unfoldable pub judge_typed : Header → Walk → List ℕ → ℕ → List ℕ → Option RecordKind → RecordVerdict
+judge_typed header w company n rec None = refused 3 2
+judge_typed header w company n rec (Some k) = judge_as k (context header company w.kind (counts_at w n k)) rec
 
 -- the n-th record of a flow, in the order of document 01: 2 at its lowest byte, then 3, then its kind's checks
 unfoldable pub judge_record : Header → Walk → List ℕ → ℕ → List ℕ → RecordVerdict

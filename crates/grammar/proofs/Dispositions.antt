@@ -16,7 +16,6 @@ use Rattle.records.specs.Context.{Header}
 use Rattle.records.specs.FlowKinds.{kind_in, first_known}
 use Rattle.records.specs.Judge.{asked}
 use Rattle.records.specs.Kinds.{opens, goes_on, opened}
-use Rattle.records.specs.declared.flow_kind.KindFound.{KindFound}
 use Rattle.records.specs.declared.kind.RecordKind.{RecordKind}
 use Rattle.records.specs.declared.kind.RecordKind.TheVariants.{Im, R14, R16, R20, R30, R40, R50, R59, R51, R70, Ef}
 use Rattle.flow.specs.Walking.{kind_after, step, company_after}
@@ -31,6 +30,8 @@ use Rattle.grammar.proofs.Order.{Allowed, allowed_before, allowed_after}
 use Rattle.grammar.proofs.Rules.{Agrees, member_rules}
 use Rattle.grammar.proofs.KindsOfFlow.{SomeKind, kind_through, Kindred}
 use Rattle.grammar.proofs.Walked.{state_after, code_after, Walked, walked_append, state_append, walked_allowed, state_place}
+use Rattle.records.specs.declared.flow_kind.FlowKind.{FlowKind}
+use Rattle.std.specs.Prelude.{Option, Some, None}
 
 -- a kind of record that stands in a disposition and does not open it
 abbrev pub Detail : RecordKind → Type 0
@@ -137,7 +138,7 @@ member_exact h w code i n r not-header not-trailer number-due =
       },
     )
 
-detail_agrees : (k : RecordKind) (code : List ℕ) (q : KindFound) (rec : List ℕ) → Detail k → Agrees k code q rec
+detail_agrees : (k : RecordKind) (code : List ℕ) (q : Option FlowKind) (rec : List ℕ) → Detail k → Agrees k code q rec
 detail_agrees k code q rec = each_detail (λ (l : RecordKind). Agrees l code q rec) (tt, (tt, (tt, (tt, (tt, (tt, (tt, (tt, tt)))))))) k
 
 details_exact :
@@ -212,7 +213,7 @@ dispositions_state w (d ∷ ds) shape =
     let count = ap (λ (v : Walk). v.dispositions) same in
     let cents = ap (λ (v : Walk). v.cents) same in
     let kind = ap (λ (v : Walk). v.kind) same in
-    (omega arith, omega arith, kind ∙ rest.2 ∙ ap (λ (q : KindFound). kind_through q (map opening ds)) one.3)
+    (omega arith, omega arith, kind ∙ rest.2 ∙ ap (λ (q : Option FlowKind). kind_through q (map opening ds)) one.3)
 
 -- dispositions numbered after n
 pub dispositions_exact :
@@ -233,10 +234,10 @@ dispositions_exact h w code i n (d ∷ ds) shape same =
           let both = parts.0 walked in
           let front = one.0 both.0 in
           let back = rest.0 both.1 in
-          (walked_allowed h w code i (d ++ flatten ds) walked, (front.1, back.1), ((front.2.0, subst (λ (c : List ℕ). Agreeing c (map disposition_code ds)) state.2 back.2.0), (front.2.1, subst (λ (q : KindFound). Kindred q (map opening ds)) state.3 back.2.1))),
+          (walked_allowed h w code i (d ++ flatten ds) walked, (front.1, back.1), ((front.2.0, subst (λ (c : List ℕ). Agreeing c (map disposition_code ds)) state.2 back.2.0), (front.2.1, subst (λ (q : Option FlowKind). Kindred q (map opening ds)) state.3 back.2.1))),
       λ g.
           let allowed = subst (Allowed w.place) kinds g.0 in
           let front = one.1 (allowed_before w.place (kinds_of d) (kinds_of (flatten ds)) allowed, g.1.0, (g.2.0.0, g.2.1.0)) in
           let here = subst (λ (p : Place). Allowed p (kinds_of (flatten ds))) (sym (state_place w d)) (allowed_after w.place (kinds_of d) (kinds_of (flatten ds)) allowed) in
-          parts.1 (front, rest.1 (here, g.1.1, (subst (λ (c : List ℕ). Agreeing c (map disposition_code ds)) (sym state.2) g.2.0.1, subst (λ (q : KindFound). Kindred q (map opening ds)) (sym state.3) g.2.1.1))),
+          parts.1 (front, rest.1 (here, g.1.1, (subst (λ (c : List ℕ). Agreeing c (map disposition_code ds)) (sym state.2) g.2.0.1, subst (λ (q : Option FlowKind). Kindred q (map opening ds)) (sym state.3) g.2.1.1))),
     )

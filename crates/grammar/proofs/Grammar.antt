@@ -20,8 +20,6 @@ use Rattle.records.specs.RecordVerdict.{Hold}
 use Rattle.records.specs.Limits.{cents_limit, count_limit}
 use Rattle.records.specs.declared.flow_kind.FlowKind.{FlowKind}
 use Rattle.records.specs.declared.flow_kind.FlowKind.TheVariants.{Requests, Recalls}
-use Rattle.records.specs.declared.flow_kind.KindFound.{KindFound}
-use Rattle.records.specs.declared.flow_kind.KindFound.TheVariants.{Unknown}
 use Rattle.records.specs.declared.kind.RecordKind.{RecordKind}
 use Rattle.records.specs.declared.kind.RecordKind.TheVariants.{Im, Ef}
 use Rattle.flow.specs.Judge.{walk_totals, ended, judge}
@@ -53,6 +51,7 @@ use Rattle.grammar.proofs.KindsOfFlow.{kind_through, Kindred, first_tells, all_k
 use Rattle.grammar.proofs.Order.{Allowed, allowed_before, allowed_after, order_runs}
 use Rattle.grammar.proofs.Rules.{header_rules, trailer_rules, said_below}
 use Rattle.grammar.proofs.Walked.{state_after, code_after, Walked, walked_append, walked_formed, formed_whole, state_append, state_place, Outcome, all_right, stops, outcome}
+use Rattle.std.specs.Prelude.{Option, Some, None}
 
 -- records in the order of a flow are a header, dispositions and a trailer; of a kind that is handed in
 pub record TakenApart (q : FlowKind) (rs : List Typed) : Type 0 where
@@ -141,17 +140,17 @@ module _ (p : Parts) (some : 1 ≤ disposition_count p) (shape : InShape p.dispo
       (λ hold. subst (λ (A : Type 0). A) same (rules.0 hold), λ said. rules.1 (subst (λ (A : Type 0). A) (sym same) said))
 
   -- it is known after the dispositions: all have one kind, and the first tells it
-  one-kind-said : Kindred Unknown (map opening p.dispositions) → KindSaid p → All (KindRules p.kind) (map opening p.dispositions)
+  one-kind-said : Kindred None (map opening p.dispositions) → KindSaid p → All (KindRules p.kind) (map opening p.dispositions)
   one-kind-said kindred kind = go p.dispositions some kindred (sym (ap or_requests (dispositions_state after_header p.dispositions shape).2) ∙ kind)
     where
-      go : (ds : List (List Typed)) → 1 ≤ length ds → Kindred Unknown (map opening ds) → or_requests (kind_through Unknown (map opening ds)) ≡ p.kind → All (KindRules p.kind) (map opening ds)
+      go : (ds : List (List Typed)) → 1 ≤ length ds → Kindred None (map opening ds) → or_requests (kind_through None (map opening ds)) ≡ p.kind → All (KindRules p.kind) (map opening ds)
       go [] none k e = absurd (omega arith)
       go (d ∷ ds) some k e = subst (λ (q : FlowKind). All (KindRules q) (map opening (d ∷ ds))) e (first_tells (opening d) (map opening ds) k)
 
   kind-known : All (KindRules p.kind) (map opening p.dispositions) → KindSaid p
   kind-known kinds = go p.dispositions some kinds (dispositions_state after_header p.dispositions shape).2
     where
-      go : (ds : List (List Typed)) {q : KindFound} → 1 ≤ length ds → All (KindRules p.kind) (map opening ds) → q ≡ kind_through Unknown (map opening ds) → or_requests q ≡ p.kind
+      go : (ds : List (List Typed)) {q : Option FlowKind} → 1 ≤ length ds → All (KindRules p.kind) (map opening ds) → q ≡ kind_through None (map opening ds) → or_requests q ≡ p.kind
       go [] none k e = absurd (omega arith)
       go (d ∷ ds) some k e = ap or_requests (e ∙ all_through p.kind (opening d) (map opening ds) k)
 
@@ -168,7 +167,7 @@ module _ (p : Parts) (some : 1 ≤ disposition_count p) (shape : InShape p.dispo
       end : Typed
       end = record { kind = Ef; bytes = p.trailer }
 
-      middle : Walked h after_header [] 1 ms ↔ (Allowed after_header.place (kinds_of ms) × RightDispositions h.abi 1 p.dispositions × (Agreeing [] (map disposition_code p.dispositions) × Kindred Unknown (map opening p.dispositions)))
+      middle : Walked h after_header [] 1 ms ↔ (Allowed after_header.place (kinds_of ms) × RightDispositions h.abi 1 p.dispositions × (Agreeing [] (map disposition_code p.dispositions) × Kindred None (map opening p.dispositions)))
       middle = dispositions_exact h after_header [] 1 1 p.dispositions shape refl
 
       codes_exact : RightDispositions h.abi 1 p.dispositions → Agreeing [] (map disposition_code p.dispositions) ↔ AllEqual (map disposition_code p.dispositions)
@@ -199,7 +198,7 @@ module _ (p : Parts) (some : 1 ≤ disposition_count p) (shape : InShape p.dispo
           let may = (subst (λ (q : Place). Allowed q (Ef ∷ [])) (sym (state_place after_header ms)) (allowed_after (place_due OnlyR14) (kinds_of ms) (Ef ∷ []) allowed)).0 in
           let heading : RightAt h start [] 1 Im p.header = record { may = inl refl; formed = r.header_formed; keeps = (header_rules (asks h start [] 1 Im) p.header).1 r.header_rules } in
           let closing : RightAt h (state_after after_header ms) (code_after [] ms) (suc (1 + length ms)) Ef p.trailer = record { may = may; formed = r.trailer_formed; keeps = (trailer-said h (code_after [] ms) (kind-known r.kinds)).1 r.trailer_rules } in
-          let within = middle.1 (allowed_before (place_due OnlyR14) (kinds_of ms) (Ef ∷ []) allowed, r.each, ((codes_exact r.each).1 r.codes, all_kindred Unknown p.kind (map opening p.dispositions) refl r.kinds)) in
+          let within = middle.1 (allowed_before (place_due OnlyR14) (kinds_of ms) (Ef ∷ []) allowed, r.each, ((codes_exact r.each).1 r.codes, all_kindred None p.kind (map opening p.dispositions) refl r.kinds)) in
           (heading, parts.1 (within, (closing, tt)))
 
   -- the totals after all of them

@@ -10,8 +10,6 @@ use Rattle.records.specs.FlowKinds.{kind_in, is_known, first_known}
 use Rattle.records.specs.RecordVerdict.{Hold}
 use Rattle.records.specs.Judge.{asked}
 use Rattle.records.specs.Kinds.{opens}
-use Rattle.records.specs.declared.flow_kind.KindFound.{KindFound}
-use Rattle.records.specs.declared.flow_kind.KindFound.TheVariants.{Of, Unknown}
 use Rattle.records.specs.declared.kind.RecordKind.{RecordKind}
 use Rattle.records.specs.declared.kind.RecordKind.TheVariants.{Im, R14}
 use Rattle.flow.specs.Order.{In, permitted, may_close, place_after}
@@ -22,6 +20,8 @@ use Rattle.flow.specs.declared.walk.Walk.{Walk}
 use Rattle.grammar.specs.Grammar.{Typed}
 use Rattle.grammar.proofs.AtPlace.{asks, RightAt}
 use Rattle.grammar.proofs.Walked.{state_after, Walked}
+use Rattle.records.specs.declared.flow_kind.FlowKind.{FlowKind}
+use Rattle.std.specs.Prelude.{Option, Some, None}
 
 -- the kind is known, or the first record 14 is still to come
 abbrev Early : Walk → Type 0
@@ -35,10 +35,10 @@ early_on : (h : Header) (w : Walk) (code : List ℕ) (i : ℕ) (k : RecordKind) 
 unfolding checks
 early_on h w code i k rec right-at (inl known) = inl (stays w.kind known (kind_in rec) (opens k))
   where
-    stays : (q : KindFound) → is_known q ≡ true → (x : KindFound) (b : Bool) → is_known (cond b (first_known q x) q) ≡ true
-    stays (Of p) e x true = refl
-    stays (Of p) e x false = refl
-    stays Unknown e x b = absurd (true≢false (sym e))
+    stays : (q : Option FlowKind) → is_known q ≡ true → (x : Option FlowKind) (b : Bool) → is_known (cond b (first_known q x) q) ≡ true
+    stays (Some p) e x true = refl
+    stays (Some p) e x false = refl
+    stays None e x b = absurd (true≢false (sym e))
 early_on h w code i k rec right-at (inr (inl due)) =
     let im : k ≡ Im = only (subst (λ (d : Due). In k (permitted d)) due right-at.may) in
     inr (inr (ap (λ (l : RecordKind). (place_after w.place.further l).due) im))
@@ -47,9 +47,9 @@ early_on h w code i k rec right-at (inr (inr due)) =
     let keeps : Hold (checks R14 (asks h w code i R14) rec) = subst (λ (l : RecordKind). Hold (checks l (asks h w code i l) rec)) opening right-at.keeps in
     inl (ap (λ (l : RecordKind). is_known (kind_after w.kind l rec)) opening ∙ told w.kind (kind_in rec) keeps.1.1.1.1.0)
   where
-    told : (q x : KindFound) → is_known x ≡ true → is_known (first_known q x) ≡ true
-    told (Of p) x e = refl
-    told Unknown x e = e
+    told : (q x : Option FlowKind) → is_known x ≡ true → is_known (first_known q x) ≡ true
+    told (Some p) x e = refl
+    told None x e = e
 
 early_all : (h : Header) (w : Walk) (code : List ℕ) (i : ℕ) (rs : List Typed) → Walked h w code i rs → Early w → Early (state_after w rs)
 early_all h w code i [] walked early = early

@@ -34,7 +34,6 @@ use Rattle.records.specs.FlowKinds.{total_at, or_requests}
 use Rattle.records.specs.RecordVerdict.{Check, check, Hold}
 use Rattle.records.specs.declared.flow_kind.FlowKind.{FlowKind}
 use Rattle.records.specs.declared.flow_kind.FlowKind.TheVariants.{Requests, Recalls}
-use Rattle.records.specs.declared.flow_kind.KindFound.{KindFound}
 use Rattle.records.specs.declared.judged.Counts.{Counts}
 use Rattle.records.specs.declared.kind.RecordKind.{RecordKind}
 use Rattle.records.specs.declared.kind.RecordKind.TheVariants.{Im, R14, R16, R20, R30, R40, R50, R59, R51, R70, Ef}
@@ -42,6 +41,7 @@ use Rattle.records.proofs.Printable.{no_bad_byte}
 use Rattle.flow.specs.declared.answer.Totals.{Totals}
 use Rattle.grammar.specs.Rules.{Digits, Blank, Present, Says, Printable, HeaderRules, DispositionRules, CoordinatesRules, BesideNumber, MemberRules, TotalRules, TrailerRules}
 use Rattle.grammar.proofs.KindsOfFlow.{SomeKind, some-kind}
+use Rattle.std.specs.Prelude.{Option, Some, None}
 
 -- tests joined, and what they say
 either : {A B : Type 0} {a b : Bool} → (a ≡ true) ↔ A → (b ≡ true) ↔ B → ((a || b) ≡ true) ↔ (A ⊎ B)
@@ -77,7 +77,6 @@ day_exact bs = (day-said (day_of bs), day_tested (day_of bs))
 
 -- one of the listed bytes
 pub listed_exact : (b : ℕ) (xs : List ℕ) → (is_listed b xs ≡ true) ↔ Memᴰ b xs
-unfolding is_listed
 listed_exact b [] = (λ t. absurd (false≢true t), λ h. absurd (Memᴰ.not-nil h))
 listed_exact b (x ∷ xs) =
     let here = either (number_exact b x) (listed_exact b xs) in
@@ -162,7 +161,7 @@ header_rules ctx rec =
 
 -- what row 14 says of it beside the records before it: its company code is compared with the first one, its kind with the one found so
 -- far; no other record is
-abbrev pub Agrees : RecordKind → List ℕ → KindFound → List ℕ → Type 0
+abbrev pub Agrees : RecordKind → List ℕ → Option FlowKind → List ℕ → Type 0
 Agrees Im company q rec = Unit
 Agrees R14 company q rec = (agrees company (company_in rec) ≡ true) × SomeKind q rec
 Agrees R16 company q rec = Unit
@@ -175,7 +174,7 @@ Agrees R51 company q rec = Unit
 Agrees R70 company q rec = Unit
 Agrees Ef company q rec = Unit
 
-disposition_rules : (abi company : List ℕ) (q : KindFound) (rec : List ℕ) → Hold (disposition_checks abi company q rec) ↔ (DispositionRules abi rec × ((agrees company (company_in rec) ≡ true) × SomeKind q rec))
+disposition_rules : (abi company : List ℕ) (q : Option FlowKind) (rec : List ℕ) → Hold (disposition_checks abi company q rec) ↔ (DispositionRules abi rec × ((agrees company (company_in rec) ≡ true) × SomeKind q rec))
 disposition_rules abi company q rec =
     Iff.trans
     (digits_exact (field 23 28 rec)

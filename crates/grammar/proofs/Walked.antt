@@ -15,7 +15,6 @@ use Rattle.records.specs.FlowKinds.{kind_in, first_known}
 use Rattle.records.specs.Judge.{asked}
 use Rattle.records.specs.Kinds.{is_opening, opens, opened}
 use Rattle.records.proofs.ByKind.{type_tested, opens-type}
-use Rattle.records.specs.declared.flow_kind.KindFound.{KindFound}
 use Rattle.flow.specs.Judge.{walk_from}
 use Rattle.flow.specs.Walking.{kind_after, step, company_after}
 use Rattle.flow.specs.ExactTotals.{opening_count, amount_sum, kind_from}
@@ -29,6 +28,8 @@ use Rattle.grammar.specs.Rules.{Formed}
 use Rattle.grammar.proofs.AtPlace.{RightAt, FaultAt, Judgement, right_judged, fault_judged, judgement}
 use Rattle.grammar.proofs.Codes.{code_stands, first_found, none_later, found_stays}
 use Rattle.grammar.proofs.Order.{place_through, Allowed}
+use Rattle.records.specs.declared.flow_kind.FlowKind.{FlowKind}
+use Rattle.std.specs.Prelude.{Option, Some, None}
 
 -- the state, and the company code, after records
 abbrev pub state_after : Walk → List Typed → Walk
@@ -152,4 +153,4 @@ state_counts w code (r ∷ rs) formed =
     let company : company_after code k rec ≡ cond (is_opening rec && is_none code) (company_in rec) code = ap (λ (b : Bool). cond (b && is_none code) (company_in rec) code) opens_so in
     let later : List ℕ = company_of (records_in rs) in
     let kind : kind_after w.kind k rec ≡ cond (is_opening rec) (first_known w.kind (kind_in rec)) w.kind = ap (λ (b : Bool). cond b (first_known w.kind (kind_in rec)) w.kind) opens_so in
-    (omega arith, omega arith, rest.2 ∙ ap (λ (c : List ℕ). first_found c later) company ∙ found_stays code (company_in rec) later (is_opening rec) (code_stands rec formed.0.whole), rest.3 ∙ ap (λ (q : KindFound). kind_from q (records_in rs)) kind)
+    (omega arith, omega arith, rest.2 ∙ ap (λ (c : List ℕ). first_found c later) company ∙ found_stays code (company_in rec) later (is_opening rec) (code_stands rec formed.0.whole), rest.3 ∙ ap (λ (q : Option FlowKind). kind_from q (records_in rs)) kind)

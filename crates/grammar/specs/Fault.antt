@@ -8,7 +8,6 @@ use Rattle.records.specs.Context.{Context, context, header_of}
 use Rattle.records.specs.Field.{field}
 use Rattle.records.specs.RecordVerdict.{Hold, FirstBroken}
 use Rattle.records.specs.Kinds.{type_of, is_opening, opens}
-use Rattle.records.specs.declared.flow_kind.KindFound.TheVariants.{Unknown}
 use Rattle.records.specs.declared.kind.RecordKind.{RecordKind}
 use Rattle.flow.specs.Records.{RightLength, records_of}
 use Rattle.flow.specs.ExactTotals.{opening_count, amount_sum, kind_from}
@@ -16,6 +15,7 @@ use Rattle.flow.specs.Verdict.{refusal, of_call}
 use Rattle.flow.specs.declared.answer.Refusal.{Refusal}
 use Rattle.grammar.specs.Rules.{Printable}
 use Rattle.grammar.specs.Shape.{InOrder}
+use Rattle.std.specs.Prelude.{Option, Some, None}
 
 -- the types of the records are those of the kinds
 abbrev pub HaveKinds : List RecordKind → List (List ℕ) → Type 0
@@ -36,7 +36,7 @@ company_of (rec ∷ recs) = cond (is_opening rec) (company_in rec) (company_of r
 -- what the checks of a record of the kind are asked with, after the records `before` of the flow f
 abbrev pub context_after : List ℕ → List (List ℕ) → RecordKind → Context
 context_after f before k =
-    context (header_of (take 120 f)) (company_of before) (kind_from Unknown before)
+    context (header_of (take 120 f)) (company_of before) (kind_from None before)
     (record { dispositions = opening_count before + cond (opens k) 1 0; cents = amount_sum before; records = suc (length before) })
 
 -- the record keeps its rules where the records `before` of the flow f stand before it

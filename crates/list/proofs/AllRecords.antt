@@ -29,31 +29,30 @@ use Rattle.list.specs.ReadBack.{item_of, items_of}
 use Rattle.list.specs.Table.{rows_of, record_of, first_row, row_in}
 use Rattle.list.specs.declared.table.ItemKind.{ItemKind}
 use Rattle.list.specs.declared.table.ItemKind.TheVariants.{H}
-use Rattle.list.specs.declared.table.Row.{Row}
-use Rattle.list.specs.declared.table.Row.TheVariants.{Of, Missing}
 use Rattle.list.proofs.ItemKinds.{each_item}
 use Rattle.list.proofs.OneRecord.{encoded-length, encoded-type, encoded-body}
 use Rattle.list.proofs.Placing.{Fits, Matches, InRow, fill-length, row_stands}
+use Rattle.std.specs.Prelude.{Option, Some, None}
 
 -- an item that may stand in the list of a flow of the kind: it is no header's, or that kind's
 abbrev pub Suits : FlowKind → ItemKind → Type 0
 Suits q k = kind_meant q k ≡ q
 
 -- the row of a record, by its type: that of an item's record is the item's, and EF has none
-abbrev row_for : FlowKind → List ℕ → Row
+abbrev row_for : FlowKind → List ℕ → Option ItemKind
 row_for q type = first_row (λ (l : ItemKind). is_equal type (type_of (record_of l))) (rows_of q)
 
-row_typed : (q : FlowKind) (k : ItemKind) → Suits q k → row_for q (type_of (record_of k)) ≡ Of k
+row_typed : (q : FlowKind) (k : ItemKind) → Suits q k → row_for q (type_of (record_of k)) ≡ Some k
 unfolding first_row is_equal
-row_typed q = each_item (λ (k : ItemKind). Suits q k → row_for q (type_of (record_of k)) ≡ Of k) (own, (own, (λ e. refl, (λ e. refl, (λ e. refl, (λ e. refl, (λ e. refl, (λ e. refl, (λ e. refl, (λ e. refl, (λ e. refl, tt)))))))))))
+row_typed q = each_item (λ (k : ItemKind). Suits q k → row_for q (type_of (record_of k)) ≡ Some k) (own, (own, (λ e. refl, (λ e. refl, (λ e. refl, (λ e. refl, (λ e. refl, (λ e. refl, (λ e. refl, (λ e. refl, (λ e. refl, tt)))))))))))
   where
-    own : {p : FlowKind} → p ≡ q → Of (H q) ≡ Of (H p)
-    own e = ap (λ (p : FlowKind). Of (H p)) (sym e)
+    own : {p : FlowKind} → p ≡ q → Some (H q) ≡ Some (H p)
+    own e = ap (λ (p : FlowKind). Some (H p)) (sym e)
 
-pub row_in_lem : (q : FlowKind) (k : ItemKind) (rec : List ℕ) → Suits q k → field 2 3 rec ≡ type_of (record_of k) → row_in q rec ≡ Of k
+pub row_in_lem : (q : FlowKind) (k : ItemKind) (rec : List ℕ) → Suits q k → field 2 3 rec ≡ type_of (record_of k) → row_in q rec ≡ Some k
 row_in_lem q k rec suits e = ap (row_for q) e ∙ row_typed q k suits
 
-pub no_row_in : (q : FlowKind) (rec : List ℕ) → field 2 3 rec ≡ type_of Ef → row_in q rec ≡ Missing
+pub no_row_in : (q : FlowKind) (rec : List ℕ) → field 2 3 rec ≡ type_of Ef → row_in q rec ≡ None
 unfolding first_row is_equal
 no_row_in q rec e = ap (row_for q) e
 
@@ -139,7 +138,7 @@ encoded-count n header (it ∷ is) = ap suc (encoded-count (n + opened (record_k
 -- whose items are those that they were encoded from
 one-item : (q : FlowKind) (n : ℕ) (header : HeaderMeant) (it : Item) → Proper it → Suits q it.kind → item_of q (encode_item n header it) ≡ it ∷ []
 one-item q n header it proper suits =
-    let row : row_in q (encode_item n header it) ≡ Of it.kind = row_in_lem q it.kind (encode_item n header it) suits (encoded-type n header it proper) in
+    let row : row_in q (encode_item n header it) ≡ Some it.kind = row_in_lem q it.kind (encode_item n header it) suits (encoded-type n header it proper) in
     rw (row, encoded-body n header it proper)
 
 abbrev pub AllSuit : FlowKind → List Item → Type 0

@@ -23,7 +23,7 @@ use Rattle.list.specs.Table.{first_row}
 use Rattle.list.specs.Write.{judge_items, judge_list}
 
 pub examples : ListExamples
-unfolding kind_among kind_from judge walk_from cut judge_record judge_typed among judge_as first_fault checks is_listed bad_from is_equal number_from digits is_day days_in is_leap flatten fill body_placed encode_item encode_trailer encode_from last_header list_dispositions list_cents items_from judge_room first_row judge_items judge_list
+unfolding kind_among kind_from judge walk_from cut judge_record judge_typed among judge_as first_fault checks bad_from is_equal number_from digits is_day days_in is_leap flatten fill body_placed encode_item encode_trailer encode_from last_header list_dispositions list_cents items_from judge_room first_row judge_items judge_list
 examples =
     record {
       bodies = refl;

@@ -13,8 +13,7 @@ use Rattle.records.specs.declared.flow_kind.FlowKind.TheVariants.{Requests, Reca
 use Rattle.list.specs.Encode.{kind_meant}
 use Rattle.list.specs.declared.table.ItemKind.{ItemKind}
 use Rattle.list.specs.declared.table.ItemKind.TheVariants.{H, D, S, C, B, A, R, X, K, Z}
-use Rattle.list.specs.declared.table.Row.{Row}
-use Rattle.list.specs.declared.table.Row.TheVariants.{Of, Missing}
+use Rattle.std.specs.Prelude.{Option, Some, None}
 
 pub each_item : (P : ItemKind → Type 0) → All P rows → (k : ItemKind) → P k
 each_item P all (H Recalls) = all.0
@@ -30,29 +29,29 @@ each_item P all K = all.1.1.1.1.1.1.1.1.1.0
 each_item P all Z = all.1.1.1.1.1.1.1.1.1.1.0
 
 -- a row is of one kind, or missing
-pub of_same : {k l : ItemKind} → Of k ≡ Of l → k ≡ l
-of_same {k} e = ap (λ (r : Row). with_row r (λ (m : ItemKind). m) k) e
+pub of_same : {k l : ItemKind} → Some k ≡ Some l → k ≡ l
+of_same {k} e = ap (λ (r : Option ItemKind). with_row r (λ (m : ItemKind). m) k) e
 
-pub not_missing : {k : ItemKind} → Of k ≡ Missing → ⊥
-not_missing e = true≢false (ap (λ (r : Row). with_row r (λ (m : ItemKind). true) false) e)
+pub not_missing : {k : ItemKind} → Some k ≡ None → ⊥
+not_missing e = true≢false (ap (λ (r : Option ItemKind). with_row r (λ (m : ItemKind). true) false) e)
 
 -- the first row that passes a test does pass
-pub first_passes : (p : ItemKind → Bool) (ks : List ItemKind) (k : ItemKind) → first_row p ks ≡ Of k → p k ≡ true
+pub first_passes : (p : ItemKind → Bool) (ks : List ItemKind) (k : ItemKind) → first_row p ks ≡ Some k → p k ≡ true
 unfolding first_row
 first_passes p [] k e = absurd (not_missing (sym e))
 first_passes p (l ∷ ks) k e = by (p l) refl e (first_passes p ks k)
   where
-    by : (b : Bool) → p l ≡ b → cond b (Of l) (first_row p ks) ≡ Of k → (first_row p ks ≡ Of k → p k ≡ true) → p k ≡ true
+    by : (b : Bool) → p l ≡ b → cond b (Some l) (first_row p ks) ≡ Some k → (first_row p ks ≡ Some k → p k ≡ true) → p k ≡ true
     by true t e rest = ap p (sym (of_same e)) ∙ t
     by false t e rest = rest e
 
 -- a kind byte and its kind tell each other
-pub row-letter : (b : ℕ) (k : ItemKind) → row_of b ≡ Of k → letter k ≡ b
+pub row-letter : (b : ℕ) (k : ItemKind) → row_of b ≡ Some k → letter k ≡ b
 row-letter b k e = sym (eqb-true b (letter k) (first_passes (λ (l : ItemKind). eqb b (letter l)) rows k e))
 
-pub letter-row : (k : ItemKind) → row_of (letter k) ≡ Of k
+pub letter-row : (k : ItemKind) → row_of (letter k) ≡ Some k
 unfolding first_row
-letter-row = each_item (λ (k : ItemKind). row_of (letter k) ≡ Of k) (refl, (refl, (refl, (refl, (refl, (refl, (refl, (refl, (refl, (refl, (refl, tt)))))))))))
+letter-row = each_item (λ (k : ItemKind). row_of (letter k) ≡ Some k) (refl, (refl, (refl, (refl, (refl, (refl, (refl, (refl, (refl, (refl, (refl, tt)))))))))))
 
 -- so no two kinds have one letter
 pub letters-differ : (k l : ItemKind) → letter k ≡ letter l → k ≡ l

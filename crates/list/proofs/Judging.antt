@@ -15,8 +15,6 @@ use Rattle.records.specs.Context.{header_of}
 use Rattle.records.specs.FlowKinds.{kind_in, is_known, or_requests, first_known}
 use Rattle.records.specs.Kinds.{heads, opens, opened, closes, is_opening}
 use Rattle.records.specs.declared.flow_kind.FlowKind.{FlowKind}
-use Rattle.records.specs.declared.flow_kind.KindFound.{KindFound}
-use Rattle.records.specs.declared.flow_kind.KindFound.TheVariants.{Of, Unknown}
 use Rattle.records.specs.declared.kind.RecordKind.{RecordKind}
 use Rattle.records.specs.declared.kind.RecordKind.TheVariants.{Ef}
 use Rattle.records.proofs.ByKind.{type_tested, opens-type}
@@ -43,6 +41,7 @@ use Rattle.list.proofs.Carried.{in_one}
 use Rattle.list.proofs.ItemKinds.{opens_d, kind_stays}
 use Rattle.list.proofs.OneRecord.{encoded-type, encoded_at, encoded-causale}
 use Rattle.list.proofs.AllRecords.{encoded-whole, encoded-count}
+use Rattle.std.specs.Prelude.{Option, Some, None}
 
 -- the records together
 abbrev pub front : List Item → List ℕ
@@ -164,15 +163,15 @@ header_stays header [] none = refl
 header_stays header (it ∷ is) none = ap (λ (h : HeaderMeant). last_header h is) (header_stays_one header it none.0) ∙ header_stays header is none.1
 
 -- the kind found so far is none, or the one that is meant
-abbrev pub MayMean : KindFound → FlowKind → Type 0
-MayMean x q = first_known x (Of q) ≡ Of q
+abbrev pub MayMean : Option FlowKind → FlowKind → Type 0
+MayMean x q = first_known x (Some q) ≡ Some q
 
-pub meant-known : (x : KindFound) (q : FlowKind) → is_known x ≡ true → MayMean x q → x ≡ Of q
-meant-known (Of p) q known e = e
-meant-known Unknown q known e = absurd (true≢false (sym known))
+pub meant-known : (x : Option FlowKind) (q : FlowKind) → is_known x ≡ true → MayMean x q → x ≡ Some q
+meant-known (Some p) q known e = e
+meant-known None q known e = absurd (true≢false (sym known))
 
 -- a record that is encoded leaves it so
-pub mean_on : (n : ℕ) (header : HeaderMeant) (it : Item) → Proper it → (x : KindFound) → MayMean x header.kind → let rec = encode_item n header it in MayMean (cond (is_opening rec) (first_known x (kind_in rec)) x) header.kind
+pub mean_on : (n : ℕ) (header : HeaderMeant) (it : Item) → Proper it → (x : Option FlowKind) → MayMean x header.kind → let rec = encode_item n header it in MayMean (cond (is_opening rec) (first_known x (kind_in rec)) x) header.kind
 mean_on n header it proper x e = by (is_d it) refl
   where
     rec : List ℕ
@@ -180,12 +179,12 @@ mean_on n header it proper x e = by (is_d it) refl
 
     by : (b : Bool) → is_d it ≡ b → MayMean (cond (is_opening rec) (first_known x (kind_in rec)) x) header.kind
     by true t =
-        let told : kind_in rec ≡ Of header.kind = (kind-told rec header.kind).1 (encoded-causale n header it proper (opens_d it.kind t)) in
+        let told : kind_in rec ≡ Some header.kind = (kind-told rec header.kind).1 (encoded-causale n header it proper (opens_d it.kind t)) in
         rw (encoded-opens n header it proper ∙ t, told, e)
     by false t = rw (encoded-opens n header it proper ∙ t) e
 
 -- and so do records under one header
-kinds-encoded : (n : ℕ) (header : HeaderMeant) (is : List Item) → All Proper is → All (λ (k : RecordKind). heads k ≡ false) (kinds_in is) → (x : KindFound) → MayMean x header.kind → MayMean (kind_from x (encode_from n header is)) header.kind
+kinds-encoded : (n : ℕ) (header : HeaderMeant) (is : List Item) → All Proper is → All (λ (k : RecordKind). heads k ≡ false) (kinds_in is) → (x : Option FlowKind) → MayMean x header.kind → MayMean (kind_from x (encode_from n header is)) header.kind
 unfolding encode_from kind_from
 kinds-encoded n header [] proper none x e = e
 kinds-encoded n header (it ∷ is) proper none x e =
@@ -205,9 +204,9 @@ right-kind-meant it others proper r first none may =
     let header = header_after no_header it in
     let m = 0 + opened (record_kind it) in
     let rec = encode_item m no_header it in
-    let state : (state_after start r.typed).kind ≡ kind_from Unknown (records_for all) = (state_counts start [] r.typed (formed_so (front all) r.typed r.walked)).3 ∙ ap (kind_from Unknown) r.same in
+    let state : (state_after start r.typed).kind ≡ kind_from None (records_for all) = (state_counts start [] r.typed (formed_so (front all) r.typed r.walked)).3 ∙ ap (kind_from None) r.same in
     let shut : is_opening rec ≡ false = encoded-opens m no_header it proper.0 ∙ ap opens (heads_im (record_kind it) first) in
-    let rest : kind_from Unknown (records_for all) ≡ kind_from Unknown (encode_from m header others) = ap (λ (b : Bool). kind_from (cond b (first_known Unknown (kind_in rec)) Unknown) (encode_from m header others)) shut in
-    let mean = kinds-encoded m header others proper.1 none Unknown refl in
-    let known : is_known (kind_from Unknown (encode_from m header others)) ≡ true = ap is_known (sym (state ∙ rest)) ∙ kind_at_close (header_of (take 120 (front all))) [] 0 r.typed r.walked may in
+    let rest : kind_from None (records_for all) ≡ kind_from None (encode_from m header others) = ap (λ (b : Bool). kind_from (cond b (first_known None (kind_in rec)) None) (encode_from m header others)) shut in
+    let mean = kinds-encoded m header others proper.1 none None refl in
+    let known : is_known (kind_from None (encode_from m header others)) ≡ true = ap is_known (sym (state ∙ rest)) ∙ kind_at_close (header_of (take 120 (front all))) [] 0 r.typed r.walked may in
     ap or_requests (state ∙ rest ∙ meant-known _ header.kind known mean) ∙ ap (λ (h : HeaderMeant). h.kind) (sym (header_stays header others none))

@@ -15,10 +15,9 @@ use Rattle.list.specs.Items.{Item, item, Proper, list_bytes, Parsed, items, faul
 use Rattle.list.specs.Laws.{ItemsExact, NoItem, FaultyAt, FaultyExact}
 use Rattle.list.specs.Table.{letter, body_length, row_of}
 use Rattle.list.specs.declared.table.ItemKind.{ItemKind}
-use Rattle.list.specs.declared.table.Row.{Row}
-use Rattle.list.specs.declared.table.Row.TheVariants.{Of, Missing}
 use Rattle.list.proofs.ItemKinds.{of_same, not_missing, row-letter, letter-row}
 use Rattle.list.proofs.Parsing.{body_passed, items-not-faulty}
+use Rattle.std.specs.Prelude.{Option, Some, None}
 
 -- items, and what the bytes after them say
 abbrev pub all_before : List Item → Parsed → Parsed
@@ -50,9 +49,9 @@ no_item_read : (n : ℕ) (rest : List ℕ) → NoItem rest → items_from n 0 re
 unfolding items_from
 no_item_read n rest none = rw none.some (by (row_of none.byte) refl)
   where
-    by : (row : Row) → row_of none.byte ≡ row → items_from n 0 (none.byte ∷ none.rest) ≡ faulty (suc n)
-    by (Of k) e = let cut : leb (body_length k) (length none.rest) ≡ false = lt-leb (body_length k) (length none.rest) (none.short k (row-letter none.byte k e)) in rw (e, cut)
-    by Missing e = rw e
+    by : (row : Option ItemKind) → row_of none.byte ≡ row → items_from n 0 (none.byte ∷ none.rest) ≡ faulty (suc n)
+    by (Some k) e = let cut : leb (body_length k) (length none.rest) ≡ false = lt-leb (body_length k) (length none.rest) (none.short k (row-letter none.byte k e)) in rw (e, cut)
+    by None e = rw e
 
 -- bytes are items, or have a fault
 pub record AreItems (bs : List ℕ) : Type 0 where
@@ -64,7 +63,7 @@ abbrev View : List ℕ → Type 0
 View bs = AreItems bs ⊎ ((n : ℕ) × FaultyAt bs n)
 
 -- an item, and the bytes after it
-one-before : (b : ℕ) (bs : List ℕ) (k : ItemKind) → row_of b ≡ Of k → body_length k ≤ length bs → View (drop (body_length k) bs) → View (b ∷ bs)
+one-before : (b : ℕ) (bs : List ℕ) (k : ItemKind) → row_of b ≡ Some k → body_length k ≤ length bs → View (drop (body_length k) bs) → View (b ∷ bs)
 unfolding flatten
 one-before b bs k row fits v =
     let w = body_length k in
@@ -88,7 +87,7 @@ one-before b bs k row fits v =
     ))
     v
 
-none_first : (b : ℕ) (bs : List ℕ) → ((k : ItemKind) → row_of b ≡ Of k → length bs < body_length k) → View (b ∷ bs)
+none_first : (b : ℕ) (bs : List ℕ) → ((k : ItemKind) → row_of b ≡ Some k → length bs < body_length k) → View (b ∷ bs)
 unfolding flatten
 none_first b bs short =
     inr (
@@ -108,13 +107,13 @@ unfolding flatten
 view_next fuel shorter [] h = inl (record { these = []; bytes = refl; proper = tt })
 view_next fuel shorter (b ∷ bs) h = by (row_of b) refl
   where
-    sized : (k : ItemKind) → row_of b ≡ Of k → (fits : Bool) → leb (body_length k) (length bs) ≡ fits → View (b ∷ bs)
+    sized : (k : ItemKind) → row_of b ≡ Some k → (fits : Bool) → leb (body_length k) (length bs) ≡ fits → View (b ∷ bs)
     sized k e true f = one-before b bs k e (leb-true (body_length k) (length bs) f) (shorter (drop (body_length k) bs) (omega (arith, length-drop (body_length k) bs)))
     sized k e false f = none_first b bs (λ l same. subst (λ (m : ItemKind). length bs < body_length m) (of_same (sym e ∙ same)) (leb-false (body_length k) (length bs) f))
 
-    by : (row : Row) → row_of b ≡ row → View (b ∷ bs)
-    by (Of k) e = sized k e (leb (body_length k) (length bs)) refl
-    by Missing e = none_first b bs (λ k same. absurd (not_missing (sym same ∙ e)))
+    by : (row : Option ItemKind) → row_of b ≡ row → View (b ∷ bs)
+    by (Some k) e = sized k e (leb (body_length k) (length bs)) refl
+    by None e = none_first b bs (λ k same. absurd (not_missing (sym same ∙ e)))
 
 view : (fuel : ℕ) (bs : List ℕ) → length bs < fuel → View bs
 view zero bs h = absurd (not-suc-le-zero h)

@@ -35,13 +35,13 @@ use Rattle.list.specs.Table.{record_of, carried, body_length, row_of}
 use Rattle.list.specs.Write.{closed, judge_items}
 use Rattle.list.specs.declared.table.ItemKind.{ItemKind}
 use Rattle.list.specs.declared.table.ItemKind.TheVariants.{D}
-use Rattle.list.specs.declared.table.Row.TheVariants.{Of}
 use Rattle.list.proofs.Carried.{in_one}
 use Rattle.list.proofs.ItemKinds.{opens_d}
 use Rattle.list.proofs.OneRecord.{encoded-length, encoded-type, encoded_at}
 use Rattle.list.proofs.AllRecords.{trailer-length, encoded-whole, encoded-count}
 use Rattle.list.proofs.ListItems.{items_exact}
 use Rattle.list.proofs.Parsing.{Next, next_item, no_more}
+use Rattle.std.specs.Prelude.{Option, Some, None}
 
 -- the item of the kind whose kind byte stands at index i
 abbrev pub item_at : List ℕ → ℕ → ItemKind → Item
@@ -132,7 +132,7 @@ first_record list k next =
     ap (λ (recs : List (List ℕ)). take 120 (flatten recs)) (records_next list 0 0 0 no_header k (items_in list) next)
     ∙ take_at (encode_item (0 + opened (record_of k)) no_header (item_at list 0 k)) _ 120 (encoded-length (0 + opened (record_of k)) no_header (item_at list 0 k) (next_proper list 0 0 k (items_in list) next))
 
-module _ {h : Header} {list : List ℕ} {i n number : ℕ} {header : HeaderMeant} {w : Walk} {company : List ℕ} (j : JudgingAt h list i n number header w company) (within : i < length list) (k : ItemKind) (row : row_of (get_or list i 0) ≡ Of k) where
+module _ {h : Header} {list : List ℕ} {i n number : ℕ} {header : HeaderMeant} {w : Walk} {company : List ℕ} (j : JudgingAt h list i n number header w company) (within : i < length list) (k : ItemKind) (row : row_of (get_or list i 0) ≡ Some k) where
   abbrev pub next_judged : Next list n i k j.left
   next_judged = next_item list n i j.left j.said within k row
 
@@ -200,11 +200,11 @@ storing_begins list out listed room =
     record { left = items_in list; said = listed.said; proper = ((items_exact list (items_in list)).0 listed.said).1; count = omega arith; few = omega arith; header-last = refl; room = room; rest = refl }
 
 module _ {list all : List ℕ} {i n number : ℕ} {header : HeaderMeant} {out : List ℕ} (s : StoringAt list all i n number header out) where
-  pub next_stored : i < length list → (k : ItemKind) → row_of (get_or list i 0) ≡ Of k → Next list n i k s.left
+  pub next_stored : i < length list → (k : ItemKind) → row_of (get_or list i 0) ≡ Some k → Next list n i k s.left
   next_stored within k row = next_item list n i s.left s.said within k row
 
   pub storing_on :
-      (within : i < length list) (k : ItemKind) → row_of (get_or list i 0) ≡ Of k
+      (within : i < length list) (k : ItemKind) → row_of (get_or list i 0) ≡ Some k
       → StoringAt list all (i + 1 + body_length k) (suc n) (number + opened (record_of k)) (header_after header (item_at list i k)) (put (120 * n) (encode_item (number + opened (record_of k)) header (item_at list i k)) out)
   unfolding flatten last_header
   storing_on within k row =

@@ -17,16 +17,15 @@ use Rattle.list.specs.Items.{item_bytes, list_bytes}
 use Rattle.list.specs.ReadBack.{gather, item_of, item_length, list_of}
 use Rattle.list.specs.Table.{letter, carried, body_length, row_in}
 use Rattle.list.specs.declared.table.ItemKind.{ItemKind}
-use Rattle.list.specs.declared.table.Row.{Row}
-use Rattle.list.specs.declared.table.Row.TheVariants.{Of, Missing}
 use Rattle.list.proofs.Gathering.{body_at_most, body_gathered}
+use Rattle.std.specs.Prelude.{Option, Some, None}
 
 -- the item of a record as bytes: none, or its kind byte and its carried bytes
-pub no_item : (q : FlowKind) (rec : List ℕ) → row_in q rec ≡ Missing → list_bytes (item_of q rec) ≡ []
+pub no_item : (q : FlowKind) (rec : List ℕ) → row_in q rec ≡ None → list_bytes (item_of q rec) ≡ []
 unfolding flatten
 no_item q rec none = rw none
 
-pub item-bytes : (q : FlowKind) (rec : List ℕ) (k : ItemKind) → row_in q rec ≡ Of k → list_bytes (item_of q rec) ≡ letter k ∷ gather (carried k) rec
+pub item-bytes : (q : FlowKind) (rec : List ℕ) (k : ItemKind) → row_in q rec ≡ Some k → list_bytes (item_of q rec) ≡ letter k ∷ gather (carried k) rec
 unfolding flatten
 item-bytes q rec k row = rw row (append-nil (letter k ∷ gather (carried k) rec))
 
@@ -34,17 +33,17 @@ item-bytes q rec k row = rw row (append-nil (letter k ∷ gather (carried k) rec
 pub item_count : (q : FlowKind) (rec : List ℕ) → length rec ≡ 120 → length (list_bytes (item_of q rec)) ≡ item_length (row_in q rec)
 item_count q rec whole = by (row_in q rec) refl
   where
-    by : (row : Row) → row_in q rec ≡ row → length (list_bytes (item_of q rec)) ≡ item_length (row_in q rec)
-    by (Of k) e = ap length (item-bytes q rec k e) ∙ rw e (ap suc (body_gathered rec whole k))
-    by Missing e = ap length (no_item q rec e) ∙ rw e
+    by : (row : Option ItemKind) → row_in q rec ≡ row → length (list_bytes (item_of q rec)) ≡ item_length (row_in q rec)
+    by (Some k) e = ap length (item-bytes q rec k e) ∙ rw e (ap suc (body_gathered rec whole k))
+    by None e = ap length (no_item q rec e) ∙ rw e
 
-pub item_at_most : (row : Row) → item_length row ≤ 111
-item_at_most (Of k) = omega (arith, body_at_most k)
-item_at_most Missing = omega arith
+pub item_at_most : (row : Option ItemKind) → item_length row ≤ 111
+item_at_most (Some k) = omega (arith, body_at_most k)
+item_at_most None = omega arith
 
 -- its kind byte stored, and then the carried bytes after it
 pub item_stored :
-    (q : FlowKind) (rec : List ℕ) → length rec ≡ 120 → (k : ItemKind) → row_in q rec ≡ Of k → (from : ℕ) (out : List ℕ) → from + 1 + body_length k ≤ length out
+    (q : FlowKind) (rec : List ℕ) → length rec ≡ 120 → (k : ItemKind) → row_in q rec ≡ Some k → (from : ℕ) (out : List ℕ) → from + 1 + body_length k ≤ length out
     → put (from + 1) (gather (carried k) rec) (set out from (letter k)) ≡ put from (list_bytes (item_of q rec)) out
 item_stored q rec whole k row from out fits =
     let body = gather (carried k) rec in

@@ -15,8 +15,7 @@ use Rattle.list.specs.Table.{body_length, row_of, KindByte}
 use Rattle.list.specs.declared.count.Count.{Count}
 use Rattle.list.specs.declared.count.Count.TheVariants.{Items, Faulty}
 use Rattle.list.specs.declared.table.ItemKind.{ItemKind}
-use Rattle.list.specs.declared.table.Row.{Row}
-use Rattle.list.specs.declared.table.Row.TheVariants.{Of, Missing}
+use Rattle.std.specs.Prelude.{Option, Some, None}
 
 -- the bytes of a body are passed over
 pub body_passed : (n s : ℕ) (bs : List ℕ) → items_from n s bs ≡ items_from n 0 (drop s bs)
@@ -28,7 +27,7 @@ body_passed n (suc s) (b ∷ bs) = body_passed n s bs
 -- for a loop over i: the item whose kind byte stands at i, then the rest; a fault where the table does not have the byte; and past the end
 -- none is left
 pub items_next :
-    (list : List ℕ) (n i : ℕ) → i < length list → (k : ItemKind) → row_of (get_or list i 0) ≡ Of k
+    (list : List ℕ) (n i : ℕ) → i < length list → (k : ItemKind) → row_of (get_or list i 0) ≡ Some k
     → items_from n 0 (drop i list)
     ≡ cond (leb (body_length k) (length list - (i + 1)))
     (with_item (item k (part (i + 1) (body_length k) list)) (items_from (suc n) 0 (drop (i + 1 + body_length k) list)))
@@ -36,7 +35,7 @@ pub items_next :
 unfolding items_from
 items_next list n i h k row = rw (drop_next list i h, row, body_passed (suc n) (body_length k) (drop (i + 1) list), drop-drop, length-drop)
 
-pub items-none : (list : List ℕ) (n i : ℕ) → i < length list → row_of (get_or list i 0) ≡ Missing → items_from n 0 (drop i list) ≡ faulty (suc n)
+pub items-none : (list : List ℕ) (n i : ℕ) → i < length list → row_of (get_or list i 0) ≡ None → items_from n 0 (drop i list) ≡ faulty (suc n)
 unfolding items_from
 items-none list n i h row = rw (drop_next list i h, row)
 
@@ -54,7 +53,7 @@ counted-all (items is) = let none : 0 + length is ≡ length is = omega arith in
 counted-all (faulty m) = refl
 
 pub counted_next :
-    (list : List ℕ) (n i : ℕ) → i < length list → (k : ItemKind) → row_of (get_or list i 0) ≡ Of k
+    (list : List ℕ) (n i : ℕ) → i < length list → (k : ItemKind) → row_of (get_or list i 0) ≡ Some k
     → counted_from n (items_from n 0 (drop i list))
     ≡ cond (leb (body_length k) (length list - (i + 1))) (counted_from (suc n) (items_from (suc n) 0 (drop (i + 1 + body_length k) list))) (Faulty (suc n))
 counted_next list n i h k row = ap (counted_from n) (items_next list n i h k row) ∙ by (leb (body_length k) (length list - (i + 1))) (items_from (suc n) 0 (drop (i + 1 + body_length k) list))
@@ -67,7 +66,7 @@ counted_next list n i h k row = ap (counted_from n) (items_next list n i h k row
     by true (faulty m) = refl
     by false rest = refl
 
-pub counted_none : (list : List ℕ) (n i : ℕ) → i < length list → row_of (get_or list i 0) ≡ Missing → counted_from n (items_from n 0 (drop i list)) ≡ Faulty (suc n)
+pub counted_none : (list : List ℕ) (n i : ℕ) → i < length list → row_of (get_or list i 0) ≡ None → counted_from n (items_from n 0 (drop i list)) ≡ Faulty (suc n)
 counted_none list n i h row = ap (counted_from n) (items-none list n i h row)
 
 pub counted_end : (list : List ℕ) (n i : ℕ) → length list ≤ i → counted_from n (items_from n 0 (drop i list)) ≡ Items n
@@ -80,9 +79,9 @@ items-not-faulty e = let never : ◌≡◌ {A = ℕ} 0 1 = cc in omega arith
 pub next_kind : (list : List ℕ) (n i : ℕ) (is : List Item) → items_from n 0 (drop i list) ≡ items is → i < length list → KindByte (get_or list i 0)
 next_kind list n i is e h = by (row_of (get_or list i 0)) refl
   where
-    by : (row : Row) → row_of (get_or list i 0) ≡ row → KindByte (get_or list i 0)
-    by (Of k) r = record { kind = k; row = r }
-    by Missing r = absurd (items-not-faulty (sym e ∙ items-none list n i h r))
+    by : (row : Option ItemKind) → row_of (get_or list i 0) ≡ row → KindByte (get_or list i 0)
+    by (Some k) r = record { kind = k; row = r }
+    by None r = absurd (items-not-faulty (sym e ∙ items-none list n i h r))
 
 -- that item, of the kind
 pub record Next (list : List ℕ) (n i : ℕ) (k : ItemKind) (is : List Item) : Type 0 where
@@ -92,7 +91,7 @@ pub record Next (list : List ℕ) (n i : ℕ) (k : ItemKind) (is : List Item) : 
   pub left : items_from (suc n) 0 (drop (i + 1 + body_length k) list) ≡ items others
 
 pub next_item :
-    (list : List ℕ) (n i : ℕ) (is : List Item) → items_from n 0 (drop i list) ≡ items is → i < length list → (k : ItemKind) → row_of (get_or list i 0) ≡ Of k
+    (list : List ℕ) (n i : ℕ) (is : List Item) → items_from n 0 (drop i list) ≡ items is → i < length list → (k : ItemKind) → row_of (get_or list i 0) ≡ Some k
     → Next list n i k is
 next_item list n i is e h k row = by (leb (body_length k) (length list - (i + 1))) refl (sym (items_next list n i h k row) ∙ e)
   where

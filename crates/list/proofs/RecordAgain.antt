@@ -24,7 +24,6 @@ use Rattle.records.specs.RecordVerdict.{Hold}
 use Rattle.records.specs.Judge.{asked}
 use Rattle.records.specs.Kinds.{type_of, Opens, role, heads, opens, closes}
 use Rattle.records.specs.declared.flow_kind.FlowKind.{FlowKind}
-use Rattle.records.specs.declared.flow_kind.KindFound.{KindFound}
 use Rattle.records.specs.declared.kind.RecordKind.{RecordKind}
 use Rattle.records.specs.declared.kind.RecordKind.TheVariants.{Im, R14, R16, R20, R30, R40, R50, R59, R51, R70, Ef}
 use Rattle.records.proofs.Checked.{checks_by_position}
@@ -46,6 +45,7 @@ use Rattle.list.proofs.OneRecord.{type-length, causale-length, sign-length, enco
 use Rattle.list.proofs.Placing.{Matches, Agrees, AllPlaced, matches_agrees, fill-agrees, fill-all, all-part}
 use Rattle.list.proofs.Covering.{Spanned, spanned_append, spanned_covers, body_spanned, supplied_spanned, spanned_fits, written_spans, written-within, checked-written, checked-within, alike_by_bytes}
 use Rattle.list.proofs.TableSpans.{carried-within}
+use Rattle.std.specs.Prelude.{Option, Some, None}
 
 -- bytes that stand in the record
 stands : (rec : List ℕ) (p w : ℕ) (bs : List ℕ) → length bs ≡ w → part (p - 1) w rec ≡ bs → Matches rec (place p bs)
@@ -191,5 +191,5 @@ alike_asked k rec other = each-kind (λ (k : RecordKind). Alike (checked k) rec 
 pub alike_company : (company : List ℕ) (k : RecordKind) (rec other : List ℕ) → Alike (checked k) rec other → company_after company k rec ≡ company_after company k other
 alike_company company k rec other = each-kind (λ (k : RecordKind). Alike (checked k) rec other → company_after company k rec ≡ company_after company k other) (λ a. refl, (λ a. ap (λ (code : List ℕ). first_company company R14 code) a.1.1.1.1.1.1.1.1.0, (λ a. refl, (λ a. refl, (λ a. refl, (λ a. refl, (λ a. refl, (λ a. refl, (λ a. refl, (λ a. refl, (λ a. refl, tt))))))))))) k
 
-pub alike_kind : (k : RecordKind) (q : KindFound) (rec other : List ℕ) → Alike (checked k) rec other → kind_after q k rec ≡ kind_after q k other
+pub alike_kind : (k : RecordKind) (q : Option FlowKind) (rec other : List ℕ) → Alike (checked k) rec other → kind_after q k rec ≡ kind_after q k other
 alike_kind k q rec other = each-kind (λ (k : RecordKind). Alike (checked k) rec other → kind_after q k rec ≡ kind_after q k other) (λ a. refl, (λ a. ap (λ (bs : List ℕ). first_known q (kind_among flow_kinds bs)) a.1.1.1.0, (λ a. refl, (λ a. refl, (λ a. refl, (λ a. refl, (λ a. refl, (λ a. refl, (λ a. refl, (λ a. refl, (λ a. refl, tt))))))))))) k

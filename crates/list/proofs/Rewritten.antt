@@ -55,7 +55,6 @@ use Rattle.list.specs.ReadBack.{gather, item_of, items_of, list_of}
 use Rattle.list.specs.Table.{carried, row_in}
 use Rattle.list.specs.Write.{closed, judge_items, judge_list, write}
 use Rattle.list.specs.declared.table.ItemKind.TheVariants.{H}
-use Rattle.list.specs.declared.table.Row.TheVariants.{Of}
 use Rattle.list.proofs.RecordAgain.{again_alike, again_right, own_proper}
 use Rattle.list.proofs.Carried.{gather-length, gather_at}
 use Rattle.list.proofs.AllRecords.{row_in_lem, no_row_in, encode-records, encode-length}
@@ -66,6 +65,7 @@ use Rattle.list.proofs.TableSpans.{carried-within}
 use Rattle.list.proofs.Trailer.{Meant, Counted, trailer_formed, trailer-keeps}
 use Rattle.list.proofs.WriteRefused.{fitting_judged}
 use Rattle.list.proofs.Written.{written_exact}
+use Rattle.std.specs.Prelude.{Option, Some, None}
 
 -- the total at the place of the kind, and the zeros at the other
 by_kind :
@@ -115,7 +115,7 @@ trailers_alike h t rec other f g a b =
     )
 
 -- the row of a record of a known kind
-pub own_row : (q : FlowKind) (r : Typed) → Formed r.kind r.bytes → closes r.kind ≡ false → row_in q r.bytes ≡ Of (kind_for q r.kind)
+pub own_row : (q : FlowKind) (r : Typed) → Formed r.kind r.bytes → closes r.kind ≡ false → row_in q r.bytes ≡ Some (kind_for q r.kind)
 own_row q r formed not_last = row_in_lem q (kind_for q r.kind) r.bytes (suits_for q r.kind) (formed.type ∙ ap type_of (sym (record_for q r.kind not_last)))
 
 -- the items of records

@@ -9,7 +9,7 @@ use Rattle.records.specs.declared.flow_kind.FlowKind.{FlowKind}
 use Rattle.list.specs.Table.{rows_of, first_row}
 use Rattle.list.specs.declared.table.ItemKind.{ItemKind}
 use Rattle.list.specs.declared.table.ItemKind.TheVariants.{Z}
-use Rattle.list.specs.declared.table.Row.TheVariants.{Of, Missing}
+use Rattle.std.specs.Prelude.{Option, Some, None}
 
 module _ (p : ItemKind → Bool) (q : FlowKind) where
   -- what is left from i on decides as the whole does
@@ -17,16 +17,16 @@ module _ (p : ItemKind → Bool) (q : FlowKind) where
   Decides i = first_row p (rows_of q) ≡ first_row p (drop i (rows_of q))
 
   -- in a turn the row at i is tested, and the rest decides where it fails
-  turn : (i : ℕ) {k : ItemKind} → i < 10 → k ≡ get_or (rows_of q) i Z → Decides i → first_row p (rows_of q) ≡ cond (p k) (Of k) (first_row p (drop (i + 1) (rows_of q)))
+  turn : (i : ℕ) {k : ItemKind} → i < 10 → k ≡ get_or (rows_of q) i Z → Decides i → first_row p (rows_of q) ≡ cond (p k) (Some k) (first_row p (drop (i + 1) (rows_of q)))
   unfolding first_row
   turn i h e left = left ∙ rw (e, add-one, drop-cons (rows_of q) i Z h)
 
-  pub found : (i : ℕ) {k : ItemKind} → i < 10 → k ≡ get_or (rows_of q) i Z → Decides i → p k ≡ true → Of k ≡ first_row p (rows_of q)
+  pub found : (i : ℕ) {k : ItemKind} → i < 10 → k ≡ get_or (rows_of q) i Z → Decides i → p k ≡ true → Some k ≡ first_row p (rows_of q)
   found i h e left t = sym (turn i h e left ∙ rw t)
 
   pub next : (i : ℕ) {k : ItemKind} → i < 10 → k ≡ get_or (rows_of q) i Z → Decides i → p k ≡ false → Decides (i + 1)
   next i h e left t = turn i h e left ∙ rw t
 
-  pub ended : (i : ℕ) → 10 ≤ i → Decides i → Missing ≡ first_row p (rows_of q)
+  pub ended : (i : ℕ) → 10 ≤ i → Decides i → None ≡ first_row p (rows_of q)
   unfolding first_row
   ended i h left = sym (left ∙ rw (drop_of_length-le (rows_of q) h))

@@ -19,8 +19,6 @@ use Rattle.records.specs.Field.{field}
 use Rattle.records.specs.RecordVerdict.{Check, check, FirstBroken}
 use Rattle.records.specs.FlowKinds.{causale, kind_in, is_of, or_requests, first_known}
 use Rattle.records.specs.Kinds.{type_of, has_type, heads, opens, opened, closes, is_opening}
-use Rattle.records.specs.declared.flow_kind.KindFound.{KindFound}
-use Rattle.records.specs.declared.flow_kind.KindFound.TheVariants.{Of, Unknown}
 use Rattle.records.specs.declared.kind.RecordKind.{RecordKind}
 use Rattle.records.specs.declared.kind.RecordKind.TheVariants.{Im}
 use Rattle.records.proofs.ByKind.{types_differ, type-said, type_tested, opens-type}
@@ -50,6 +48,8 @@ use Rattle.list.proofs.Judging.{front, encoded-opens, header_stays_one, MayMean,
 use Rattle.list.proofs.ListItems.{items_exact}
 use Rattle.list.proofs.OneRecord.{encoded-type, encoded-number, encoded-causale}
 use Rattle.list.proofs.WriteRefused.{write-refused}
+use Rattle.records.specs.declared.flow_kind.FlowKind.{FlowKind}
+use Rattle.std.specs.Prelude.{Option, Some, None}
 
 -- what the writer supplies to a record, where it is asked with what the records before it say: a kind other than EF's; in a disposition, its
 -- number; and to a 14 a causale that may stand there
@@ -90,7 +90,7 @@ encoded_numbered n header (it ∷ is) proper few (b ∷ before) rec after same k
 
 -- a record 14 may stand after records under one header, where the kind found before them is none or the one that it means
 under_one :
-    (n : ℕ) (header : HeaderMeant) (is : List Item) → All Proper is → (x : KindFound) → MayMean x header.kind → (before : List (List ℕ)) (rec : List ℕ) (after : List (List ℕ))
+    (n : ℕ) (header : HeaderMeant) (is : List Item) → All Proper is → (x : Option FlowKind) → MayMean x header.kind → (before : List (List ℕ)) (rec : List ℕ) (after : List (List ℕ))
     → encode_from n header is ≡ before ++ (rec ∷ after) → All (λ (b : List ℕ). has_type Im b ≡ false) before
     → (k : RecordKind) → field 2 3 rec ≡ type_of k → opens k ≡ true → is_of (kind_from x before) (field 29 33 rec) ≡ true
 unfolding encode_from kind_from
@@ -103,9 +103,9 @@ under_one n header (it ∷ is) proper x mean [] rec after same none k type o =
     let causale-so : field 29 33 rec ≡ causale header.kind = ap (field 29 33) (sym own) ∙ encoded-causale m header it proper.0 (opens_d it.kind (ap opens kind ∙ o)) in
     may x mean causale-so
   where
-    may : (x : KindFound) → MayMean x header.kind → field 29 33 rec ≡ causale header.kind → is_of x (field 29 33 rec) ≡ true
-    may Unknown e c = refl
-    may (Of p) e c = (equal_exact (field 29 33 rec) (causale p)).1 (c ∙ sym (ap (λ (y : KindFound). causale (or_requests y)) e))
+    may : (x : Option FlowKind) → MayMean x header.kind → field 29 33 rec ≡ causale header.kind → is_of x (field 29 33 rec) ≡ true
+    may None e c = refl
+    may (Some p) e c = (equal_exact (field 29 33 rec) (causale p)).1 (c ∙ sym (ap (λ (y : Option FlowKind). causale (or_requests y)) e))
 under_one n header (it ∷ is) proper x mean (b ∷ before) rec after same none k type o =
     let m = n + opened (record_kind it) in
     let own : encode_item m header it ≡ b = head-eq_of_cons-eq same in
@@ -124,7 +124,7 @@ under_one n header (it ∷ is) proper x mean (b ∷ before) rec after same none 
 -- so may any 14 that is encoded: the records before it are right, and only the first is a header
 encoded_kindred :
     (is : List Item) → All Proper is → (before : List (List ℕ)) (rec : List ℕ) (after : List (List ℕ)) → records_for is ≡ before ++ (rec ∷ after) → EachRight (front is) before
-    → (k : RecordKind) → field 2 3 rec ≡ type_of k → opens k ≡ true → is_of (kind_from Unknown before) (field 29 33 rec) ≡ true
+    → (k : RecordKind) → field 2 3 rec ≡ type_of k → opens k ≡ true → is_of (kind_from None before) (field 29 33 rec) ≡ true
 unfolding encode_from kind_from
 encoded_kindred is proper [] rec after same each k type o = refl
 encoded_kindred [] proper (b ∷ before) rec after same each k type o = absurd (nil≢cons same)
@@ -135,8 +135,8 @@ encoded_kindred (it ∷ is) proper (b ∷ before) rec after same each k type o =
     let kinds = first_only walked.0 walked.1 (formed_so (front all) walked.0 walked.2) (walked_allowed (header_of (take 120 (front all))) start [] 0 walked.0 walked.2) in
     let shut : is_opening b ≡ false = kinds.0 in
     let header = header_after no_header it in
-    ap (λ (c : Bool). is_of (kind_from (cond c (first_known Unknown (kind_in b)) Unknown) before) (field 29 33 rec)) shut
-    ∙ under_one (0 + opened (record_kind it)) header is proper.1 Unknown refl before rec after (tail-eq_of_cons-eq same) kinds.1 k type o
+    ap (λ (c : Bool). is_of (kind_from (cond c (first_known None (kind_in b)) None) before) (field 29 33 rec)) shut
+    ∙ under_one (0 + opened (record_kind it)) header is proper.1 None refl before rec after (tail-eq_of_cons-eq same) kinds.1 k type o
   where
     others : (rs : List Typed) → AllFormed rs → All (λ (l : RecordKind). heads l ≡ false) (kinds_of rs) → All (λ (c : List ℕ). has_type Im c ≡ false) (records_in rs)
     others [] formed none = tt

@@ -26,7 +26,7 @@ use Rattle.list.specs.Table.{letter, carried, body_length, row_in}
 use Rattle.list.specs.Write.{judge_list, write}
 use Rattle.list.specs.declared.filled.Filled.{Filled}
 use Rattle.list.specs.declared.table.ItemKind.{ItemKind}
-use Rattle.list.specs.declared.table.Row.TheVariants.{Of}
+use Rattle.std.specs.Prelude.{Option, Some, None}
 
 -- the items that a list is read as are those that it is the bytes of
 abbrev pub ItemsExact : Type 0
@@ -122,7 +122,7 @@ WrittenExact =
 
 -- an accepted flow's own list has one item for each record but EF: its kind, by the flow's, then its carried bytes as they stand
 abbrev pub OwnItem : FlowKind → List ℕ → Item → Type 0
-OwnItem q rec it = (row_in q rec ≡ Of it.kind) × (it.body ≡ gather (carried it.kind) rec)
+OwnItem q rec it = (row_in q rec ≡ Some it.kind) × (it.body ≡ gather (carried it.kind) rec)
 
 abbrev pub OwnList : Type 0
 OwnList = (f : List ℕ) (t : Totals) → judge f ≡ accepted t → Pairs (OwnItem t.kind) (drop_last (records_of f)) (items_of f)

@@ -13,7 +13,7 @@ use Rattle.list.specs.Encode.{encode}
 use Rattle.list.specs.Items.{Item, item, list_bytes}
 use Rattle.list.specs.Table.{carried, body_length, row_in, with_row}
 use Rattle.list.specs.declared.table.ItemKind.{ItemKind}
-use Rattle.list.specs.declared.table.Row.{Row}
+use Rattle.std.specs.Prelude.{Option, Some, None}
 
 -- the bytes of a record at spans, in order
 abbrev pub gather : List Span → List ℕ → List ℕ
@@ -24,7 +24,7 @@ abbrev pub item_of : FlowKind → List ℕ → List Item
 item_of q rec = with_row (row_in q rec) (λ (k : ItemKind). item k (gather (carried k) rec) ∷ []) []
 
 -- for the contracts of private functions: the length of the item of a record of the row
-abbrev pub item_length : Row → ℕ
+abbrev pub item_length : Option ItemKind → ℕ
 item_length row = with_row row (λ (k : ItemKind). suc (body_length k)) 0
 
 -- a flow's own list, as items and as bytes: that of a flow of recalls opens with Q, and that of bytes without a 14 with H

@@ -11,8 +11,7 @@ use Rattle.records.specs.declared.kind.RecordKind.{RecordKind}
 use Rattle.records.specs.declared.kind.RecordKind.TheVariants.{Im, R14, R16, R20, R30, R40, R50, R59, R51, R70}
 use Rattle.list.specs.declared.table.ItemKind.{ItemKind}
 use Rattle.list.specs.declared.table.ItemKind.TheVariants.{H, D, S, C, B, A, R, X, K, Z}
-use Rattle.list.specs.declared.table.Row.{Row}
-use Rattle.list.specs.declared.table.Row.TheVariants.{Of, Missing}
+use Rattle.std.specs.Prelude.{Option, Some, None}
 
 -- the kinds of item of a flow of the kind, in the table's order; H stands for the header's item of any kind of flow
 abbrev pub rows_of : FlowKind → List ItemKind
@@ -82,23 +81,23 @@ abbrev pub bounds_of : ItemKind → List ℕ
 bounds_of k = bounds (four_of (carried k))
 
 -- the first row that passes a test, where one does
-unfoldable pub first_row : (ItemKind → Bool) → List ItemKind → Row
-first_row p [] = Missing
-first_row p (k ∷ ks) = cond (p k) (Of k) (first_row p ks)
+unfoldable pub first_row : (ItemKind → Bool) → List ItemKind → Option ItemKind
+first_row p [] = None
+first_row p (k ∷ ks) = cond (p k) (Some k) (first_row p ks)
 
 -- the row of a kind byte, and that of a record of a flow of the kind, by its type
-abbrev pub row_of : ℕ → Row
+abbrev pub row_of : ℕ → Option ItemKind
 row_of b = first_row (λ (k : ItemKind). eqb b (letter k)) rows
 
-abbrev pub row_in : FlowKind → List ℕ → Row
+abbrev pub row_in : FlowKind → List ℕ → Option ItemKind
 row_in q rec = first_row (λ (k : ItemKind). has_type (record_of k) rec) (rows_of q)
 
 -- what is made of a row, and what stands where there is none
-abbrev pub with_row : {T : Type 0} → Row → (ItemKind → T) → T → T
-with_row (Of k) some none = some k
-with_row Missing some none = none
+abbrev pub with_row : {T : Type 0} → Option ItemKind → (ItemKind → T) → T → T
+with_row (Some k) some none = some k
+with_row None some none = none
 
 -- for the contract of a private function: the table has the kind byte
 pub record KindByte (byte : ℕ) : Type 0 where
   pub kind : ItemKind
-  pub row : row_of byte ≡ Of kind
+  pub row : row_of byte ≡ Some kind

@@ -19,13 +19,12 @@ use Rattle.records.specs.RecordVerdict.{refused as RecordVerdict-refused}
 use Rattle.records.specs.Judge.{asked, judge_as}
 use Rattle.records.specs.Kinds.{opens}
 use Rattle.records.specs.Laws.{AmountBy, AmountRows}
-use Rattle.records.specs.FieldTests.{Fits}
 use Rattle.records.specs.declared.kind.RecordKind.{RecordKind}
 use Rattle.records.specs.declared.kind.RecordKind.TheVariants.{R14}
 use Rattle.records.proofs.EachKind.{opens_14}
 use Rattle.records.proofs.FirstFault.{held, broken_front, right-not-refused, kept_all, kept_front, after}
 use Rattle.records.proofs.RightOrBroken.{broken}
-use Rattle.records.proofs.FieldTests.{fits, field-length}
+use Rattle.records.proofs.FieldTests.{field-length}
 
 -- what a field's answer is of the record, at the amount's place
 abbrev as_finding : FieldVerdict ℕ → RecordVerdict
@@ -48,11 +47,8 @@ amount-found rec whole = ap as_finding read ∙ by (is_digits bs) (is_above_zero
     bs : List ℕ
     bs = amount_in rec
 
-    placed : Fits 34 46 rec
-    placed = fits 34 46 rec whole (omega arith) (omega arith) (omega arith) (omega arith)
-
     thirteen : length bs ≡ 13
-    thirteen = field-length 34 46 rec (omega arith) (omega arith) placed.within
+    thirteen = field-length 34 46 rec (omega arith) (omega arith) (omega arith)
 
     read : amount_field bs ≡ cond (is_digits bs) (asked_for (number bs)) (refused not_digits)
     read = rw (eq-eqb (length bs) 13 thirteen)

@@ -15,7 +15,9 @@ use Rattle.records.specs.RecordVerdict.{right, refused, first_fault, judged_verd
 use Rattle.records.specs.Judge.{asked, judge_as}
 use Rattle.records.specs.Kinds.{type_of, has_type, is_opening, opens}
 use Rattle.records.specs.Laws.{TypesDiffer, RightAsked, JudgedDetermined}
-use Rattle.records.specs.declared.judged.Judged.TheVariants.{Right, Refused}
+use Rattle.std.specs.Prelude.{Ok, Err}
+use Rattle.refusals.specs.Numbers.{number_of}
+use Rattle.refusals.proofs.Numbers.{number_told}
 use Rattle.records.specs.declared.kind.RecordKind.{RecordKind}
 use Rattle.records.specs.declared.kind.RecordKind.TheVariants.{Im, R14, R16, R20, R30, R40, R50, R59, R51, R70, Ef}
 use Rattle.records.proofs.FirstFault.{right-not-refused, kept_all}
@@ -91,13 +93,19 @@ opens-type k rec e = rw (type-said k rec e) (opens-type_of k)
 
 -- what an answer stands for determines it
 pub judged_determined : JudgedDetermined
-judged_determined (Right r) (Right s) e = λ i. Right (record { kind = kind_of e i; cents = cents_of e i })
+judged_determined (Ok r) (Ok s) e = λ i. Ok (record { kind = kind_of e i; cents = cents_of e i })
   where
-    kind_of : judged_verdict (Right r) ≡ judged_verdict (Right s) → r.kind ≡ s.kind
+    kind_of : judged_verdict (Ok r) ≡ judged_verdict (Ok s) → r.kind ≡ s.kind
     kind_of e = cc
 
-    cents_of : judged_verdict (Right r) ≡ judged_verdict (Right s) → r.cents ≡ s.cents
+    cents_of : judged_verdict (Ok r) ≡ judged_verdict (Ok s) → r.cents ≡ s.cents
     cents_of e = cc
-judged_determined (Right r) (Refused n p) e = absurd (right-not-refused (sym e))
-judged_determined (Refused n p) (Right s) e = absurd (right-not-refused e)
-judged_determined (Refused n p) (Refused m q) e = cc
+judged_determined (Ok r) (Err g) e = absurd (right-not-refused (sym e))
+judged_determined (Err f) (Ok s) e = absurd (right-not-refused e)
+judged_determined (Err f) (Err g) e = λ i. Err (record { reason = number_told f.reason g.reason (reason_of e) i; position = position_of e i })
+  where
+    reason_of : judged_verdict (Err f) ≡ judged_verdict (Err g) → number_of f.reason ≡ number_of g.reason
+    reason_of e = cc
+
+    position_of : judged_verdict (Err f) ≡ judged_verdict (Err g) → f.position ≡ g.position
+    position_of e = cc

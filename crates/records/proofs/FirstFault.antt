@@ -1,85 +1,22 @@
--- How early returns meet a list of checks: at each place of the code, what the checks still to come decide is what all of them do.
--- Assumes nothing.
+-- How early returns meet a list of checks. Assumes nothing.
 use Prim.Native.Nat.{ℕ, zero, suc}
 use mathlib.Core.Bool.{Bool, true, false, cond}
 use mathlib.Core.List.{List, [], ◌∷◌, ◌++◌, append_assoc}
 use mathlib.Core.Path.{◌≡◌, refl, sym, ◌∙◌, ap}
 use native.Mathlib.Omega.{arith}
-use lib.ListN.{drop}
-use Rattle.fields.specs.FieldVerdict.{accepted, not_digits}
-use Rattle.fields.specs.FieldVerdict.{refused as FieldVerdict-refused}
-use Rattle.fields.proofs.Answers.{accepted-not-refused, refused-same}
-use Rattle.records.specs.RecordVerdict.{RecordVerdict, right, refused, Check, check, first_fault, Hold, FirstBroken}
+use lib.ListN.{take, drop, take-append-drop}
+use Rattle.std.specs.Prelude.{Result, Ok, Err}
+use Rattle.refusals.specs.Numbers.{number_of}
+use Rattle.records.specs.declared.judged.Fault.{Fault}
+use Rattle.records.specs.declared.judged.Record.{Record}
+use Rattle.records.specs.RecordVerdict.{RecordVerdict, right, refused, Check, check, first_fault, Hold, FirstBroken, Settles, judged_verdict}
 use Rattle.records.specs.declared.kind.RecordKind.{RecordKind}
-
--- a place that the code has reached: all checks, those still to come, and what follows them
-pub record Reached : Type 0 where
-  pub all : List Check
-  pub left : List Check
-  pub rest : RecordVerdict
-  pub same : first_fault all rest ≡ first_fault left rest
-
--- whether the first check holds, what it refuses by, and the others
-abbrev pub holds : List Check → Bool
-holds [] = true
-holds (check b n p ∷ cs) = b
-
-abbrev pub refusal : List Check → RecordVerdict → RecordVerdict
-refusal [] rest = rest
-refusal (check b n p ∷ cs) rest = refused n p
-
-abbrev pub others : List Check → List Check
-others [] = []
-others (c ∷ cs) = cs
-
-abbrev pub enter : List Check → RecordVerdict → Reached
-enter cs rest = record { all = cs; left = cs; rest = rest; same = refl }
-
-pub one_held : (cs : List Check) (rest : RecordVerdict) → holds cs ≡ true → first_fault cs rest ≡ first_fault (others cs) rest
-unfolding first_fault
-one_held [] rest h = refl
-one_held (check b n p ∷ cs) rest h = rw h
-
-one_failed : (cs : List Check) (rest : RecordVerdict) → holds cs ≡ false → first_fault cs rest ≡ refusal cs rest
-unfolding first_fault
-one_failed [] rest h = refl
-one_failed (check b n p ∷ cs) rest h = rw h
-
--- the first check holds
-abbrev pub pass : (r : Reached) → holds r.left ≡ true → Reached
-pass r h = record { all = r.all; left = others r.left; rest = r.rest; same = r.same ∙ one_held r.left r.rest h }
-
--- the first two hold
-abbrev pub pass_row : (r : Reached) → (holds r.left ≡ true) × (holds (others r.left) ≡ true) → Reached
-pass_row r h = pass (pass r h.0) h.1
-
--- the first check fails
-pub stop : (r : Reached) → holds r.left ≡ false → refusal r.left r.rest ≡ first_fault r.all r.rest
-stop r h = sym (r.same ∙ one_failed r.left r.rest h)
-
--- no check is left
-pub done : (r : Reached) → r.left ≡ [] → r.rest ≡ first_fault r.all r.rest
-unfolding first_fault
-done r e = sym (r.same ∙ rw e)
-
--- a field that is refused by 5, or else by n
-pub stop_row :
-    {A : Type 0} (r : Reached) (a b : Bool) (y : A) (n p : ℕ) {m : ℕ} {cs : List Check} → r.left ≡ check a not_digits p ∷ check b n p ∷ cs
-    → cond a (cond b (accepted y) (FieldVerdict-refused n)) (FieldVerdict-refused not_digits) ≡ FieldVerdict-refused m → refused m p ≡ first_fault r.all r.rest
-unfolding first_fault
-stop_row r false b y n p e x = ap (λ (k : ℕ). refused k p) (sym (refused-same x)) ∙ sym (r.same ∙ rw e)
-stop_row r true false y n p e x = ap (λ (k : ℕ). refused k p) (sym (refused-same x)) ∙ sym (r.same ∙ rw e)
-stop_row r true true y n p e x = absurd (accepted-not-refused x)
 
 -- checks that hold leave it to what follows them
 pub held : (hs cs : List Check) (rest : RecordVerdict) → Hold hs → first_fault (hs ++ cs) rest ≡ first_fault cs rest
 unfolding first_fault
 held [] cs rest h = refl
 held (check b n p ∷ hs) cs rest h = rw h.0 (held hs cs rest h.1)
-
--- checks that stand first and all hold
-abbrev pub pass_all : (r : Reached) (hs cs : List Check) → r.left ≡ hs ++ cs → Hold hs → Reached
-pass_all r hs cs e h = record { all = r.all; left = cs; rest = r.rest; same = r.same ∙ ap (λ (l : List Check). first_fault l r.rest) e ∙ held hs cs r.rest h }
 
 -- and where one of them fails
 pub broken_front : (hs cs : List Check) (rest : RecordVerdict) (n p : ℕ) → FirstBroken hs n p → first_fault (hs ++ cs) rest ≡ refused n p
@@ -88,8 +25,48 @@ broken_front hs cs rest n p (kept, after, parts, so) =
     let split : hs ++ cs ≡ kept ++ (check false n p ∷ (after ++ cs)) = ap (λ (l : List Check). l ++ cs) parts ∙ append_assoc kept (check false n p ∷ after) cs in
     ap (λ (l : List Check). first_fault l rest) split ∙ held kept (check false n p ∷ (after ++ cs)) rest so
 
-pub stop_all : (r : Reached) (hs cs : List Check) (n p : ℕ) → r.left ≡ hs ++ cs → FirstBroken hs n p → refused n p ≡ first_fault r.all r.rest
-stop_all r hs cs n p e b = sym (r.same ∙ ap (λ (l : List Check). first_fault l r.rest) e ∙ broken_front hs cs r.rest n p b)
+-- of two lists the first decides before the second
+pub in_turn : (cs ds : List Check) (rest : RecordVerdict) → first_fault (cs ++ ds) rest ≡ first_fault cs (first_fault ds rest)
+unfolding first_fault
+in_turn [] ds rest = refl
+in_turn (check b n p ∷ cs) ds rest = ap (λ (v : RecordVerdict). cond b v (refused n p)) (in_turn cs ds rest)
+
+-- for code that makes checks in order: m of them have ended it from the k-th on, and those before them held
+stops :
+    (k m : ℕ) (cs : List Check) (rest : RecordVerdict) {n p : ℕ} → Hold (take k cs) → ((after : RecordVerdict) → first_fault (take m (drop k cs)) after ≡ refused n p)
+    → first_fault cs rest ≡ refused n p
+stops k m cs rest before now =
+    let parts = ap (λ (l : List Check). first_fault l rest) (sym (take-append-drop k cs)) ∙ held (take k cs) (drop k cs) rest before in
+    let at = ap (λ (l : List Check). first_fault l rest) (sym (take-append-drop m (drop k cs))) ∙ in_turn (take m (drop k cs)) (drop m (drop k cs)) rest in
+    parts ∙ at ∙ now (first_fault (drop m (drop k cs)) rest)
+
+pub ends :
+    (k m : ℕ) (cs : List Check) (rest : RecordVerdict) (f : Fault) (r : Result Record Fault) → r ≡ Err f → Hold (take k cs)
+    → ((after : RecordVerdict) → first_fault (take m (drop k cs)) after ≡ refused (number_of f.reason) f.position) → judged_verdict r ≡ first_fault cs rest
+ends k m cs rest f r so before now = ap judged_verdict so ∙ sym (stops k m cs rest before now)
+
+pub ends_so :
+    (k m : ℕ) (cs : List Check) (f : Fault) (r : Result ℕ Fault) → r ≡ Err f → Hold (take k cs)
+    → ((after : RecordVerdict) → first_fault (take m (drop k cs)) after ≡ refused (number_of f.reason) f.position) → Settles r cs
+ends_so k m cs f r so before now = rw so (λ rest. stops k m cs rest before now)
+
+-- and where all have held
+pub passes : (cs : List Check) (rest : RecordVerdict) → Hold cs → rest ≡ first_fault cs rest
+unfolding first_fault
+passes [] rest h = refl
+passes (check b n p ∷ cs) rest h = rw h.0 (passes cs rest h.1)
+
+-- checks that the code makes one after the other: those made first end it, or they held and those made next decide
+pub ends_first : (cs ds : List Check) (f : Fault) → Settles {A = Unit} (Err f) cs → Settles {A = Unit} (Err f) (cs ++ ds)
+ends_first cs ds f s = λ rest. in_turn cs ds rest ∙ s (first_fault ds rest)
+
+pub goes_on : {A : Type 0} (cs ds : List Check) (r : Result A Fault) → Hold cs → Settles r ds → Settles r (cs ++ ds)
+goes_on cs ds (Ok a) h s = all_hold cs h
+  where
+    all_hold : (hs : List Check) → Hold hs → Hold (hs ++ ds)
+    all_hold [] t = s
+    all_hold (check b n p ∷ hs) t = (t.0, all_hold hs t.1)
+goes_on cs ds (Err f) h s = λ rest. held cs ds rest h ∙ s rest
 
 -- a right record has kept every check
 pub right-not-refused : {k : RecordKind} {c n p : ℕ} → refused n p ≡ right k c → ⊥

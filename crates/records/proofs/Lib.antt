@@ -12,3 +12,4 @@ pub mod Printable
 pub mod QuickTestRight
 pub mod RightOrBroken
 pub mod Saturation
+pub mod Settled

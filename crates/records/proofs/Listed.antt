@@ -10,9 +10,7 @@ use Rattle.records.specs.Checks.{is_listed}
 
 -- for a loop over i: the byte at i, then the rest; and past the end none is left
 pub is_listed_next : (b : ℕ) (xs : List ℕ) (i : ℕ) → i < length xs → is_listed b (drop i xs) ≡ (eqb b (get_or xs i 0) || is_listed b (drop (i + 1) xs))
-unfolding is_listed
 is_listed_next b xs i h = rw (drop_next xs i h)
 
 pub is_listed_end : (b : ℕ) (xs : List ℕ) (i : ℕ) → length xs ≤ i → is_listed b (drop i xs) ≡ false
-unfolding is_listed
 is_listed_end b xs i h = rw (drop_of_length-le xs h)

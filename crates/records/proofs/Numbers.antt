@@ -23,7 +23,7 @@ numbers_of (check holds n p ∷ cs) = n ∷ numbers_of cs
 
 -- a refusal is one of theirs, or what follows them
 pub refused_by : (cs : List Check) (rest : RecordVerdict) (n p : ℕ) → first_fault cs rest ≡ refused n p → (is_listed n (numbers_of cs) ≡ true) ⊎ (rest ≡ refused n p)
-unfolding first_fault is_listed
+unfolding first_fault
 refused_by [] rest n p e = inr e
 refused_by (check true m q ∷ cs) rest n p e = later (refused_by cs rest n p e)
   where
@@ -36,7 +36,7 @@ refused_by (check false m q ∷ cs) rest n p e =
 
 -- no check of any kind gives 1
 no_one : (k : RecordKind) (ctx : Context) (rec : List ℕ) → is_listed 1 (numbers_of (checks k ctx rec)) ≡ false
-unfolding checks is_listed
+unfolding checks
 no_one Im ctx rec = refl
 no_one R14 ctx rec = refl
 no_one R16 ctx rec = refl

@@ -1,7 +1,8 @@
 -- Document 01's table of checks, with document 02's E1, the kinds of flow, E4, one company code, and E5, no amount of zero: for each record
 -- type one list, by rising position, of what must hold, the number of the refusal and the field's first position. For one field 5 stands
 -- before what compares its digits, and 6 before 22. Assumes nothing.
-use Rattle.std.specs.Prelude.{ℕ, Bool, false, not, ◌||◌, List, [], ◌∷◌, ◌++◌, eqb}
+use Rattle.std.specs.Prelude.{ℕ, Bool, not, ◌||◌, List, [], ◌∷◌, ◌++◌, eqb}
+use Rattle.std.specs.List.{list_any}
 use Rattle.sequences.specs.Text.{text}
 use Rattle.fields.specs.Bytes.{is_blank, is_equal}
 use Rattle.fields.specs.Calendar.{is_day}
@@ -14,10 +15,10 @@ use Rattle.records.specs.Field.{field, byte_at}
 use Rattle.records.specs.FlowKinds.{sign, total_at, kind_in, is_known, is_of, or_requests}
 use Rattle.records.specs.RecordVerdict.{Check, check}
 use Rattle.records.specs.declared.flow_kind.FlowKind.{FlowKind}
-use Rattle.records.specs.declared.flow_kind.KindFound.{KindFound}
 use Rattle.records.specs.declared.judged.Counts.{Counts}
 use Rattle.records.specs.declared.kind.RecordKind.{RecordKind}
 use Rattle.records.specs.declared.kind.RecordKind.TheVariants.{Im, R14, R16, R20, R30, R40, R50, R59, R51, R70, Ef}
+use Rattle.std.specs.Prelude.{Option}
 
 -- "present": not all blanks
 abbrev pub is_present : List ℕ → Bool
@@ -28,9 +29,8 @@ abbrev pub is_date : List ℕ → Bool
 is_date bs = is_day (day_of bs).day (day_of bs).month (day_of bs).year
 
 -- one of the listed bytes
-unfoldable pub is_listed : ℕ → List ℕ → Bool
-is_listed b [] = false
-is_listed b (x ∷ xs) = eqb b x || is_listed b xs
+abbrev pub is_listed : ℕ → List ℕ → Bool
+is_listed b xs = list_any (λ (x : ℕ). eqb b x) xs
 
 -- row IM. 105-111: all seven blank, or else each part by itself
 abbrev pub header_checks : List ℕ → List Check
@@ -62,7 +62,7 @@ amount_checks rec =
 
 -- row 14, after its number, up to 47: what is to be paid. 29-33: the causale of a kind, and where the flow's kind is known already, of that
 -- one; 47: that kind's sign
-abbrev pub payment_checks : KindFound → List ℕ → List Check
+abbrev pub payment_checks : Option FlowKind → List ℕ → List Check
 payment_checks kind rec =
     check (is_digits (field 23 28 rec)) 5 23
     ∷ check (is_date (field 23 28 rec)) 8 23
@@ -82,7 +82,7 @@ code_checks abi company rec =
     ∷ check (is_equal (field 120 120 rec) currency) 6 120
     ∷ []
 
-abbrev pub disposition_checks : List ℕ → List ℕ → KindFound → List ℕ → List Check
+abbrev pub disposition_checks : List ℕ → List ℕ → Option FlowKind → List ℕ → List Check
 disposition_checks abi company kind rec = payment_checks kind rec ++ code_checks abi company rec
 
 -- row 16, after its number

@@ -6,8 +6,7 @@ use Rattle.fields.specs.Bytes.{is_equal}
 use Rattle.records.specs.Field.{Span, ◌to◌, field, first_of}
 use Rattle.records.specs.declared.flow_kind.FlowKind.{FlowKind}
 use Rattle.records.specs.declared.flow_kind.FlowKind.TheVariants.{Requests, Recalls}
-use Rattle.records.specs.declared.flow_kind.KindFound.{KindFound}
-use Rattle.records.specs.declared.flow_kind.KindFound.TheVariants.{Of, Unknown}
+use Rattle.std.specs.Prelude.{Option, Some, None}
 
 -- all of them
 abbrev pub flow_kinds : List FlowKind
@@ -33,29 +32,29 @@ abbrev pub total_at : FlowKind → ℕ → ℕ → ℕ
 total_at q p cents = cond (eqb p (first_of (total_span q))) cents 0
 
 -- the first of the kinds that has the causale, where one does
-unfoldable pub kind_among : List FlowKind → List ℕ → KindFound
-kind_among [] bs = Unknown
-kind_among (q ∷ qs) bs = cond (is_equal bs (causale q)) (Of q) (kind_among qs bs)
+unfoldable pub kind_among : List FlowKind → List ℕ → Option FlowKind
+kind_among [] bs = None
+kind_among (q ∷ qs) bs = cond (is_equal bs (causale q)) (Some q) (kind_among qs bs)
 
 -- the kind of flow that a record 14 stands in, by its causale
-abbrev pub kind_in : List ℕ → KindFound
+abbrev pub kind_in : List ℕ → Option FlowKind
 kind_in rec = kind_among flow_kinds (field 29 33 rec)
 
-abbrev pub is_known : KindFound → Bool
-is_known (Of q) = true
-is_known Unknown = false
+abbrev pub is_known : Option FlowKind → Bool
+is_known (Some q) = true
+is_known None = false
 
 -- a causale may stand in a flow of the kind found so far: where none is, in any
-abbrev pub is_of : KindFound → List ℕ → Bool
-is_of (Of q) bs = is_equal bs (causale q)
-is_of Unknown bs = true
+abbrev pub is_of : Option FlowKind → List ℕ → Bool
+is_of (Some q) bs = is_equal bs (causale q)
+is_of None bs = true
 
 -- the kind found, and requests where none is
-abbrev pub or_requests : KindFound → FlowKind
-or_requests (Of q) = q
-or_requests Unknown = Requests
+abbrev pub or_requests : Option FlowKind → FlowKind
+or_requests (Some q) = q
+or_requests None = Requests
 
 -- the kind that was found first
-abbrev pub first_known : KindFound → KindFound → KindFound
-first_known (Of q) later = Of q
-first_known Unknown later = later
+abbrev pub first_known : Option FlowKind → Option FlowKind → Option FlowKind
+first_known (Some q) later = Some q
+first_known None later = later

@@ -1,5 +1,5 @@
 -- What is proved of the record rules. `proofs/` has its proof under the law's name in small letters. Assumes nothing.
-use Rattle.std.specs.Prelude.{ℕ, ◌<◌, true, false, List, ◌↔◌, ◌≡◌, length}
+use Rattle.std.specs.Prelude.{ℕ, ◌<◌, true, false, List, ◌↔◌, ◌≡◌, length, Result}
 use Rattle.fields.specs.Amount.{amount_field}
 use Rattle.fields.specs.FieldVerdict.{accepted}
 use Rattle.fields.specs.FieldVerdict.{refused as FieldVerdict-refused}
@@ -17,10 +17,11 @@ use Rattle.records.specs.Kinds.{type_of, opens, closes}
 use Rattle.records.specs.Limits.{count_limit, cents_limit, saturated_context}
 use Rattle.records.specs.QuickTest.{passes_quick_test}
 use Rattle.records.specs.declared.flow_kind.FlowKind.{FlowKind}
-use Rattle.records.specs.declared.flow_kind.KindFound.TheVariants.{Of}
-use Rattle.records.specs.declared.judged.Judged.{Judged}
+use Rattle.records.specs.declared.judged.Fault.{Fault}
+use Rattle.records.specs.declared.judged.Record.{Record}
 use Rattle.records.specs.declared.kind.RecordKind.{RecordKind}
 use Rattle.records.specs.declared.kind.RecordKind.TheVariants.{Ef}
+use Rattle.std.specs.Prelude.{Some}
 
 -- a type tells its kind: the eleven are different
 abbrev pub TypesDiffer : Type 0
@@ -28,7 +29,7 @@ TypesDiffer = (k l : RecordKind) → type_of k ≡ type_of l → k ≡ l
 
 -- the causale of a record tells the kind of flow, and each kind has its own
 abbrev pub KindTold : Type 0
-KindTold = (rec : List ℕ) (q : FlowKind) → (kind_in rec ≡ Of q) ↔ (field 29 33 rec ≡ causale q)
+KindTold = (rec : List ℕ) (q : FlowKind) → (kind_in rec ≡ Some q) ↔ (field 29 33 rec ≡ causale q)
 
 -- a record that is right is of the kind that it was judged as, and asks for that kind's cents
 abbrev pub RightAsked : Type 0
@@ -76,7 +77,7 @@ TrailerExact =
 
 -- what an answer stands for on paper determines it
 abbrev pub JudgedDetermined : Type 0
-JudgedDetermined = (r s : Judged) → judged_verdict r ≡ judged_verdict s → r ≡ s
+JudgedDetermined = (r s : Result Record Fault) → judged_verdict r ≡ judged_verdict s → r ≡ s
 
 -- a record that passes the quick test is one inside a disposition, has the number handed in, and is right and asks for nothing where that is
 -- digits and the one due

@@ -1,7 +1,9 @@
 -- What the rules find of a record, and how a list of checks decides it. Assumes nothing.
-use Rattle.std.specs.Prelude.{ℕ, Bool, true, false, cond, ◌&&◌, ◌||◌, List, [], ◌∷◌, ◌++◌, ◌≡◌, ltb, eqb}
-use Rattle.records.specs.declared.judged.Judged.{Judged}
-use Rattle.records.specs.declared.judged.Judged.TheVariants.{Right, Refused}
+use Rattle.std.specs.Prelude.{ℕ, Bool, true, false, cond, ◌&&◌, ◌||◌, List, [], ◌∷◌, ◌++◌, ◌≡◌, ltb, eqb, Result, Ok, Err}
+use Rattle.refusals.specs.Numbers.{number_of}
+use Rattle.refusals.specs.declared.Reason.{Reason}
+use Rattle.records.specs.declared.judged.Fault.{Fault}
+use Rattle.records.specs.declared.judged.Record.{Record}
 use Rattle.records.specs.declared.kind.RecordKind.{RecordKind}
 
 -- right, with the record's kind and the cents that it asks for; or refused, with number and position (document 01, "Numbers a clerk
@@ -44,7 +46,21 @@ unfoldable pub checks_at : ℕ → List Check → List Check
 checks_at p [] = []
 checks_at p (check holds n q ∷ cs) = cond (eqb q p) (check holds n q ∷ checks_at p cs) (checks_at p cs)
 
--- the paper's values for each case of `records::Judged`
-abbrev pub judged_verdict : Judged → RecordVerdict
-judged_verdict (Right r) = right r.kind r.cents
-judged_verdict (Refused n p) = refused n p
+-- what the code gives of a right record, or the number of its reason and the position
+abbrev pub judged_verdict : Result Record Fault → RecordVerdict
+judged_verdict (Ok r) = right r.kind r.cents
+judged_verdict (Err f) = refused (number_of f.reason) f.position
+
+-- for the contracts of private functions: a fault, and the answer of a field's rule as that of the field at a position
+abbrev pub fault : Reason → ℕ → Fault
+fault r p = record { reason = r; position = p }
+
+abbrev pub placed : {A : Type 0} → ℕ → Result A Reason → Result A Fault
+placed p (Ok a) = Ok a
+placed p (Err r) = Err (fault r p)
+
+-- and what the code gives that has made these checks: it goes on where each holds, and else it ends with the first that fails, whatever
+-- comes after them
+abbrev pub Settles : {A : Type 0} → Result A Fault → List Check → Type 0
+Settles (Ok a) cs = Hold cs
+Settles (Err f) cs = (rest : RecordVerdict) → first_fault cs rest ≡ refused (number_of f.reason) f.position

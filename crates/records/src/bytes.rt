@@ -1,6 +1,6 @@
 // The bytes that a record may have: 32 to 126.
-ghost use Rattle.std.specs.Prelude.{◌&&◌, ◌≡◌};
-ghost use Rattle.sequences.specs.Every.{every};
+ghost use Rattle.std.specs.Prelude.{◌≡◌, ◌&&◌, not, true, position};
+ghost use Rattle.std.specs.List.{fold};
 ghost use Rattle.records.specs.Bytes.{is_printable, bad_byte};
 
 // The position of the record's first byte outside 32 to 126, or 0 where it has none. A right record is
@@ -12,38 +12,32 @@ pub fn bad_byte(rec: &[u8]) -> u64
     if rec.len() < 96 {
         return first_bad(rec);
     }
-    if both(all_printable(&rec[0..96]), all_printable(&rec[96..])) {
+    if all_printable(&rec[0..96]) & all_printable(&rec[96..]) {
         return 0;
     }
     first_bad(rec)
 }
 
 fn all_printable(part: &[u8]) -> bool
-    ensures { result ≡ every is_printable part.now }
+    ensures { result ≡ fold (λ right b. right && is_printable b) true part.now }
 {
-    let mut right = true;
-    let mut i = 0;
-    while i < part.len() {
-        right = both(right, is_printable(part[i]));
-        i += 1;
-    }
-    right
+    part.iter().fold(true, |right, b| right & is_printable(*b))
 }
 
 // The plain path, taken only where there is a bad byte.
 fn first_bad(rec: &[u8]) -> u64
     ensures { result ≡ bad_byte rec.now }
 {
-    let mut position: u64 = 1;
-    let mut i = 0;
-    while i < rec.len() {
-        if !is_printable(rec[i]) {
-            return position;
-        }
-        position += 1;
-        i += 1;
+    match bad_index(rec) {
+        Some(i) => i as u64 + 1,
+        None => 0,
     }
-    0
+}
+
+fn bad_index(rec: &[u8]) -> Option<usize>
+    ensures { result ≡ position (λ b. not (is_printable b)) rec.now }
+{
+    rec.iter().position(|b| !is_printable(*b))
 }
 
 const FIRST: u8 = 32;
@@ -53,14 +47,5 @@ const LAST: u8 = 126;
 fn is_printable(b: u8) -> bool
     ensures { result ≡ is_printable b }
 {
-    if b < FIRST {
-        return false;
-    }
-    b <= LAST
-}
-
-fn both(a: bool, b: bool) -> bool
-    ensures { result ≡ (a && b) }
-{
-    if a { b } else { false }
+    FIRST <= b && b <= LAST
 }

@@ -9,17 +9,10 @@ ghost use Rattle.records.specs.FlowKinds.{causale, sign, total_span, total_at, k
 
 use crate::position::field;
 
-#[derive(Clone, Copy)]
+#[derive(Clone, Copy, Debug, PartialEq, Eq)]
 pub enum FlowKind {
     Requests,
     Recalls,
-}
-
-// The kind of a flow, as far as its records have told it; or the kind whose causale a record has.
-#[derive(Clone, Copy)]
-pub enum KindFound {
-    Of(FlowKind),
-    Unknown,
 }
 
 // The causale, as it stands at 29-33 of a record 14.
@@ -71,36 +64,33 @@ pub fn total_at(kind: FlowKind, first: usize, cents: u64) -> u64
 }
 
 // The kind of flow that a record 14 stands in, by its causale.
-pub fn kind_in(rec: &[u8]) -> KindFound
+pub fn kind_in(rec: &[u8]) -> Option<FlowKind>
     ensures { result ≡ kind_in rec.now }
 {
     if has_causale(rec, FlowKind::Requests) {
-        return KindFound::Of(FlowKind::Requests);
+        return Some(FlowKind::Requests);
     }
     if has_causale(rec, FlowKind::Recalls) {
-        return KindFound::Of(FlowKind::Recalls);
+        return Some(FlowKind::Recalls);
     }
-    KindFound::Unknown
+    None
 }
 
-// Whether a record 14 may stand in a flow of the kind found so far.
-pub(crate) fn is_of(rec: &[u8], found: KindFound) -> bool
+// Whether a record 14 may stand in a flow of the kind found so far: in any, where none is.
+pub(crate) fn is_of(rec: &[u8], found: Option<FlowKind>) -> bool
     ensures { result ≡ is_of found (Field-field 29 33 rec.now) }
 {
     match found {
-        KindFound::Of(kind) => has_causale(rec, kind),
-        KindFound::Unknown => true,
+        Some(kind) => has_causale(rec, kind),
+        None => true,
     }
 }
 
 // The kind found, and requests where none is.
-pub fn or_requests(found: KindFound) -> FlowKind
+pub fn or_requests(found: Option<FlowKind>) -> FlowKind
     ensures { result ≡ or_requests found }
 {
-    match found {
-        KindFound::Of(kind) => kind,
-        KindFound::Unknown => FlowKind::Requests,
-    }
+    found.unwrap_or(FlowKind::Requests)
 }
 
 fn has_causale(rec: &[u8], kind: FlowKind) -> bool

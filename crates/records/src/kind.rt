@@ -6,7 +6,7 @@ ghost use Rattle.records.specs.Kinds.{heads as Kinds-heads, opens as Kinds-opens
 use crate::constants;
 use crate::position::field;
 
-#[derive(Clone, Copy)]
+#[derive(Clone, Copy, Debug, PartialEq, Eq)]
 pub enum RecordKind {
     Im,
     R14,
@@ -59,20 +59,12 @@ pub fn is_opening(rec: &[u8]) -> bool
 pub fn heads(kind: RecordKind) -> bool
     ensures { result ≡ Kinds-heads kind }
 {
-    if let RecordKind::Im = kind {
-        true
-    } else {
-        false
-    }
+    matches!(kind, RecordKind::Im)
 }
 
 // Whether a record of the kind opens a disposition.
 pub fn opens(kind: RecordKind) -> bool
     ensures { result ≡ Kinds-opens kind }
 {
-    if let RecordKind::R14 = kind {
-        true
-    } else {
-        false
-    }
+    matches!(kind, RecordKind::R14)
 }

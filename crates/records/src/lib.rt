@@ -20,21 +20,18 @@ mod limits;
 mod position;
 mod quick_test;
 mod record;
-mod refusals;
 mod rules;
 mod trailer;
 
 pub use bytes::bad_byte;
 pub use constants::{AMOUNT_FIRST, AMOUNT_LAST, COMPANY_FIRST, COMPANY_LAST, CURRENCY};
 pub use flow_kind::{
-    FlowKind, KindFound, causale_of, kind_in, or_requests, sign_of, total_at, total_first,
-    total_last,
+    FlowKind, causale_of, kind_in, or_requests, sign_of, total_at, total_first, total_last,
 };
-pub use judged::{Counts, Judged, Record};
+pub use judged::{Counts, Fault, Record};
 pub use kind::{RecordKind, has_type, heads, is_opening, opens, type_of};
 pub use limits::{MOST_CENTS, MOST_RECORDS};
 pub use position::{field, seven_digits, write_number};
 pub use quick_test::passes_quick_test;
 pub use record::judge;
-pub use refusals::WRONG_LENGTH;
 pub use rules::amount;

@@ -1,6 +1,6 @@
 // The fields of a record, by their positions as document 01 counts them: from 1, both ends with; read, and
 // a number written in one.
-ghost use Rattle.std.specs.Prelude.{◌-◌, min, ◌≡◌};
+ghost use Rattle.std.specs.Prelude.{◌≡◌};
 ghost use Rattle.sequences.specs.Slice.{StartsAt};
 ghost use Rattle.fields.specs.Digits.{digits};
 ghost use Rattle.records.specs.Field.{◌to◌, field_start, number_written};
@@ -11,7 +11,7 @@ pub fn field(rec: &[u8], first: usize, last: usize) -> &[u8]
     ensures bytes { result.now ≡ Field-field first last rec.now }
     ensures place { StartsAt result rec.entry (field_start first last rec.now) }
 {
-    let from = before(first);
+    let from = first.saturating_sub(1);
     if last <= from {
         return &rec[0..0];
     }
@@ -38,25 +38,10 @@ pub fn seven_digits(value: u64) -> [u8; 7]
 pub fn write_number(rec: &mut [u8], first: usize, last: usize, value: u64)
     ensures { rec.new ≡ number_written (first to last) value rec.old }
 {
-    let from = before(first);
-    let to = least(last, rec.len());
+    let from = first.saturating_sub(1);
+    let to = last.min(rec.len());
     if to <= from {
         return;
     }
     fields::write_digits(&mut rec[from..to], value);
-}
-
-fn least(a: usize, b: usize) -> usize
-    ensures { result ≡ min a b }
-{
-    if a < b { a } else { b }
-}
-
-fn before(position: usize) -> usize
-    ensures { result ≡ position - 1 }
-{
-    if position == 0 {
-        return 0;
-    }
-    position - 1
 }

@@ -1,22 +1,51 @@
-// What the table of checks says of one field: tests, and fields that are digits and then compared.
-ghost use Rattle.std.specs.Prelude.{◌+◌, not, ◌||◌, ◌≡◌, eqb};
+// What the table of checks says of one field: tests, and checks that end the judgement of a record by its
+// first fault.
+ghost use Rattle.std.specs.Prelude.{◌+◌, ◌≤◌, not, ◌||◌, ◌≡◌, [], ◌∷◌, eqb, IfOk};
 ghost use Rattle.fields.specs.Amount.{amount_field};
-ghost use Rattle.fields.specs.FieldVerdict.{number_verdict, date_verdict};
+ghost use Rattle.fields.specs.FieldVerdict.{field_verdict};
 ghost use Rattle.fields.specs.Bytes.{is_blank, is_equal};
-ghost use Rattle.fields.specs.Digits.{is_digits, digits_from};
+ghost use Rattle.fields.specs.Digits.{is_digits, is_above_zero};
 ghost use Rattle.fields.specs.Digits.{number as Digits-number};
+ghost use Rattle.refusals.specs.Numbers.{number_of};
 ghost use Rattle.records.specs.Amount.{amount_in};
 ghost use Rattle.records.specs.Field.{byte_at};
 ghost use Rattle.records.specs.Field.{field as Field-field};
 ghost use Rattle.records.specs.Context.{header_of};
-ghost use Rattle.records.specs.Checks.{is_listed};
+ghost use Rattle.records.specs.Checks.{is_present, is_date, is_listed, number_checks, amount_checks};
 ghost use Rattle.records.specs.Company.{agrees};
-ghost use Rattle.records.specs.FieldTests.{Fits, digits_then, digits_then_day};
+ghost use Rattle.records.specs.FieldTests.{Fits};
+ghost use Rattle.records.specs.RecordVerdict.{Settles, placed};
+ghost use Rattle.records.specs.RecordVerdict.{check as RecordVerdict-check};
 
 use crate::constants::{AMOUNT_FIRST, AMOUNT_LAST};
+use crate::judged::Fault;
 use crate::position::field;
-use crate::refusals::{NOT_PERMITTED, NOT_THE_HEADERS};
-use fields::{Date, NOT_DIGITS, Number};
+use fields::Day;
+use refusals::Reason;
+
+// Goes on where the test holds, and else ends with the fault.
+pub(crate) fn check(holds: bool, reason: Reason, position: u64) -> Result<(), Fault>
+    ensures { Settles result (RecordVerdict-check holds (number_of reason) position ∷ []) }
+{
+    if holds {
+        Ok(())
+    } else {
+        Err(Fault { reason, position })
+    }
+}
+
+// The answer of a field's rule, as that of the field that starts at the position.
+fn at<T>(position: usize, found: Result<T, Reason>) -> Result<T, Fault>
+    ensures { result ≡ placed position found }
+{
+    match found {
+        Ok(value) => Ok(value),
+        Err(reason) => Err(Fault {
+            reason,
+            position: position as u64,
+        }),
+    }
+}
 
 pub(crate) fn blank(rec: &[u8], first: usize, last: usize) -> bool
     ensures { result ≡ is_blank (Field-field first last rec.now) }
@@ -30,64 +59,13 @@ pub(crate) fn same(rec: &[u8], first: usize, last: usize, other: &[u8]) -> bool
     fields::equal(field(rec, first, last), other)
 }
 
-// Whether the record has at its positions what the header has there.
-pub(crate) fn as_in_header(rec: &[u8], first: usize, last: usize, header: &[u8]) -> bool
-    ensures { result ≡ is_equal
-        (Field-field first last rec.now)
-        (Field-field first last header.now) }
-{
-    same(rec, first, last, field(header, first, last))
-}
-
-pub(crate) fn either(a: bool, b: bool) -> bool
-    ensures { result ≡ (a || b) }
-{
-    if a { true } else { b }
-}
-
 // Whether the byte at the position is one of those listed.
-pub(crate) fn listed(rec: &[u8], position: usize, bytes: &[u8]) -> bool
-    requires { Fits position position rec.now }
+pub(crate) fn listed(rec: &[u8; 120], position: usize, bytes: &[u8]) -> bool
+    requires { Fits position position }
     ensures { result ≡ is_listed (byte_at position rec.now) bytes.now }
 {
     let b = rec[position - 1];
-    let mut i = 0;
-    while i < bytes.len() {
-        if bytes[i] == b {
-            return true;
-        }
-        i += 1;
-    }
-    false
-}
-
-pub(crate) fn digits(rec: &[u8], first: usize, last: usize) -> bool
-    requires { Fits first last rec.now }
-    ensures { result ≡ is_digits (Field-field first last rec.now) }
-{
-    match number_at(rec, first, last) {
-        Number::Value(_) => true,
-        Number::Refused(_) => false,
-    }
-}
-
-// The number that digits give, or else the refusal: 5.
-fn number_at(rec: &[u8], first: usize, last: usize) -> Number
-    requires { Fits first last rec.now }
-    ensures { number_verdict result ≡ digits_from 0 (Field-field first last rec.now) }
-{
-    fields::read_digits(field(rec, first, last))
-}
-
-pub(crate) fn blank_or_digits(rec: &[u8], first: usize, last: usize) -> bool
-    requires { Fits first last rec.now }
-    ensures { result ≡
-        (is_blank (Field-field first last rec.now) || is_digits (Field-field first last rec.now)) }
-{
-    if blank(rec, first, last) {
-        return true;
-    }
-    digits(rec, first, last)
+    bytes.iter().any(|listed| b == *listed)
 }
 
 // Whether a company code is that of the flow's first record 14, blanks like any other bytes. `company` is
@@ -95,80 +73,133 @@ pub(crate) fn blank_or_digits(rec: &[u8], first: usize, last: usize) -> bool
 pub(crate) fn agreeing(company: &[u8], found: &[u8]) -> bool
     ensures { result ≡ agrees company.now found.now }
 {
-    if company.len() == 0 {
-        return true;
-    }
-    fields::equal(found, company)
-}
-
-// The date in the six bytes from first on, or else the refusal: 5, then 8.
-pub(crate) fn date(rec: &[u8], first: usize) -> Date
-    requires { Fits first (first + 5) rec.now }
-    ensures { date_verdict result ≡ digits_then_day (Field-field first (first + 5) rec.now) }
-{
-    fields::read_date(field(rec, first, first + 5))
+    company.len() == 0 || fields::equal(found, company)
 }
 
 // The amount of the disposition that the record opens, or else the refusal, by the rule of amounts.
-pub fn amount(rec: &[u8]) -> Number
-    ensures { number_verdict result ≡ amount_field (amount_in rec.now) }
+pub fn amount(rec: &[u8]) -> Result<u64, Reason>
+    ensures { field_verdict result ≡ amount_field (amount_in rec.now) }
 {
     fields::read_amount(field(rec, AMOUNT_FIRST, AMOUNT_LAST))
 }
 
-// Digits that give the value due, or else the refusal: 5, then the number handed in.
-pub(crate) fn digits_equal_to(
+// Not all blank, or else 7.
+pub(crate) fn present(rec: &[u8], first: usize, last: usize) -> Result<(), Fault>
+    ensures { Settles result (RecordVerdict-check (is_present (Field-field first last rec.now)) 7 first ∷ []) }
+{
+    check(!blank(rec, first, last), Reason::Absent, first as u64)
+}
+
+// What the header has at the positions, or else 10.
+pub(crate) fn as_in_header(
     rec: &[u8],
     first: usize,
     last: usize,
+    header: &[u8],
+) -> Result<(), Fault>
+    ensures { Settles result
+        (RecordVerdict-check (is_equal (Field-field first last rec.now) (Field-field first last header.now)) 10 first ∷ []) }
+{
+    let copied = same(rec, first, last, field(header, first, last));
+    check(copied, Reason::NotTheHeaders, first as u64)
+}
+
+// The number that digits give, or else 5.
+pub(crate) fn digits(rec: &[u8; 120], first: usize, last: usize) -> Result<u64, Fault>
+    requires { Fits first last }
+    ensures checked { Settles result (RecordVerdict-check (is_digits (Field-field first last rec.now)) 5 first ∷ []) }
+    ensures value { IfOk result (λ v. v ≡ Digits-number (Field-field first last rec.now)) }
+{
+    at(first, fields::read_digits(field(rec, first, last)))
+}
+
+pub(crate) fn all_digits(rec: &[u8; 120], first: usize, last: usize) -> bool
+    requires { Fits first last }
+    ensures { result ≡ is_digits (Field-field first last rec.now) }
+{
+    digits(rec, first, last).is_ok()
+}
+
+// All blank, or digits, or else 5.
+pub(crate) fn blank_or_digits(rec: &[u8; 120], first: usize, last: usize) -> Result<(), Fault>
+    requires { Fits first last }
+    ensures { Settles result
+        (RecordVerdict-check (is_blank (Field-field first last rec.now) || is_digits (Field-field first last rec.now)) 5 first ∷ []) }
+{
+    let right = blank(rec, first, last) || all_digits(rec, first, last);
+    check(right, Reason::NotDigits, first as u64)
+}
+
+// The date in the six bytes from first on, or else 5, then 8.
+pub(crate) fn date(rec: &[u8; 120], first: usize) -> Result<Day, Fault>
+    requires { Fits first (first + 5) }
+    ensures { Settles result
+        (RecordVerdict-check (is_digits (Field-field first (first + 5) rec.now)) 5 first
+        ∷ RecordVerdict-check (is_date (Field-field first (first + 5) rec.now)) 8 first
+        ∷ []) }
+{
+    at(first, fields::read_date(field(rec, first, first + 5)))
+}
+
+// The amount in a record 14, or else 5, then 25.
+pub(crate) fn amount_or_fault(rec: &[u8; 120]) -> Result<u64, Fault>
+    ensures checked { Settles result (amount_checks rec.now) }
+    ensures value { IfOk result (λ v. v ≡ Digits-number (amount_in rec.now)) }
+{
+    at(AMOUNT_FIRST, amount(rec))
+}
+
+// Digits that give the value due, or else 5, then the reason handed in.
+pub(crate) fn digits_equal_to(
+    rec: &[u8; 120],
+    first: usize,
+    last: usize,
     value: u64,
-    number: u64,
-) -> Number
-    requires { Fits first last rec.now }
-    ensures { number_verdict result ≡ digits_then
-        (Field-field first last rec.now)
-        (eqb (Digits-number (Field-field first last rec.now)) value)
-        number }
+    reason: Reason,
+) -> Result<(), Fault>
+    requires { Fits first last }
+    ensures { Settles result
+        (RecordVerdict-check (is_digits (Field-field first last rec.now)) 5 first
+        ∷ RecordVerdict-check (eqb (Digits-number (Field-field first last rec.now)) value) (number_of reason) first
+        ∷ []) }
 {
-    let Number::Value(found) = number_at(rec, first, last) else {
-        return Number::Refused(NOT_DIGITS);
-    };
-    if found == value {
-        return Number::Value(found);
-    }
-    Number::Refused(number)
+    let found = digits(rec, first, last)?;
+    check(found == value, reason, first as u64)
 }
 
-// Digits that are the header's ABI, or else the refusal: 5, then 10.
-pub(crate) fn equal_to_abi(rec: &[u8], first: usize, last: usize, header: &[u8]) -> Number
-    requires { Fits first last rec.now }
-    ensures { number_verdict result ≡ digits_then
-        (Field-field first last rec.now)
-        (is_equal (Field-field first last rec.now) (header_of header.now).abi)
-        10 }
+// 4-10 of every record of a disposition: its number.
+pub(crate) fn check_number(rec: &[u8; 120], n: u64) -> Result<(), Fault>
+    ensures { Settles result (number_checks n rec.now) }
 {
-    let Number::Value(found) = number_at(rec, first, last) else {
-        return Number::Refused(NOT_DIGITS);
-    };
-    if same(rec, first, last, field(header, 9, 13)) {
-        return Number::Value(found);
-    }
-    Number::Refused(NOT_THE_HEADERS)
+    digits_equal_to(rec, 4, 10, n, Reason::WrongNumber)
 }
 
-// Digits above zero, or else the refusal: 5, then 6.
-pub(crate) fn above_zero(rec: &[u8], first: usize, last: usize) -> Number
-    requires { Fits first last rec.now }
-    ensures { number_verdict result ≡ digits_then
-        (Field-field first last rec.now)
-        (not (eqb (Digits-number (Field-field first last rec.now)) 0))
-        6 }
+// Digits that are the header's ABI, or else 5, then 10.
+pub(crate) fn equal_to_abi(
+    rec: &[u8; 120],
+    first: usize,
+    last: usize,
+    header: &[u8],
+) -> Result<(), Fault>
+    requires { Fits first last }
+    ensures { Settles result
+        (RecordVerdict-check (is_digits (Field-field first last rec.now)) 5 first
+        ∷ RecordVerdict-check (is_equal (Field-field first last rec.now) (header_of header.now).abi) 10 first
+        ∷ []) }
 {
-    let Number::Value(found) = number_at(rec, first, last) else {
-        return Number::Refused(NOT_DIGITS);
-    };
-    if found == 0 {
-        return Number::Refused(NOT_PERMITTED);
-    }
-    Number::Value(found)
+    digits(rec, first, last)?;
+    let own = same(rec, first, last, field(header, 9, 13));
+    check(own, Reason::NotTheHeaders, first as u64)
+}
+
+// Digits above zero, or else 5, then 6.
+pub(crate) fn above_zero(rec: &[u8; 120], first: usize, last: usize) -> Result<(), Fault>
+    requires { Fits first last }
+    ensures { Settles result
+        (RecordVerdict-check (is_digits (Field-field first last rec.now)) 5 first
+        ∷ RecordVerdict-check (is_above_zero (Digits-number (Field-field first last rec.now))) 6 first
+        ∷ []) }
+{
+    let found = digits(rec, first, last)?;
+    check(found != 0, Reason::NotPermitted, first as u64)
 }

@@ -8,10 +8,10 @@ use Rattle.records.specs.Field.{field}
 use Rattle.records.specs.QuickTest.{passes_quick_test}
 use Rattle.flow.specs.FastPath.{Inside}
 use Rattle.flow.specs.Records.{record_at}
-use Rattle.flow.specs.declared.order.TypeFound.TheVariants.{Of}
 use Rattle.flow.proofs.Cut.{record_part}
 use Rattle.flow.proofs.FastPath.{pass_begin, pass_next}
 use Rattle.flow.proofs.fast_path.pass_over.Goals as goal
+use Rattle.std.specs.Prelude.{Option, Some, None}
 
 pub loop-i-init : goal.loop-i-init
 loop-i-init c = pass_begin _ _ _ c.requires.le_from c.requires.from_in_bounds
@@ -22,7 +22,7 @@ flow-of c = c.args.flow.now
 -- what is known of a record that was passed over
 passed-test : (c : goal.After-pass-here) → let i = c.loop-i.i in
     let kind = c.in-Of.kind in
-    Inside c.loop-i.here.place.due (record_at i (flow-of c)) (Of kind) × (passes_quick_test kind (field 4 10 (record_at (i - 1) (flow-of c))) (record_at i (flow-of c)) ≡ true)
+    Inside c.loop-i.here.place.due (record_at i (flow-of c)) (Some kind) × (passes_quick_test kind (field 4 10 (record_at (i - 1) (flow-of c))) (record_at i (flow-of c)) ≡ true)
 passed-test c =
     let i = c.loop-i.i in
     let kind = c.in-Of.kind in

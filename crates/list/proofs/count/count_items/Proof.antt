@@ -11,10 +11,10 @@ use borrow.Author.Tests.{le-leb, lt-leb}
 use Rattle.list.specs.Items.{items_from, parse, item_count}
 use Rattle.list.specs.Table.{row_of}
 use Rattle.list.specs.declared.count.Count.TheVariants.{Faulty}
-use Rattle.list.specs.declared.table.Row.TheVariants.{Of, Missing}
 use Rattle.list.proofs.Parsing.{counted_from, counted-all, counted_next, counted_none, counted_end}
 use Rattle.list.proofs.count.count_items.Statement.{statement}
 use Rattle.list.proofs.count.count_items.Tie as tie
+use Rattle.std.specs.Prelude.{Option, Some, None}
 
 abbrev invariant-loop : tie.invariant-loop-at
 invariant-loop list n₀ at₀ n at = (at ≤ length list) × (n ≤ at) × (item_count (parse list) ≡ counted_from n (items_from n 0 (drop at list)))
@@ -28,7 +28,7 @@ loop-holds c = (omega arith, omega arith, counted-all (parse c.before.args.list.
 returns : tie.Need-returns-in_default invariant-loop decreases-loop
 returns c =
     let here = c.before.before.before.before.before in
-    let missing : row_of (get_or here.before.before.args.list.now here.loop-at.at 0) ≡ Missing = sym c.before.before.row_of.ensures ∙ c.before.in_default.is in
+    let missing : row_of (get_or here.before.before.args.list.now here.loop-at.at 0) ≡ None = sym c.before.before.row_of.ensures ∙ c.before.in_default.is in
     let told : c.as_count.result ≡ suc here.loop-at.n = c.as_count.ensures ∙ add-one here.loop-at.n in
     rw told (sym (here.loop-at.invariant.2 ∙ counted_none _ _ _ c.before.before.before.before.loop-at-test.true missing))
 
@@ -40,7 +40,7 @@ decides : (c : tie.After-body_length-size invariant-loop decreases-loop) → let
     (Faulty (suc here.loop-at.n))
 decides c =
     let here = c.before.before.before.before.before in
-    let row : row_of (get_or here.before.before.args.list.now here.loop-at.at 0) ≡ Of c.before.in-Of.kind = sym c.before.before.row_of.ensures ∙ c.before.in-Of.is in
+    let row : row_of (get_or here.before.before.args.list.now here.loop-at.at 0) ≡ Some c.before.in-Of.kind = sym c.before.before.row_of.ensures ∙ c.before.in-Of.is in
     rw c.body_length-size.ensures (here.loop-at.invariant.2 ∙ counted_next _ _ _ c.before.before.before.before.loop-at-test.true _ row)
 
 returns-2 : tie.Need-returns-then-list-at invariant-loop decreases-loop

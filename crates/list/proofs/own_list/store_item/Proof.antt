@@ -11,23 +11,23 @@ use Rattle.list.specs.Items.{list_bytes}
 use Rattle.list.specs.ReadBack.{gather, item_of}
 use Rattle.list.specs.Table.{carried, body_length, row_in}
 use Rattle.list.specs.declared.table.ItemKind.{ItemKind}
-use Rattle.list.specs.declared.table.Row.TheVariants.{Of, Missing}
 use Rattle.list.proofs.Gathering.{body_gathered}
 use Rattle.list.proofs.OwnList.{no_item, item_count, item_stored}
 use Rattle.list.proofs.own_list.store_item.Statement.{statement}
 use Rattle.list.proofs.own_list.store_item.Tie as tie
+use Rattle.std.specs.Prelude.{Option, Some, None}
 
 returns : tie.Need-returns-in_default
 returns c =
     let start = c.before.before.before.before in
-    let none : row_in start.args.flow start.args.rec.now ≡ Missing = sym c.before.row_in.ensures ∙ c.in_default.is in
+    let none : row_in start.args.flow start.args.rec.now ≡ None = sym c.before.row_in.ensures ∙ c.in_default.is in
     (rw none (omega arith), rw (no_item _ _ none) (sym (put-nothing start.args.at start.args.out.now)))
 
 -- the kind of the record's row
 abbrev kind_of : tie.In-Of → ItemKind
 kind_of c = c.in-Of.kind
 
-row-so : (c : tie.In-Of) → let start = c.before.before.before.before in row_in start.args.flow start.args.rec.now ≡ Of (kind_of c)
+row-so : (c : tie.In-Of) → let start = c.before.before.before.before in row_in start.args.flow start.args.rec.now ≡ Some (kind_of c)
 row-so c = sym c.before.row_in.ensures ∙ c.in-Of.is
 
 -- there is room for the item

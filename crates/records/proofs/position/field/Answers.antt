@@ -25,14 +25,14 @@ starts first last from rec e some within =
 
 pub returns-then-last-from : goal.returns-then-last-from
 returns-then-last-from c =
-    let none : c.args.last - (c.args.first - 1) ≡ 0 = omega (arith, c.before-from.ensures) in
-    let from : c.args.last ≤ c.args.first - 1 = omega (arith, c.before-from.ensures) in
+    let none : c.args.last - (c.args.first - 1) ≡ 0 = omega (arith, c.saturating_sub-from.ensures) in
+    let from : c.args.last ≤ c.args.first - 1 = omega (arith, c.saturating_sub-from.ensures) in
     let lent = c.args in
     record { bytes = rw none; place = (refl, ap (λ (n : ℕ). n + lent.rec.ref_ptr.1) (no-positions lent.first lent.last lent.rec.now from)) }
 
 pub returns-then-rec-from : goal.returns-then-rec-from
 returns-then-rec-from c =
-    let past : length c.args.rec.now ≤ c.args.first - 1 = omega (arith, c.before-from.ensures) in
+    let past : length c.args.rec.now ≤ c.args.first - 1 = omega (arith, c.saturating_sub-from.ensures) in
     let lent = c.args in
     record { bytes = rw (drop_of_length-le _ past, take-nil); place = (refl, ap (λ (n : ℕ). n + lent.rec.ref_ptr.1) (past_the_end lent.first lent.last lent.rec.now past)) }
 
@@ -40,12 +40,12 @@ pub returns-then-rec-last : goal.returns-then-rec-last
 returns-then-rec-last c =
     let lent = c.args in
     let rec = c.args.rec.now in
-    let from = c.before-from.result in
+    let from = c.saturating_sub-from.result in
     let short : length (drop from rec) ≤ c.args.last - from = omega (arith, length-drop from rec) in
     let whole : length (drop from rec) ≤ length rec - from = omega (arith, length-drop from rec) in
-    record { bytes = rw (← c.before-from.ensures) (take_all _ _ whole ∙ sym (take_all _ _ short)); place = (refl, ap (λ (n : ℕ). n + lent.rec.ref_ptr.1) (starts lent.first lent.last c.before-from.result lent.rec.now c.before-from.ensures (omega arith) (omega arith))) }
+    record { bytes = rw (← c.saturating_sub-from.ensures) (take_all _ _ whole ∙ sym (take_all _ _ short)); place = (refl, ap (λ (n : ℕ). n + lent.rec.ref_ptr.1) (starts lent.first lent.last c.saturating_sub-from.result lent.rec.now c.saturating_sub-from.ensures (omega arith) (omega arith))) }
 
 pub returns : goal.returns
 returns c =
     let lent = c.args in
-    record { bytes = rw c.before-from.ensures; place = (refl, ap (λ (n : ℕ). n + lent.rec.ref_ptr.1) (starts lent.first lent.last c.before-from.result lent.rec.now c.before-from.ensures (omega arith) (omega arith))) }
+    record { bytes = rw c.saturating_sub-from.ensures; place = (refl, ap (λ (n : ℕ). n + lent.rec.ref_ptr.1) (starts lent.first lent.last c.saturating_sub-from.result lent.rec.now c.saturating_sub-from.ensures (omega arith) (omega arith))) }

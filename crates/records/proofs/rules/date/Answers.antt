@@ -1,8 +1,8 @@
--- `records::rules::date` meets its contract. Assumes nothing.
+-- `records::date` meets its contract. Assumes nothing.
 use mathlib.Core.Path.{◌∙◌, ap}
 use Rattle.fields.specs.Date.{date_field}
-use Rattle.records.proofs.FieldTests.{field-date}
+use Rattle.records.proofs.Settled.{date_settled}
 use Rattle.records.proofs.rules.date.Goals as goal
 
 pub returns : goal.returns
-returns c = c.read_date.ensures ∙ ap date_field c.field.ensures.bytes ∙ field-date _ _ c.requires
+returns c = rw c.at.ensures (date_settled _ c.told-rec _ c.requires _ (c.read_date.ensures ∙ ap date_field c.field.ensures.bytes))

@@ -1,11 +1,11 @@
--- `records::rules::digits` meets its contract. Assumes nothing.
-use mathlib.Core.Path.{sym, ◌∙◌, ap}
-use Rattle.fields.specs.FieldVerdict.{number_verdict}
-use Rattle.records.proofs.FieldTests.{digits_read, digits-refused}
+-- `records::digits` meets its contract. Assumes nothing.
+use mathlib.Core.Path.{◌∙◌, ap}
+use Rattle.fields.specs.Digits.{digit_field}
+use Rattle.records.proofs.Settled.{digits_settled, digits_given}
 use Rattle.records.proofs.rules.digits.Goals as goal
 
-pub returns-in-Value : goal.returns-in-Value
-returns-in-Value c = sym (digits_read _ (sym c.number_at.ensures ∙ ap number_verdict c.in-Value.is)).0
+pub returns-clause-checked : goal.returns-clause-checked
+returns-clause-checked c = rw c.at.ensures (digits_settled _ c.told-rec _ _ c.requires _ (c.read_digits.ensures ∙ ap digit_field c.field.ensures.bytes))
 
-pub returns-in-Refused : goal.returns-in-Refused
-returns-in-Refused c = sym (digits-refused _ (sym c.number_at.ensures ∙ ap number_verdict c.in-Refused.is))
+pub returns-clause-value : goal.returns-clause-value
+returns-clause-value c = rw c.at.ensures (digits_given _ c.told-rec _ _ c.requires _ (c.read_digits.ensures ∙ ap digit_field c.field.ensures.bytes))

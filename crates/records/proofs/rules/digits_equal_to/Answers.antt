@@ -1,19 +1,16 @@
--- `records::rules::digits_equal_to` meets its contract. Assumes nothing.
-use mathlib.Core.Path.{sym, ◌∙◌, ap}
-use borrow.Author.Tests.{eq-eqb, ne_eqb}
-use Rattle.fields.specs.FieldVerdict.{number_verdict}
-use Rattle.records.proofs.FieldTests.{digits_read, digits-refused}
+-- `records::digits_equal_to` meets its contract. Assumes nothing.
+use mathlib.Core.List.{[], ◌∷◌}
+use mathlib.Core.Path.{◌≡◌}
+use Rattle.std.specs.Prelude.{Err}
+use Rattle.std.proofs.Common.{rules}
+use Rattle.records.specs.RecordVerdict.{check}
+use Rattle.records.proofs.FirstFault.{ends_first, goes_on}
 use Rattle.records.proofs.rules.digits_equal_to.Goals as goal
 
-pub returns-in_default : goal.returns-in_default
-returns-in_default c = rw (digits-refused _ (sym c.number_at.ensures ∙ ap number_verdict c.in_default.is))
-
-pub returns-then-found-value : goal.returns-then-found-value
-returns-then-found-value c =
-    let value = digits_read _ (sym c.number_at.ensures ∙ ap number_verdict c.in-Value.is) in
-    rw (value.0, value.1, eq-eqb _ _ c.if-found-value.true)
+pub returns-in_err-found : goal.returns-in_err-found
+returns-in_err-found c =
+    let passed_on : c.from_residual.result ≡ Err c.in_err-found.field-0.0 = search rules in
+    rw passed_on (ends_first (check _ _ _ ∷ []) (check _ _ _ ∷ []) _ c.in_err-found.ensures.checked)
 
 pub returns : goal.returns
-returns c =
-    let value = digits_read _ (sym c.number_at.ensures ∙ ap number_verdict c.in-Value.is) in
-    rw (value.0, value.1, ne_eqb _ _ c.if-found-value.false)
+returns c = goes_on (check _ _ _ ∷ []) (check _ _ _ ∷ []) _ c.in_ok-found.ensures.checked (rw c.in_ok-found.ensures.value at c.check.ensures)

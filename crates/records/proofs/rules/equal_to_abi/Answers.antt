@@ -1,18 +1,16 @@
--- `records::rules::equal_to_abi` meets its contract. Assumes nothing.
-use mathlib.Core.Path.{sym, ◌∙◌, ap}
-use Rattle.fields.specs.FieldVerdict.{number_verdict}
-use Rattle.records.proofs.FieldTests.{digits_read, digits-refused}
+-- `records::equal_to_abi` meets its contract. Assumes nothing.
+use mathlib.Core.List.{[], ◌∷◌}
+use mathlib.Core.Path.{◌≡◌}
+use Rattle.std.specs.Prelude.{Err}
+use Rattle.std.proofs.Common.{rules}
+use Rattle.records.specs.RecordVerdict.{check}
+use Rattle.records.proofs.FirstFault.{ends_first, goes_on}
 use Rattle.records.proofs.rules.equal_to_abi.Goals as goal
 
-pub returns-in_default : goal.returns-in_default
-returns-in_default c = rw (digits-refused _ (sym c.number_at.ensures ∙ ap number_verdict c.in_default.is))
-
-pub returns-then-same : goal.returns-then-same
-returns-then-same c =
-    let value = digits_read _ (sym c.number_at.ensures ∙ ap number_verdict c.in-Value.is) in
-    rw (value.0, ← c.field.ensures.bytes, ← c.same.ensures, c.if-same.true, value.1)
+pub returns-in_err-digits : goal.returns-in_err-digits
+returns-in_err-digits c =
+    let passed_on : c.from_residual.result ≡ Err c.in_err-digits.field-0.0 = search rules in
+    rw passed_on (ends_first (check _ _ _ ∷ []) (check _ _ _ ∷ []) _ c.in_err-digits.ensures.checked)
 
 pub returns : goal.returns
-returns c =
-    let value = digits_read _ (sym c.number_at.ensures ∙ ap number_verdict c.in-Value.is) in
-    rw (value.0, ← c.field.ensures.bytes, ← c.same.ensures, c.if-same.false)
+returns c = goes_on (check _ _ _ ∷ []) (check _ _ _ ∷ []) _ c.in_ok-digits.ensures.checked (rw (c.same-own.ensures, c.field.ensures.bytes) at c.check.ensures)

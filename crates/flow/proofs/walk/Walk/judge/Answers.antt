@@ -3,9 +3,9 @@ use mathlib.Core.Path.{◌≡◌, sym, ◌∙◌, ap}
 use Rattle.records.specs.Bytes.{bad_byte}
 use Rattle.records.specs.RecordVerdict.{refused}
 use Rattle.flow.specs.Order.{permitted, among}
-use Rattle.flow.specs.declared.order.TypeFound.TheVariants.{Of, Missing}
 use Rattle.flow.proofs.Places.{other_length, bad_byte_lem, no_type, of_type}
 use Rattle.flow.proofs.walk.Walk.judge.Goals as goal
+use Rattle.std.specs.Prelude.{Option, Some, None}
 
 pub returns-then-rec-ne120 : goal.returns-then-rec-ne120
 returns-then-rec-ne120 c = sym (other_length _ _ _ _ _ c.if-rec-ne120.true)
@@ -19,7 +19,7 @@ returns-in-Of c =
     let rec = c.args.rec.now in
     let kind = c.in-Of.kind in
     let printable : bad_byte rec ≡ 0 = sym c.bad_byte-bad.ensures ∙ c.if-bad-ne0.false in
-    let found : among (permitted w.place.due) rec ≡ Of kind = sym c.kind_due.ensures ∙ c.in-Of.is in
+    let found : among (permitted w.place.due) rec ≡ Some kind = sym c.kind_due.ensures ∙ c.in-Of.is in
     c.judge.ensures ∙ rw c.dispositions_with.ensures (sym (of_type _ w _ _ rec c.if-rec-ne120.false kind printable found))
 
 pub returns-in-Missing : goal.returns-in-Missing
@@ -27,5 +27,5 @@ returns-in-Missing c =
     let w = c.args.self in
     let rec = c.args.rec.now in
     let printable : bad_byte rec ≡ 0 = sym c.bad_byte-bad.ensures ∙ c.if-bad-ne0.false in
-    let found : among (permitted w.place.due) rec ≡ Missing = sym c.kind_due.ensures ∙ c.in-Missing.is in
+    let found : among (permitted w.place.due) rec ≡ None = sym c.kind_due.ensures ∙ c.in-Missing.is in
     sym (no_type _ w _ _ rec c.if-rec-ne120.false printable found)

@@ -3,8 +3,9 @@ use mathlib.Core.Bool.{true, false}
 use mathlib.Core.Path.{◌≡◌, sym, ◌∙◌, ap}
 use Rattle.records.specs.FlowKinds.{kind_in, first_known}
 use Rattle.records.specs.Kinds.{opens}
-use Rattle.records.specs.declared.flow_kind.KindFound.{KindFound}
 use Rattle.flow.proofs.walk.Walk.kind_after.Goals as goal
+use Rattle.records.specs.declared.flow_kind.FlowKind.{FlowKind}
+use Rattle.std.specs.Prelude.{Option, Some, None}
 
 pub returns-then-not-opens : goal.returns-then-not-opens
 returns-then-not-opens c =
@@ -16,7 +17,7 @@ pub returns-in-Of : goal.returns-in-Of
 returns-in-Of c =
     let a = c.args in
     let one : opens a.kind ≡ true = sym c.opens.ensures ∙ c.if-not-opens.false in
-    let stays : first_known a.self.kind (kind_in a.rec.now) ≡ a.self.kind = ap (λ (q : KindFound). first_known q (kind_in a.rec.now)) c.in-Of.is ∙ sym c.in-Of.is in
+    let stays : first_known a.self.kind (kind_in a.rec.now) ≡ a.self.kind = ap (λ (q : Option FlowKind). first_known q (kind_in a.rec.now)) c.in-Of.is ∙ sym c.in-Of.is in
     rw (one, stays)
 
 pub returns : goal.returns
