@@ -15,7 +15,7 @@ use Rattle.records.specs.Limits.{most_cents}
 use Rattle.flow.specs.Find.{IsNumber, find, with_totals, find_with_totals}
 use Rattle.flow.specs.Judge.{judge}
 use Rattle.flow.specs.Verdict.{Verdict, accepted, refused, of_call}
-use Rattle.flow.specs.declared.answer.Refusal.{Refusal}
+use Rattle.flow.specs.Verdict.{Refusal}
 use Rattle.flow.specs.declared.answer.Totals.{Totals}
 use Rattle.flow.specs.declared.location.Location.{Location}
 use Rattle.flow.specs.declared.location.WithTotals.{WithTotals}

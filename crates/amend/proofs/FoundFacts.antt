@@ -5,11 +5,10 @@ use mathlib.Core.Path.{◌≡◌, sym, ◌∙◌, ap}
 use native.Mathlib.Omega.{arith}
 use lib.ListN.{length, take, get_or}
 use Rattle.records.specs.Limits.{cents_limit, count_limit}
-use Rattle.flow.specs.Find.{dispositions_in, found_with_totals_verdict, find_with_totals}
+use Rattle.flow.specs.Find.{dispositions_in, find_with_totals}
+use Rattle.flow.specs.Verdict.{verdict}
 use Rattle.flow.specs.Judge.{judge}
 use Rattle.flow.specs.Verdict.{accepted}
-use Rattle.flow.specs.declared.location.FoundWithTotals.{FoundWithTotals}
-use Rattle.flow.specs.declared.location.FoundWithTotals.TheVariants.{At}
 use Rattle.flow.specs.declared.location.Location.{Location}
 use Rattle.flow.specs.declared.location.WithTotals.{WithTotals}
 use Rattle.flow.proofs.Dispositions.{dispositions-counted, found-has, found_within}
@@ -61,6 +60,6 @@ found_facts f k {v} e =
 
 -- what was found stands there
 pub found_there :
-    (f : List ℕ) (k : ℕ) {a : FoundWithTotals} {v : WithTotals} → found_with_totals_verdict a ≡ find_with_totals f k → a ≡ At v
+    (f : List ℕ) (k : ℕ) {a : FoundWithTotals} {v : WithTotals} → verdict a ≡ find_with_totals f k → a ≡ At v
     → find_with_totals f k ≡ accepted v
-found_there f k told is = sym told ∙ ap found_with_totals_verdict is
+found_there f k told is = sym told ∙ ap verdict is

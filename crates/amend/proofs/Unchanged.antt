@@ -4,9 +4,8 @@ use mathlib.Core.List.{List}
 use mathlib.Core.Path.{◌≡◌, ap}
 use lib.ListN.{length}
 use Rattle.flow.specs.Find.{find_with_totals}
-use Rattle.flow.specs.Verdict.{Verdict, refused, answer_verdict}
-use Rattle.flow.specs.declared.answer.Answer.{Answer}
-use Rattle.flow.specs.declared.answer.Refusal.{Refusal}
+use Rattle.flow.specs.Verdict.{Verdict, refused, verdict}
+use Rattle.flow.specs.Verdict.{Refusal}
 use Rattle.flow.specs.declared.location.WithTotals.{WithTotals}
 use Rattle.amend.specs.Amended.{amended, unchanged, where_found}
 use Rattle.amend.specs.Change.{change_at, change}
@@ -21,5 +20,5 @@ module _ (f : List ℕ) (k : ℕ) {l : Verdict WithTotals} (found : find_with_to
   unfolding withdraw
   withdraw-found = ap (λ (l : Verdict WithTotals). where_found l (λ (v : WithTotals). withdraw_at k v f) f) found
 
-pub left-unchanged : (r : Answer) (size : ℕ) (f : List ℕ) {x : Refusal} → answer_verdict r ≡ refused x → size ≡ length f → amended r size f ≡ unchanged x f
+pub left-unchanged : (r : Answer) (size : ℕ) (f : List ℕ) {x : Refusal} → verdict r ≡ refused x → size ≡ length f → amended r size f ≡ unchanged x f
 left-unchanged r size f told same = λ i. record { answer = told i; size = same i; bytes = f }

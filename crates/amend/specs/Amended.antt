@@ -1,9 +1,8 @@
 -- What an amendment answers and leaves (document 01, "Questions and changes"). Assumes nothing.
 use Rattle.std.specs.Prelude.{ℕ, ◌+◌, ◌-◌, ◌*◌, List, length}
 use Rattle.sequences.specs.Part.{put}
-use Rattle.flow.specs.Verdict.{Verdict, accepted, refused, answer_verdict}
-use Rattle.flow.specs.declared.answer.Answer.{Answer}
-use Rattle.flow.specs.declared.answer.Refusal.{Refusal}
+use Rattle.flow.specs.Verdict.{Verdict, accepted, refused, verdict}
+use Rattle.flow.specs.Verdict.{Refusal}
 use Rattle.flow.specs.declared.answer.Totals.{Totals}
 use Rattle.flow.specs.declared.location.WithTotals.{WithTotals}
 
@@ -15,7 +14,7 @@ pub record Amended : Type 0 where
 
 -- the paper's values for `flow::Answer`, with the length of the flow left and the bytes as they were left
 abbrev pub amended : Answer → ℕ → List ℕ → Amended
-amended r size bytes = record { answer = answer_verdict r; size = size; bytes = bytes }
+amended r size bytes = record { answer = verdict r; size = size; bytes = bytes }
 
 -- "after a refusal all lent memory is as before", and the next call is lent as many bytes
 abbrev pub unchanged : Refusal → List ℕ → Amended

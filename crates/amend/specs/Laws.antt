@@ -13,8 +13,7 @@ use Rattle.grammar.specs.Fault.{company_of}
 use Rattle.amend.specs.Amended.{Amended, amended}
 use Rattle.amend.specs.Change.{change}
 use Rattle.amend.specs.Withdraw.{withdraw}
-use Rattle.flow.specs.declared.answer.Answer.{Answer}
-use Rattle.flow.specs.declared.answer.Refusal.{Refusal}
+use Rattle.flow.specs.Verdict.{Refusal}
 use Rattle.flow.specs.declared.answer.Totals.{Totals}
 use Rattle.flow.specs.declared.location.Location.{Location}
 

@@ -10,7 +10,7 @@ use Rattle.records.specs.declared.flow_kind.FlowKind.{FlowKind}
 use Rattle.records.specs.declared.flow_kind.FlowKind.TheVariants.{Requests, Recalls}
 use Rattle.flow.specs.Output.{output}
 use Rattle.flow.specs.Verdict.{Verdict, accepted, refused, refusal}
-use Rattle.flow.specs.declared.answer.Refusal.{Refusal}
+use Rattle.flow.specs.Verdict.{Refusal}
 use Rattle.flow.specs.declared.answer.Totals.{Totals}
 use Rattle.flow.specs.declared.location.Location.{Location}
 use Rattle.list.specs.Encode.{encode}

@@ -1,13 +1,13 @@
 -- What a function of the C interface returns and writes into `answer`. Assumes nothing.
 use Rattle.std.specs.Prelude.{ℕ, List, [], ◌∷◌}
 use Rattle.fields.specs.FieldVerdict.{FieldVerdict, accepted, refused}
-use Rattle.fields.specs.Calendar.{Day}
+use Rattle.fields.specs.declared.calendar.Day.{Day}
 use Rattle.records.specs.declared.flow_kind.FlowKind.{FlowKind}
 use Rattle.records.specs.declared.flow_kind.FlowKind.TheVariants.{Requests, Recalls}
 use Rattle.flow.specs.Output.{Output}
 use Rattle.flow.specs.Verdict.{Verdict, of_call}
 use Rattle.flow.specs.Verdict.{accepted as Verdict-accepted, refused as Verdict-refused}
-use Rattle.flow.specs.declared.answer.Refusal.{Refusal}
+use Rattle.flow.specs.Verdict.{Refusal}
 use Rattle.flow.specs.declared.answer.Totals.{Totals}
 use Rattle.flow.specs.declared.location.Location.{Location}
 use Rattle.amend.specs.Amended.{Amended}

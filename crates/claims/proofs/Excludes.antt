@@ -33,7 +33,7 @@ use Rattle.flow.specs.Order.{among}
 use Rattle.flow.specs.Records.{cut, record_at, records_of}
 use Rattle.flow.specs.Walking.{judge_typed, judge_record}
 use Rattle.flow.specs.Verdict.{Verdict, accepted, refused, refusal, of_call}
-use Rattle.flow.specs.declared.answer.Refusal.{Refusal}
+use Rattle.flow.specs.Verdict.{Refusal}
 use Rattle.flow.specs.declared.answer.Totals.{Totals}
 use Rattle.flow.proofs.Accepted.{accepted-not-refused, accepted-same, accepted_exact}
 use Rattle.flow.proofs.Dispositions.{each_asks}

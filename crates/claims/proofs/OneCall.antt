@@ -15,7 +15,7 @@ use Rattle.records.specs.declared.flow_kind.FlowKind.{FlowKind}
 use Rattle.flow.specs.Find.{IsNumber, find, with_totals, find_with_totals}
 use Rattle.flow.specs.Judge.{judge}
 use Rattle.flow.specs.Verdict.{Verdict, accepted, of_call}
-use Rattle.flow.specs.declared.answer.Refusal.{Refusal}
+use Rattle.flow.specs.Verdict.{Refusal}
 use Rattle.flow.specs.declared.answer.Totals.{Totals}
 use Rattle.flow.specs.declared.location.WithTotals.{WithTotals}
 use Rattle.flow.proofs.Accepted.{accepted-not-refused, accepted-same}

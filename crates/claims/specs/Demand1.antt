@@ -16,7 +16,7 @@ use Rattle.flow.specs.Judge.{judge}
 use Rattle.flow.specs.Laws.{LengthRefused, FindRefused, PartPlaced, FindWithTotalsExact}
 use Rattle.flow.specs.Walking.{judge_record}
 use Rattle.flow.specs.Verdict.{refused}
-use Rattle.flow.specs.declared.answer.Refusal.{Refusal}
+use Rattle.flow.specs.Verdict.{Refusal}
 use Rattle.flow.specs.declared.walk.Walk.{Walk}
 use Rattle.grammar.specs.Laws.{FirstFaultExact, RightOrFaulty, PlaceFaultExact, PartEmpty}
 use Rattle.list.specs.Laws.{FaultyExact, WriteRefused, WriteAnswers, WriteLeaves, ReadBackRefused, ReadBackAnswers, ReadBackLeaves}

@@ -17,7 +17,7 @@ use Rattle.flow.specs.Output.{Output, LeftAlone}
 use Rattle.flow.specs.Records.{record_at, records_of}
 use Rattle.flow.specs.ExactTotals.{opening_count, amount_sum, kind_of}
 use Rattle.flow.specs.Verdict.{Verdict, accepted, refused, refusal, of_call}
-use Rattle.flow.specs.declared.answer.Refusal.{Refusal}
+use Rattle.flow.specs.Verdict.{Refusal}
 use Rattle.flow.specs.declared.answer.Totals.{Totals}
 use Rattle.grammar.specs.Fault.{FaultAfter, FirstFault}
 use Rattle.grammar.specs.Grammar.{Grammar}

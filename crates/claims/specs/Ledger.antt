@@ -10,7 +10,7 @@ use Rattle.records.specs.Amount.{amount_span}
 use Rattle.records.specs.Field.{width}
 use Rattle.records.specs.Limits.{most_cents}
 use Rattle.flow.specs.Verdict.{of_call}
-use Rattle.flow.specs.declared.answer.Refusal.{Refusal}
+use Rattle.flow.specs.Verdict.{Refusal}
 use Rattle.flow.specs.declared.answer.Totals.{Totals}
 use Rattle.list.specs.Encode.{amount_index, list_dispositions, list_cents, list_totals}
 use Rattle.list.specs.Items.{Item, item, is_d}

@@ -20,20 +20,25 @@ use Rattle.records.proofs.ByKind.{right-asked, opens-type}
 use Rattle.records.proofs.Numbers.{one_for_length}
 use Rattle.flow.specs.Judge.{unless_fault, walk_totals, ended, walk_from, judge}
 use Rattle.flow.specs.Records.{RightLength, is_length, records_of, most_bytes}
-use Rattle.flow.specs.Laws.{LengthRefused, Ceiling, AcceptedExact, AnswerDetermined}
+use Rattle.flow.specs.Laws.{LengthRefused, Ceiling, AcceptedExact, AnswerDetermined, VerdictDetermined, FoundDetermined, FoundWithTotalsDetermined}
 use Rattle.flow.specs.Order.{permitted, is_due, among}
 use Rattle.flow.specs.Walking.{start, counts_at, kind_after, step, company_after, judge_typed, judge_record}
 use Rattle.flow.specs.ExactTotals.{opening_count, amount_sum, kind_from, kind_of}
 use Rattle.flow.specs.Verdict.{Verdict, accepted, refused, refusal, of_call}
-use Rattle.flow.specs.declared.answer.Refusal.{Refusal}
+use Rattle.flow.specs.Verdict.{Refusal}
 use Rattle.flow.specs.declared.answer.Totals.{Totals}
-use Rattle.flow.specs.declared.answer.Answer.TheVariants.{Accepted, Refused}
 use Rattle.flow.specs.declared.walk.Walk.{Walk}
 use Rattle.flow.proofs.Cut.{cut-count, Whole, cut-whole}
 use Rattle.flow.proofs.Exact.{right_typed}
 use Rattle.flow.proofs.Lengths.{length-said}
 use Rattle.records.specs.declared.flow_kind.FlowKind.{FlowKind}
 use Rattle.std.specs.Prelude.{Option, Some, None}
+use Rattle.std.specs.Prelude.{Ok, Err}
+use Rattle.refusals.proofs.Numbers.{number_told}
+use Rattle.flow.specs.declared.answer.Refusal.{Refusal as Code-Refusal}
+use Rattle.flow.specs.declared.location.Location.{Location}
+use Rattle.flow.specs.declared.location.WithTotals.{WithTotals}
+use Rattle.flow.specs.Verdict.{on_paper}
 
 -- an acceptance is no refusal; and what was accepted, or refused, tells itself
 pub accepted-not-refused : {A : Type 0} {a : A} {x : Refusal} → refused x ≡ accepted a → ⊥
@@ -168,8 +173,20 @@ pub ceiling : Ceiling
 ceiling f h = (length-refused f 0 0).1 (refl, refl, λ k. omega arith)
 
 -- what an answer stands for determines it
+paper_told : (x y : Code-Refusal) → on_paper x ≡ on_paper y → x ≡ y
+paper_told x y e = λ i. record { reason = number_told x.reason y.reason (ap (λ (r : Refusal). r.number) e) i; «record» = (e i).«record»; position = (e i).position }
+
+pub verdict_determined : VerdictDetermined
+verdict_determined A (Ok t) (Ok u) e = ap Ok (accepted-same e)
+verdict_determined A (Ok t) (Err x) e = absurd (accepted-not-refused (sym e))
+verdict_determined A (Err x) (Ok t) e = absurd (accepted-not-refused e)
+verdict_determined A (Err x) (Err y) e = ap Err (paper_told x y (refused-same e))
+
 pub answer_determined : AnswerDetermined
-answer_determined (Accepted t) (Accepted u) e = ap Accepted (accepted-same e)
-answer_determined (Accepted t) (Refused x) e = absurd (accepted-not-refused (sym e))
-answer_determined (Refused x) (Accepted t) e = absurd (accepted-not-refused e)
-answer_determined (Refused x) (Refused y) e = ap Refused (refused-same e)
+answer_determined = verdict_determined Totals
+
+pub found_determined : FoundDetermined
+found_determined = verdict_determined Location
+
+pub found_with_totals_determined : FoundWithTotalsDetermined
+found_with_totals_determined = verdict_determined WithTotals

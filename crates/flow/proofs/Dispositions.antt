@@ -31,15 +31,14 @@ use Rattle.records.proofs.ByKind.{opens-type}
 use Rattle.flow.specs.Find.{dispositions_in, start_of, IsNumber, location_of, find, bytes_at, part_of, offset_at, offset_of, HasDisposition, opening_from}
 use Rattle.flow.specs.Judge.{unless_fault, ended, walk_from, judge}
 use Rattle.flow.specs.Records.{is_length, record_at, records_of, most_bytes}
-use Rattle.flow.specs.Laws.{EachAsks, FoundDetermined, FindRefused, PartPlaced}
+use Rattle.flow.specs.Laws.{EachAsks, FindRefused, PartPlaced}
 use Rattle.flow.specs.Order.{In, permitted, is_due}
 use Rattle.flow.specs.Walking.{start, step, company_after, judge_record}
 use Rattle.flow.specs.ExactTotals.{opening_count}
 use Rattle.flow.specs.Verdict.{Verdict, accepted, refused, of_call, and_then}
-use Rattle.flow.specs.declared.answer.Refusal.{Refusal}
+use Rattle.flow.specs.Verdict.{Refusal}
 use Rattle.flow.specs.declared.answer.Totals.{Totals}
 use Rattle.flow.specs.declared.location.Location.{Location}
-use Rattle.flow.specs.declared.location.Found.TheVariants.{At, Refused}
 use Rattle.flow.specs.declared.walk.Walk.{Walk}
 use Rattle.flow.proofs.Accepted.{accepted-not-refused, accepted-same, refused-same, ended_so, accepted_exact}
 use Rattle.flow.proofs.Cut.{cut-count, cut_at}
@@ -300,12 +299,6 @@ find-refused f k x = (λ e. said (find f k) e (asked_so f k), λ h. tested h (fi
     tested (inr h) l e (not_read z) = absurd (accepted-not-refused (sym z ∙ h.1))
     tested (inr h) l e (not_there z none) = ap refused (sym h.3)
     tested (inr h) l e (there s) = absurd (h.2 (s.some, subst (λ (t : Totals). k ≤ t.dispositions) (accepted-same (sym s.read ∙ h.1)) s.within))
-
-pub found_determined : FoundDetermined
-found_determined (At s) (At s') e = ap At (accepted-same e)
-found_determined (At s) (Refused x) e = absurd (accepted-not-refused (sym e))
-found_determined (Refused x) (At s) e = absurd (accepted-not-refused e)
-found_determined (Refused x) (Refused y) e = ap Refused (refused-same e)
 
 -- what was found stands where it was found
 pub found-has : (f : List ℕ) (k : ℕ) {s : Location} → find f k ≡ accepted s → HasDisposition f k × (s ≡ location_of (dispositions_in f) k)

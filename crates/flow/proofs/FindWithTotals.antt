@@ -7,11 +7,10 @@ use mathlib.Core.Path.{◌≡◌, refl, sym, ◌∙◌, ap}
 use lib.Dec.{leb}
 use Rattle.flow.specs.Find.{dispositions_in, location_of, find, with_totals, find_with_totals}
 use Rattle.flow.specs.Judge.{judge}
-use Rattle.flow.specs.Laws.{FoundWithTotalsDetermined, FindWithTotalsExact}
+use Rattle.flow.specs.Laws.{FindWithTotalsExact}
 use Rattle.flow.specs.Verdict.{Verdict, accepted, refused, of_call, and_then}
-use Rattle.flow.specs.declared.answer.Refusal.{Refusal}
+use Rattle.flow.specs.Verdict.{Refusal}
 use Rattle.flow.specs.declared.answer.Totals.{Totals}
-use Rattle.flow.specs.declared.location.FoundWithTotals.TheVariants.{At, Refused}
 use Rattle.flow.specs.declared.location.Location.{Location}
 use Rattle.flow.specs.declared.location.WithTotals.{WithTotals}
 use Rattle.flow.proofs.Accepted.{accepted-not-refused, accepted-same, refused-same}
@@ -73,9 +72,3 @@ find_with_totals_exact f k = (
     by x (accepted t) (accepted s) read found e = absurd (accepted-not-refused (sym e ∙ read_found f k read found))
     by x (accepted t) (refused y) read none e = none ∙ ap refused (refused-same (sym (not_found f k none) ∙ e))
     by x (refused y) l wrong found e = (find-refused f k x).1 (inl (wrong ∙ ap refused (refused-same (sym (not_read f k wrong) ∙ e))))
-
-pub found_with_totals_determined : FoundWithTotalsDetermined
-found_with_totals_determined (At g) (At h) e = ap At (accepted-same e)
-found_with_totals_determined (At g) (Refused x) e = absurd (accepted-not-refused (sym e))
-found_with_totals_determined (Refused x) (At g) e = absurd (accepted-not-refused e)
-found_with_totals_determined (Refused x) (Refused y) e = ap Refused (refused-same e)

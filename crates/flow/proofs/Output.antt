@@ -11,7 +11,7 @@ use Rattle.sequences.proofs.Part.{part-put, drop-put}
 use Rattle.flow.specs.Laws.{OutputLeaves, RoomExact}
 use Rattle.flow.specs.Output.{output, with_room, FilledWith, LeftAlone}
 use Rattle.flow.specs.Verdict.{Verdict, accepted, refused, of_call}
-use Rattle.flow.specs.declared.answer.Refusal.{Refusal}
+use Rattle.flow.specs.Verdict.{Refusal}
 use Rattle.flow.proofs.Accepted.{accepted-not-refused, refused-same}
 
 pub output_leaves : OutputLeaves

@@ -6,7 +6,7 @@ use Rattle.records.specs.Amount.{amount_in}
 use Rattle.records.specs.FlowKinds.{kind_in, or_requests, first_known}
 use Rattle.records.specs.Kinds.{is_opening}
 use Rattle.records.specs.declared.flow_kind.FlowKind.{FlowKind}
-use Rattle.std.specs.Prelude.{Option, Some, None}
+use Rattle.std.specs.Prelude.{Option, None}
 
 -- the records that open a disposition among records, and the sum of their amounts
 unfoldable pub opening_count : List (List ℕ) → ℕ

@@ -11,21 +11,8 @@ use Rattle.flow.specs.Judge.{judge}
 use Rattle.flow.specs.Records.{records_of}
 use Rattle.flow.specs.Verdict.{Verdict, accepted, refused, of_call, and_then}
 use Rattle.flow.specs.declared.answer.Totals.{Totals}
-use Rattle.flow.specs.declared.location.Found.{Found}
-use Rattle.flow.specs.declared.location.Found.TheVariants.{At, Refused}
-use Rattle.flow.specs.declared.location.FoundWithTotals.{FoundWithTotals}
-use Rattle.flow.specs.declared.location.FoundWithTotals.TheVariants.{At as FoundWithTotals-as-At, Refused as FoundWithTotals-as-Refused}
 use Rattle.flow.specs.declared.location.Location.{Location}
 use Rattle.flow.specs.declared.location.WithTotals.{WithTotals}
-
--- the paper's values for each case of `flow::Found`, and of `flow::FoundWithTotals`
-abbrev pub found_verdict : Found → Verdict Location
-found_verdict (At s) = accepted s
-found_verdict (Refused x) = refused x
-
-abbrev pub found_with_totals_verdict : FoundWithTotals → Verdict WithTotals
-found_with_totals_verdict (FoundWithTotals-as-At g) = accepted g
-found_with_totals_verdict (FoundWithTotals-as-Refused x) = refused x
 
 -- the dispositions of an accepted flow: each record that opens one with those after it, up to the
 -- next such record or the trailer

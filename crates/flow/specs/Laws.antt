@@ -1,23 +1,20 @@
 -- What is proved of reading a flow and of asking where a disposition is. `proofs/` has its proof under the law's name in small letters.
 -- Assumes nothing.
-use Rattle.std.specs.Prelude.{ℕ, ◌+◌, ◌-◌, ◌*◌, ◌≤◌, ◌<◌, true, List, ◌↔◌, ◌⊎◌, ◌≡◌, length}
+use Rattle.std.specs.Prelude.{ℕ, ◌+◌, ◌-◌, ◌*◌, ◌≤◌, ◌<◌, true, List, ◌↔◌, ◌⊎◌, ◌≡◌, length, Result}
 use Rattle.sequences.specs.All.{All}
 use Rattle.sequences.specs.Part.{part}
 use Rattle.fields.specs.Amount.{IsAmount}
 use Rattle.fields.specs.Digits.{number}
 use Rattle.records.specs.Amount.{amount_in}
 use Rattle.records.specs.Kinds.{is_opening}
-use Rattle.flow.specs.Find.{found_verdict, IsNumber, find, part_of, offset_of, found_with_totals_verdict, find_with_totals}
+use Rattle.flow.specs.Find.{IsNumber, find, part_of, offset_of, find_with_totals}
 use Rattle.flow.specs.Judge.{judge}
 use Rattle.flow.specs.Output.{output, with_room, FilledWith, LeftAlone}
 use Rattle.flow.specs.Records.{RightLength, records_of, most_bytes}
 use Rattle.flow.specs.ExactTotals.{opening_count, amount_sum, kind_of}
-use Rattle.flow.specs.Verdict.{Verdict, accepted, refused, answer_verdict, refusal, of_call}
-use Rattle.flow.specs.declared.answer.Answer.{Answer}
-use Rattle.flow.specs.declared.answer.Refusal.{Refusal}
+use Rattle.flow.specs.Verdict.{Verdict, Refusal, accepted, refused, verdict, refusal, of_call}
+use Rattle.flow.specs.declared.answer.Refusal.{Refusal as Code-Refusal}
 use Rattle.flow.specs.declared.answer.Totals.{Totals}
-use Rattle.flow.specs.declared.location.Found.{Found}
-use Rattle.flow.specs.declared.location.FoundWithTotals.{FoundWithTotals}
 use Rattle.flow.specs.declared.location.Location.{Location}
 use Rattle.flow.specs.declared.location.WithTotals.{WithTotals}
 
@@ -57,15 +54,19 @@ RoomExact =
     → ((a : A) → (with_room v size room ≡ accepted a) ↔ ((v ≡ accepted a) × (size ≤ room)))
     × ((x : Refusal) → (with_room v size room ≡ refused x) ↔ ((v ≡ refused x) ⊎ ((a : A) × (v ≡ accepted a) × (room < size) × (x ≡ of_call 21))))
 
--- what an answer stands for on paper determines it
+-- what an answer stands for on paper determines it, whatever it gives where it is accepted
+abbrev pub VerdictDetermined : Type 1
+VerdictDetermined = (A : Type 0) (r s : Result A Code-Refusal) → verdict r ≡ verdict s → r ≡ s
+
+-- that of reading, of finding, and of both
 abbrev pub AnswerDetermined : Type 0
-AnswerDetermined = (r s : Answer) → answer_verdict r ≡ answer_verdict s → r ≡ s
+AnswerDetermined = (r s : Result Totals Code-Refusal) → verdict r ≡ verdict s → r ≡ s
 
 abbrev pub FoundDetermined : Type 0
-FoundDetermined = (r s : Found) → found_verdict r ≡ found_verdict s → r ≡ s
+FoundDetermined = (r s : Result Location Code-Refusal) → verdict r ≡ verdict s → r ≡ s
 
 abbrev pub FoundWithTotalsDetermined : Type 0
-FoundWithTotalsDetermined = (r s : FoundWithTotals) → found_with_totals_verdict r ≡ found_with_totals_verdict s → r ≡ s
+FoundWithTotalsDetermined = (r s : Result WithTotals Code-Refusal) → verdict r ≡ verdict s → r ≡ s
 
 -- a question about disposition k is refused exactly where the flow is, by the same, or by 15 where no disposition has that number
 abbrev pub FindRefused : Type 0

@@ -5,7 +5,7 @@
 ghost use Rattle.std.specs.Prelude.{◌/◌, ◌≤◌, ◌≡◌, length};
 ghost use Rattle.flow.specs.FastPath.{Inside, PassedOver};
 
-use crate::order::{Due, TypeFound, first_of, only};
+use crate::order::{Due, kind_due};
 use crate::walk::Walk;
 use records::{RecordKind, field};
 
@@ -28,9 +28,7 @@ pub(crate) fn pass_over(flow: &[u8], from: usize, walk: Walk) -> Passed
     while i < flow.len() / 120 {
         let before = &flow[120 * (i - 1)..120 * (i - 1) + 120];
         let rec = &flow[120 * i..120 * i + 120];
-        let place = here.place;
-        let due = place.due;
-        let TypeFound::Of(kind) = kind_inside(due, rec) else {
+        let Some(kind) = kind_inside(here.place.due, rec) else {
             break;
         };
         if !records::passes_quick_test(rec, kind, field(before, 4, 10)) {
@@ -46,21 +44,11 @@ pub(crate) fn pass_over(flow: &[u8], from: usize, walk: Walk) -> Passed
 }
 
 // The kind of a record where a disposition goes on.
-fn kind_inside(due: Due, rec: &[u8]) -> TypeFound
+fn kind_inside(due: Due, rec: &[u8]) -> Option<RecordKind>
     ensures { Inside due rec.now result }
 {
     match due {
-        Due::OnlyIm => TypeFound::Missing,
-        Due::OnlyR14 => TypeFound::Missing,
-        Due::R16OrR20 => first_of(RecordKind::R16, RecordKind::R20, rec),
-        Due::OnlyR20 => only(RecordKind::R20, rec),
-        Due::OnlyR30 => only(RecordKind::R30, rec),
-        Due::OnlyR40 => only(RecordKind::R40, rec),
-        Due::R50OrR59 => first_of(RecordKind::R50, RecordKind::R59, rec),
-        Due::R59OrR51 => first_of(RecordKind::R59, RecordKind::R51, rec),
-        Due::OnlyR51 => only(RecordKind::R51, rec),
-        Due::OnlyR70 => only(RecordKind::R70, rec),
-        Due::R14OrEf => TypeFound::Missing,
-        Due::Nothing => TypeFound::Missing,
+        Due::OnlyIm | Due::OnlyR14 | Due::R14OrEf | Due::Nothing => None,
+        _ => kind_due(due, rec),
     }
 }

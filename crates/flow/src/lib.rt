@@ -14,15 +14,11 @@ mod limits;
 mod location;
 mod order;
 mod reader;
-mod refusals;
 mod walk;
 
-pub use answer::{Answer, Refusal, Totals, refusal_of_call};
+pub use answer::{Refusal, Totals, refusal_of_call};
 pub use casts::{as_count, as_index};
-pub use location::{
-    Found, FoundWithTotals, Location, WithTotals, disposition, find, find_with_totals, next_opening,
-};
+pub use location::{Location, WithTotals, disposition, find, find_with_totals, next_opening};
 pub use order::{Due, Place};
 pub use reader::{first_company, read};
-pub use refusals::{NO_DISPOSITION, NO_ROOM, TOTAL_TOO_LARGE, WRONG_TYPE};
 pub use walk::Walk;

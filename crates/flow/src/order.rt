@@ -6,7 +6,7 @@ ghost use Rattle.flow.specs.Order.{permitted, place_after, among};
 use records::RecordKind;
 
 // What may come next: a type, one of two, or nothing after the trailer.
-#[derive(Clone, Copy)]
+#[derive(Clone, Copy, Debug, PartialEq, Eq)]
 pub enum Due {
     OnlyIm,
     OnlyR14,
@@ -24,21 +24,14 @@ pub enum Due {
 
 // A place in the flow: what may come next, and, where a further 59 may come, how many stand right
 // before it; else 0.
-#[derive(Clone, Copy)]
+#[derive(Clone, Copy, Debug, PartialEq, Eq)]
 pub struct Place {
     pub due: Due,
     pub further: u64,
 }
 
-// The kind that a record was found to be of, among those permitted.
-#[derive(Clone, Copy)]
-pub(crate) enum TypeFound {
-    Of(RecordKind),
-    Missing,
-}
-
 // The kind of the record among those that may come next.
-pub(crate) fn kind_due(due: Due, rec: &[u8]) -> TypeFound
+pub(crate) fn kind_due(due: Due, rec: &[u8]) -> Option<RecordKind>
     ensures { result ≡ among (permitted due) rec.now }
 {
     match due {
@@ -53,26 +46,24 @@ pub(crate) fn kind_due(due: Due, rec: &[u8]) -> TypeFound
         Due::OnlyR51 => only(RecordKind::R51, rec),
         Due::OnlyR70 => only(RecordKind::R70, rec),
         Due::R14OrEf => first_of(RecordKind::R14, RecordKind::Ef, rec),
-        Due::Nothing => TypeFound::Missing,
+        Due::Nothing => None,
     }
 }
 
-pub(crate) fn first_of(kind: RecordKind, other: RecordKind, rec: &[u8]) -> TypeFound
+fn first_of(kind: RecordKind, other: RecordKind, rec: &[u8]) -> Option<RecordKind>
     ensures { result ≡ among (kind ∷ other ∷ []) rec.now }
 {
     if records::has_type(rec, kind) {
-        return TypeFound::Of(kind);
+        Some(kind)
+    } else {
+        only(other, rec)
     }
-    only(other, rec)
 }
 
-pub(crate) fn only(kind: RecordKind, rec: &[u8]) -> TypeFound
+fn only(kind: RecordKind, rec: &[u8]) -> Option<RecordKind>
     ensures { result ≡ among (kind ∷ []) rec.now }
 {
-    if records::has_type(rec, kind) {
-        return TypeFound::Of(kind);
-    }
-    TypeFound::Missing
+    records::has_type(rec, kind).then_some(kind)
 }
 
 // The place after a record of the kind, with that many records 59 right before it.

@@ -6,23 +6,23 @@ ghost use Rattle.flow.specs.Judge.{ended, walk_from};
 ghost use Rattle.flow.specs.Records.{is_length, records_of};
 ghost use Rattle.flow.specs.Judge.{judge as Judge-judge};
 ghost use Rattle.flow.specs.Walking.{start, first_by, first_company};
-ghost use Rattle.flow.specs.Verdict.{answer_verdict};
+ghost use Rattle.flow.specs.Verdict.{verdict};
 
-use crate::answer::{Answer, Refusal, refusal_of_call};
+use crate::answer::{Refusal, Totals, refusal_of_call};
 use crate::casts::as_count;
 use crate::fast_path::pass_over;
 use crate::limits::MOST_BYTES;
-use crate::refusals::ENDED;
 use crate::walk::Walk;
-use records::{COMPANY_FIRST, COMPANY_LAST, Judged, RecordKind, WRONG_LENGTH, field};
+use records::{COMPANY_FIRST, COMPANY_LAST, RecordKind, field};
+use refusals::Reason;
 
 // The answer to a flow: its totals where it keeps the rules, and else its first fault. Any bytes, of
 // any length.
-pub fn read(flow: &[u8]) -> Answer
-    ensures { answer_verdict result ≡ Judge-judge flow.now }
+pub fn read(flow: &[u8]) -> Result<Totals, Refusal>
+    ensures { verdict result ≡ Judge-judge flow.now }
 {
     if !is_length(flow.len()) {
-        return Answer::Refused(refusal_of_call(WRONG_LENGTH));
+        return Err(refusal_of_call(Reason::WrongLength));
     }
     let header = &flow[0..120];
     read_records(flow, header)
@@ -31,19 +31,13 @@ pub fn read(flow: &[u8]) -> Answer
 fn is_length(n: usize) -> bool
     ensures { result ≡ is_length n }
 {
-    if n == 0 {
-        return false;
-    }
-    if n % 120 != 0 {
-        return false;
-    }
-    n <= MOST_BYTES
+    n != 0 && n % 120 == 0 && n <= MOST_BYTES
 }
 
 // Each record in turn, with the header: by the rules, and then those that are passed over.
-fn read_records(flow: &[u8], header: &[u8]) -> Answer
+fn read_records(flow: &[u8], header: &[u8]) -> Result<Totals, Refusal>
     requires { is_length (length flow.now) ≡ true }
-    ensures { answer_verdict result ≡ walk_from ended
+    ensures { verdict result ≡ walk_from ended
         (header_of header.now)
         start [] 0 (records_of flow.now) }
 {
@@ -54,18 +48,16 @@ fn read_records(flow: &[u8], header: &[u8]) -> Answer
         let rec = &flow[120 * i..120 * i + 120];
         let n = as_count(i + 1);
         match walk.judge(rec, n, header, company) {
-            Judged::Refused(number, position) => {
-                return Answer::Refused(Refusal {
-                    number,
+            Err(fault) => {
+                return Err(Refusal {
+                    reason: fault.reason,
                     record: n,
-                    position,
+                    position: fault.position,
                 });
             }
-            Judged::Right(right) => {
-                let kind = right.kind;
+            Ok(right) => {
                 let code = field(rec, COMPANY_FIRST, COMPANY_LAST);
-                let first = first_company(company, code, kind);
-                company = first;
+                company = first_company(company, code, right.kind);
                 walk = walk.next(right, rec);
             }
         }
@@ -92,15 +84,15 @@ pub fn first_company<'a>(company: &'a [u8], code: &'a [u8], kind: RecordKind) ->
 }
 
 // The answer after the last of n records.
-fn end(walk: Walk, n: u64) -> Answer
+fn end(walk: Walk, n: u64) -> Result<Totals, Refusal>
     requires { n ≤ most_records }
-    ensures { answer_verdict result ≡ ended walk n }
+    ensures { verdict result ≡ ended walk n }
 {
     if walk.complete() {
-        return Answer::Accepted(walk.totals(n));
+        return Ok(walk.totals(n));
     }
-    Answer::Refused(Refusal {
-        number: ENDED,
+    Err(Refusal {
+        reason: Reason::Ended,
         record: n + 1,
         position: 0,
     })

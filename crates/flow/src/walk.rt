@@ -11,17 +11,17 @@ ghost use Rattle.flow.specs.Walking.{start as Walking-start};
 
 use crate::answer::Totals;
 use crate::limits::{CENTS_LIMIT, COUNT_LIMIT};
-use crate::order::{Due, Place, TypeFound, kind_due, place_after};
-use crate::refusals::{BAD_BYTE, WRONG_TYPE};
-use records::{Counts, Judged, KindFound, Record, RecordKind, WRONG_LENGTH};
+use crate::order::{Due, Place, kind_due, place_after};
+use records::{Counts, Fault, FlowKind, Record, RecordKind};
+use refusals::Reason;
 
 // What may come next; the kind of flow, unknown until the first record 14; the dispositions so far and
 // the cents so far. The counts stop one above what the trailer's digits hold, so that every state has a
 // next one; of an accepted flow they are exact.
-#[derive(Clone, Copy)]
+#[derive(Clone, Copy, Debug, PartialEq, Eq)]
 pub struct Walk {
     pub place: Place,
-    pub kind: KindFound,
+    pub kind: Option<FlowKind>,
     pub dispositions: u64,
     pub cents: u64,
 }
@@ -36,7 +36,7 @@ impl Walk {
                 due: Due::OnlyIm,
                 further: 0,
             },
-            kind: KindFound::Unknown,
+            kind: None,
             dispositions: 0,
             cents: 0,
         }
@@ -45,44 +45,45 @@ impl Walk {
     // The first fault of the flow's n-th record, or its kind and cents. `header` is the flow's IM, and
     // what stands elsewhere in it than `header_of` names may be anything; `company` is the company code
     // of the first record 14, empty where none came before this record.
-    pub fn judge(self, rec: &[u8], n: u64, header: &[u8], company: &[u8]) -> Judged
+    pub fn judge(self, rec: &[u8], n: u64, header: &[u8], company: &[u8]) -> Result<Record, Fault>
         ensures { judged_verdict result ≡ judge_record
             (header_of header.now) self company.now n rec.now }
     {
         if rec.len() != 120 {
-            return Judged::Refused(WRONG_LENGTH, 0);
+            return Err(Fault {
+                reason: Reason::WrongLength,
+                position: 0,
+            });
         }
         let bad = records::bad_byte(rec);
         if bad != 0 {
-            return Judged::Refused(BAD_BYTE, bad);
+            return Err(Fault {
+                reason: Reason::BadByte,
+                position: bad,
+            });
         }
-        let place = self.place;
-        let due = place.due;
-        match kind_due(due, rec) {
-            TypeFound::Of(kind) => {
-                let counts = Counts {
-                    dispositions: self.dispositions_with(kind),
-                    cents: self.cents,
-                    records: n,
-                };
-                let found = self.kind;
-                records::judge(rec, kind, counts, header, company, found)
-            }
-            TypeFound::Missing => Judged::Refused(WRONG_TYPE, 2),
-        }
+        let Some(kind) = kind_due(self.place.due, rec) else {
+            return Err(Fault {
+                reason: Reason::WrongType,
+                position: 2,
+            });
+        };
+        let counts = Counts {
+            dispositions: self.dispositions_with(kind),
+            cents: self.cents,
+            records: n,
+        };
+        records::judge(rec, kind, counts, header, company, self.kind)
     }
 
     // The state after a right record.
     pub fn next(self, right: Record, rec: &[u8]) -> Walk
         ensures { result ≡ saturated (step self right.kind right.cents rec.now) }
     {
-        let kind = right.kind;
-        let place = self.place;
-        let next = place_after(place.further, kind);
         Walk {
-            place: next,
-            kind: self.kind_after(kind, rec),
-            dispositions: self.dispositions_with(kind),
+            place: place_after(self.place.further, right.kind),
+            kind: self.kind_after(right.kind, rec),
+            dispositions: self.dispositions_with(right.kind),
             cents: sum(self.cents, right.cents, CENTS_LIMIT),
         }
     }
@@ -92,14 +93,9 @@ impl Walk {
     pub(crate) fn pass(self, kind: RecordKind) -> Walk
         ensures { result ≡ at_place self (place_after self.place.further kind) }
     {
-        let place = self.place;
-        let next = place_after(place.further, kind);
-        let found = self.kind;
         Walk {
-            place: next,
-            kind: found,
-            dispositions: self.dispositions,
-            cents: self.cents,
+            place: place_after(self.place.further, kind),
+            ..self
         }
     }
 
@@ -107,45 +103,34 @@ impl Walk {
     pub fn complete(self) -> bool
         ensures { result ≡ not (is_due (permitted self.place.due)) }
     {
-        let place = self.place;
-        let due = place.due;
-        if let Due::Nothing = due { true } else { false }
+        matches!(self.place.due, Due::Nothing)
     }
 
     // Whether the trailer may come next.
     pub fn may_close(self) -> bool
         ensures { result ≡ may_close (permitted self.place.due) }
     {
-        let place = self.place;
-        let due = place.due;
-        if let Due::R14OrEf = due { true } else { false }
+        matches!(self.place.due, Due::R14OrEf)
     }
 
     // The totals of n records that the walk has gone over.
     pub fn totals(self, n: u64) -> Totals
         ensures { result ≡ walk_totals self n }
     {
-        let dispositions = self.dispositions;
-        let cents = self.cents;
-        let found = self.kind;
         Totals {
-            kind: records::or_requests(found),
-            dispositions,
-            cents,
+            kind: records::or_requests(self.kind),
+            dispositions: self.dispositions,
+            cents: self.cents,
             records: n,
         }
     }
 
     // The kind of flow after a record of the kind: the first record 14 decides it.
-    fn kind_after(self, kind: RecordKind, rec: &[u8]) -> KindFound
+    fn kind_after(self, kind: RecordKind, rec: &[u8]) -> Option<FlowKind>
         ensures { result ≡ kind_after self.kind kind rec.now }
     {
-        let found = self.kind;
-        if !records::opens(kind) {
-            return found;
-        }
-        if let KindFound::Of(_) = found {
-            return found;
+        if !records::opens(kind) || self.kind.is_some() {
+            return self.kind;
         }
         records::kind_in(rec)
     }

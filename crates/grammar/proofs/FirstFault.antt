@@ -13,7 +13,7 @@ use Rattle.flow.specs.Records.{RightLength, is_length, records_of}
 use Rattle.flow.specs.Order.{permitted, is_due, place_due}
 use Rattle.flow.specs.Walking.{start}
 use Rattle.flow.specs.Verdict.{Verdict, accepted, refused, refusal, of_call}
-use Rattle.flow.specs.declared.answer.Refusal.{Refusal}
+use Rattle.flow.specs.Verdict.{Refusal}
 use Rattle.flow.specs.declared.answer.Totals.{Totals}
 use Rattle.flow.specs.declared.order.Due.TheVariants.{OnlyIm}
 use Rattle.flow.specs.declared.order.Place.{Place}

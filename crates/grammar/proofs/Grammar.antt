@@ -27,7 +27,7 @@ use Rattle.flow.specs.Records.{RightLength, records_of}
 use Rattle.flow.specs.Order.{place_due}
 use Rattle.flow.specs.Walking.{start, step}
 use Rattle.flow.specs.Verdict.{Verdict, accepted, refused}
-use Rattle.flow.specs.declared.answer.Refusal.{Refusal}
+use Rattle.flow.specs.Verdict.{Refusal}
 use Rattle.flow.specs.declared.answer.Totals.{Totals}
 use Rattle.flow.specs.declared.order.Due.TheVariants.{OnlyR14}
 use Rattle.flow.specs.declared.order.Place.{Place}

@@ -29,7 +29,7 @@ use Rattle.flow.specs.Find.{dispositions_in, start_of, find, bytes_at, part_of}
 use Rattle.flow.specs.Judge.{judge}
 use Rattle.flow.specs.Records.{record_at, records_of}
 use Rattle.flow.specs.Verdict.{Verdict, accepted, refused}
-use Rattle.flow.specs.declared.answer.Refusal.{Refusal}
+use Rattle.flow.specs.Verdict.{Refusal}
 use Rattle.flow.specs.declared.answer.Totals.{Totals}
 use Rattle.flow.specs.declared.location.Location.{Location}
 use Rattle.flow.proofs.Accepted.{accepted_exact}

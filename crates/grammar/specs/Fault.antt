@@ -12,7 +12,7 @@ use Rattle.records.specs.declared.kind.RecordKind.{RecordKind}
 use Rattle.flow.specs.Records.{RightLength, records_of}
 use Rattle.flow.specs.ExactTotals.{opening_count, amount_sum, kind_from}
 use Rattle.flow.specs.Verdict.{refusal, of_call}
-use Rattle.flow.specs.declared.answer.Refusal.{Refusal}
+use Rattle.flow.specs.Verdict.{Refusal}
 use Rattle.grammar.specs.Rules.{Printable}
 use Rattle.grammar.specs.Shape.{InOrder}
 use Rattle.std.specs.Prelude.{Option, Some, None}

@@ -19,7 +19,7 @@ use Rattle.flow.specs.Order.{In, permitted}
 use Rattle.flow.specs.Records.{record_at, records_of}
 use Rattle.flow.specs.Walking.{counts_at, judge_record}
 use Rattle.flow.specs.Verdict.{Verdict, accepted, refused}
-use Rattle.flow.specs.declared.answer.Refusal.{Refusal}
+use Rattle.flow.specs.Verdict.{Refusal}
 use Rattle.flow.specs.declared.answer.Totals.{Totals}
 use Rattle.flow.specs.declared.location.Location.{Location}
 use Rattle.flow.specs.declared.walk.Walk.{Walk}

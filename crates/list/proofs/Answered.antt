@@ -8,8 +8,8 @@ use native.Mathlib.Omega.{arith}
 use Rattle.sequences.specs.Part.{put}
 use Rattle.flow.specs.Judge.{judge}
 use Rattle.flow.specs.Output.{Output}
-use Rattle.flow.specs.Verdict.{accepted, refused, answer_verdict}
-use Rattle.flow.specs.declared.answer.Refusal.{Refusal}
+use Rattle.flow.specs.Verdict.{accepted, refused, verdict}
+use Rattle.flow.specs.Verdict.{Refusal}
 use Rattle.flow.specs.declared.answer.Totals.{Totals}
 use Rattle.flow.proofs.Accepted.{answer_determined}
 use Rattle.flow.proofs.Output.{output_leaves, room_exact}
@@ -34,12 +34,12 @@ faulty-counted (faulty m) n e = cc
 
 -- a call of writing that is refused, and one that is accepted
 pub write-refuses :
-    (list out : List ℕ) (f : Filled) (x : Refusal) → judge_list list (length out) ≡ refused x → (answer_verdict f.answer ≡ refused x) × (f.length ≡ 0) → filled_output f out ≡ write list out
+    (list out : List ℕ) (f : Filled) (x : Refusal) → judge_list list (length out) ≡ refused x → (verdict f.answer ≡ refused x) × (f.length ≡ 0) → filled_output f out ≡ write list out
 unfolding write
 write-refuses list out f x judged_so said = rw judged_so (λ i. record { answer = said.0 i; written = said.1 i; bytes = out })
 
 pub write_accepts :
-    (list out after : List ℕ) (f : Filled) (t : Totals) → judge_list list (length out) ≡ accepted t → (answer_verdict f.answer ≡ accepted t) × (f.length ≡ length (encode (items_in list)))
+    (list out after : List ℕ) (f : Filled) (t : Totals) → judge_list list (length out) ≡ accepted t → (verdict f.answer ≡ accepted t) × (f.length ≡ length (encode (items_in list)))
     → after ≡ put 0 (encode (items_in list)) out → filled_output f after ≡ write list out
 unfolding write
 write_accepts list out after f t judged_so said bytes = rw judged_so (λ i. record { answer = said.0 i; written = said.1 i; bytes = bytes i })

@@ -29,7 +29,7 @@ use Rattle.flow.specs.ExactTotals.{opening_count, kind_from}
 use Rattle.flow.specs.Walking.{start}
 use Rattle.flow.specs.declared.order.Due.TheVariants.{OnlyIm}
 use Rattle.flow.specs.Verdict.{refusal}
-use Rattle.flow.specs.declared.answer.Refusal.{Refusal}
+use Rattle.flow.specs.Verdict.{Refusal}
 use Rattle.flow.proofs.Cut.{Whole, joined_records}
 use Rattle.flow.proofs.Reading.{one_at_most}
 use Rattle.grammar.specs.Fault.{EachRight, context_after, bad_byte_lem, wrong_type, broken, FaultAfter, FirstFault, wrong_length, in_record, still_due}

@@ -16,7 +16,7 @@ use Rattle.flow.specs.Order.{permitted, is_due, may_close}
 use Rattle.flow.specs.Records.{RightLength}
 use Rattle.flow.specs.Walking.{start}
 use Rattle.flow.specs.Verdict.{Verdict, accepted, refused, refusal, of_call}
-use Rattle.flow.specs.declared.answer.Refusal.{Refusal}
+use Rattle.flow.specs.Verdict.{Refusal}
 use Rattle.flow.specs.declared.answer.Totals.{Totals}
 use Rattle.flow.proofs.Accepted.{accepted-not-refused, refused-same}
 use Rattle.flow.proofs.Cut.{flatten-length, joined_records}

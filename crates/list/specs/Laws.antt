@@ -15,7 +15,7 @@ use Rattle.flow.specs.Judge.{judge}
 use Rattle.flow.specs.Output.{FilledWith, LeftAlone}
 use Rattle.flow.specs.Records.{record_at, records_of}
 use Rattle.flow.specs.Verdict.{accepted, refused, refusal, of_call}
-use Rattle.flow.specs.declared.answer.Refusal.{Refusal}
+use Rattle.flow.specs.Verdict.{Refusal}
 use Rattle.flow.specs.declared.answer.Totals.{Totals}
 use Rattle.grammar.specs.Fault.{MayFollow, EachRight}
 use Rattle.list.specs.Encode.{list_cents, list_totals, records_for, encode}

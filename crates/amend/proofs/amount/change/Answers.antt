@@ -10,9 +10,8 @@ use Rattle.fields.specs.Amount.{is_amount}
 use Rattle.fields.specs.Digits.{digits}
 use Rattle.fields.proofs.Amounts.{amount_test}
 use Rattle.records.specs.Limits.{most_cents}
-use Rattle.flow.specs.Find.{found_with_totals_verdict}
+use Rattle.flow.specs.Verdict.{verdict}
 use Rattle.flow.specs.Verdict.{accepted, refused}
-use Rattle.flow.specs.declared.answer.Answer.TheVariants.{Refused}
 use Rattle.amend.specs.Amended.{written_in_record}
 use Rattle.amend.specs.Change.{totals_changed, changed}
 use Rattle.amend.proofs.FoundFacts.{found_facts, found_there}
@@ -21,7 +20,7 @@ use Rattle.amend.proofs.Unchanged.{change-found, left-unchanged}
 use Rattle.amend.proofs.amount.change.Goals as goal
 
 pub returns-in-Refused : goal.returns-in-Refused
-returns-in-Refused c = sym (change-found _ _ (sym c.find_with_totals.ensures ∙ ap found_with_totals_verdict c.in-Refused.is) _)
+returns-in-Refused c = sym (change-found _ _ (sym c.find_with_totals.ensures ∙ ap verdict c.in-Refused.is) _)
 
 pub returns-then-not-is_amount : goal.returns-then-not-is_amount
 returns-then-not-is_amount c =

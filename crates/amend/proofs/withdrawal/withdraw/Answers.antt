@@ -7,7 +7,7 @@ use lib.ListN.{length, take, drop, replicate}
 use borrow.Author.Tests.{lt-ltb, le-ltb}
 use Rattle.sequences.specs.Part.{put}
 use Rattle.flow.specs.Records.{cut}
-use Rattle.flow.specs.Find.{found_with_totals_verdict}
+use Rattle.flow.specs.Verdict.{verdict}
 use Rattle.flow.specs.Verdict.{accepted, refused}
 use Rattle.amend.specs.Withdraw.{renumbered_from, totals_left, withdrawn}
 use Rattle.amend.proofs.FoundFacts.{found_facts, found_there}
@@ -18,7 +18,7 @@ use Rattle.amend.proofs.withdrawal.withdraw.Goals as goal
 pub returns-in-Refused : goal.returns-in-Refused
 returns-in-Refused c =
     left-unchanged c.refused.result.answer c.refused.result.length _ c.refused.ensures.0 c.refused.ensures.1
-    ∙ sym (withdraw-found _ _ (sym c.find_with_totals.ensures ∙ ap found_with_totals_verdict c.in-Refused.is))
+    ∙ sym (withdraw-found _ _ (sym c.find_with_totals.ensures ∙ ap verdict c.in-Refused.is))
 
 pub returns-then-before-le1 : goal.returns-then-before-le1
 returns-then-before-le1 c =

@@ -11,7 +11,7 @@ use Rattle.flow.specs.Records.{record_at}
 use Rattle.flow.proofs.Cut.{record_part}
 use Rattle.flow.proofs.FastPath.{pass_begin, pass_next}
 use Rattle.flow.proofs.fast_path.pass_over.Goals as goal
-use Rattle.std.specs.Prelude.{Option, Some, None}
+use Rattle.std.specs.Prelude.{Some}
 
 pub loop-i-init : goal.loop-i-init
 loop-i-init c = pass_begin _ _ _ c.requires.le_from c.requires.from_in_bounds
@@ -21,14 +21,14 @@ flow-of c = c.args.flow.now
 
 -- what is known of a record that was passed over
 passed-test : (c : goal.After-pass-here) → let i = c.loop-i.i in
-    let kind = c.in-Of.kind in
+    let kind = c.in-Some.kind in
     Inside c.loop-i.here.place.due (record_at i (flow-of c)) (Some kind) × (passes_quick_test kind (field 4 10 (record_at (i - 1) (flow-of c))) (record_at i (flow-of c)) ≡ true)
 passed-test c =
     let i = c.loop-i.i in
-    let kind = c.in-Of.kind in
+    let kind = c.in-Some.kind in
     let rec = record_part i (flow-of c) in
     let number = c.field.ensures.bytes ∙ ap (field 4 10) (record_part (i - 1) (flow-of c)) in (
-      rw rec at (subst (Inside _ _) c.in-Of.is c.kind_inside.ensures),
+      rw rec at (subst (Inside _ _) c.in-Some.is c.kind_inside.ensures),
       sym (λ j. passes_quick_test kind (number j) (rec j)) ∙ sym c.passes_quick_test.ensures ∙ c.if-not-passes_quick_test.false,
     )
 

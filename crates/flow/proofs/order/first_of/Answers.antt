@@ -6,6 +6,6 @@ pub returns-then-has_type : goal.returns-then-has_type
 unfolding among
 returns-then-has_type c = rw (← c.has_type.ensures, c.if-has_type.true)
 
-pub returns : goal.returns
+pub returns-else-has_type : goal.returns-else-has_type
 unfolding among
-returns c = rw (← c.has_type.ensures, c.if-has_type.false) c.only.ensures
+returns-else-has_type c = rw (← c.has_type.ensures, c.if-has_type.false) c.only.ensures

@@ -6,7 +6,7 @@ use lib.ListN.{length}
 use borrow.Author.Rules.{rules}
 use borrow.Author.Tests.{le-leb, lt-leb}
 use Rattle.flow.specs.Judge.{judge}
-use Rattle.flow.specs.Verdict.{accepted, refused, answer_verdict}
+use Rattle.flow.specs.Verdict.{accepted, refused, verdict}
 use Rattle.flow.proofs.Accepted.{accepted_exact}
 use Rattle.flow.proofs.Dispositions.{accepted-length}
 use Rattle.list.specs.ReadBack.{list_of, judge_room, read_back}
@@ -15,7 +15,7 @@ use Rattle.list.proofs.own_list.read_back.Tie as tie
 
 -- the flow is accepted
 read : (c : tie.In-Accepted) → judge c.before.before.before.before.args.flow.now ≡ accepted c.in-Accepted.totals
-read c = sym c.before.read.ensures ∙ ap answer_verdict c.in-Accepted.is
+read c = sym c.before.read.ensures ∙ ap verdict c.in-Accepted.is
 
 list-length-requires : tie.Need-list_length-length-requires
 list-length-requires c κs = ((accepted-length _ (read c)).2, (accepted_exact _ _ (read c)).3)
@@ -36,7 +36,7 @@ returns-2 : tie.Need-returns-in-Refused
 unfolding read_back judge_room
 returns-2 c =
     let a = c.before.before.before.before.before.args in
-    let wrong : judge a.flow.now ≡ refused c.before.in-Refused.refusal = sym c.before.before.read.ensures ∙ ap answer_verdict c.before.in-Refused.is in
+    let wrong : judge a.flow.now ≡ refused c.before.in-Refused.refusal = sym c.before.before.read.ensures ∙ ap verdict c.before.in-Refused.is in
     let said = c.refused.ensures in
     rw wrong (λ i. record { answer = said.0 i; written = said.1 i; bytes = a.out.now })
 

@@ -6,7 +6,7 @@ use native.Mathlib.Omega.{arith}
 use lib.ListN.{length}
 use borrow.Author.Rules.{rules}
 use Rattle.sequences.specs.All.{All}
-use Rattle.flow.specs.Verdict.{accepted, refused, answer_verdict, refusal, of_call}
+use Rattle.flow.specs.Verdict.{accepted, refused, verdict, refusal, of_call}
 use Rattle.flow.specs.declared.answer.Totals.{Totals}
 use Rattle.list.specs.Encode.{encode}
 use Rattle.list.specs.Items.{Proper, items, parse, items_in, Listed}
@@ -60,7 +60,7 @@ judge-items-requires c κs = listed c
 
 -- and they are accepted
 told_so : (c : tie.In-Accepted) → judge_items (items_in (list_of c.before.before.before.before)) ≡ accepted c.in-Accepted.totals
-told_so c = sym c.before.judge_items.ensures ∙ ap answer_verdict c.in-Accepted.is
+told_so c = sym c.before.judge_items.ensures ∙ ap verdict c.in-Accepted.is
 
 proper-so : (c : tie.In-Accepted) → All Proper (items_in (list_of c.before.before.before.before))
 proper-so c = let list = list_of c.before.before.before.before in ((items_exact list (items_in list)).0 (fitting c.before.before).said).1
@@ -92,7 +92,7 @@ returns-4 c =
     let e = c.before.before.before in
     let told = e.before.before in
     let list = list_of told in
-    let wrong : judge_items (items_in list) ≡ refused c.before.in-Refused.refusal = sym c.before.before.judge_items.ensures ∙ ap answer_verdict c.before.in-Refused.is in
+    let wrong : judge_items (items_in list) ≡ refused c.before.in-Refused.refusal = sym c.before.before.judge_items.ensures ∙ ap verdict c.before.in-Refused.is in
     write-refuses list (out_of told) c.refused-in-Refused.result _ (fitting_judged list (length (out_of told)) (items_in list) (fitting e) ∙ wrong) c.refused-in-Refused.ensures
 
 returns-5 : tie.Need-returns-in-Accepted
