@@ -20,7 +20,7 @@ pub fn read_digits(field: &[u8]) -> Result<u64, Reason>
         if b < b'0' || b'9' < b {
             return Err(Reason::NotDigits);
         }
-        value = value * 10 + u64::from(b - b'0');
+        value = value * 10 + (u64::from(b) - 48);
     }
     Ok(value)
 }

@@ -30,7 +30,9 @@ pub struct Place {
     pub further: u64,
 }
 
-// The kind of the record among those that may come next.
+// The kind of the record among those that may come next. It is compiled into both its callers: a call for
+// each record is dearer than the code.
+#[inline(always)]
 pub(crate) fn kind_due(due: Due, rec: &[u8]) -> Option<RecordKind>
     ensures { result ≡ among (permitted due) rec.now }
 {

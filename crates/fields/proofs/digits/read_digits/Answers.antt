@@ -49,7 +49,7 @@ overflow_add-value c = omega (arith, c.from.ensures, room c.loop-b.value c.loop-
 pub loop-b-preserved : goal.loop-b-preserved
 loop-b-preserved c =
     let loop = c.loop-b in (
-      digit_more loop.b-index loop.value c.from.result loop.invariant.0 (omega (arith, c.from.ensures)),
+      digit_more loop.b-index loop.value (c.from.result - 48) loop.invariant.0 (omega (arith, c.from.ensures)),
       rw (c.from.ensures, turn _ _ _ loop.invariant.1 c.loop-b-test.true, digit_right _ c.if-b-lt48.false c.if-b-gt57.false),
     )
 
