@@ -2,16 +2,16 @@
 -- determines. Assumes nothing.
 use Prim.Native.Nat.{ℕ}
 use mathlib.Core.List.{List}
-use mathlib.Core.Path.{◌≡◌, refl, ap}
+use mathlib.Core.Path.{◌≡◌, refl, sym, ap}
 use lib.ListN.{length}
 use native.Mathlib.Omega.{arith}
 use Rattle.sequences.specs.Part.{put}
 use Rattle.flow.specs.Judge.{judge}
-use Rattle.flow.specs.Output.{Output}
-use Rattle.flow.specs.Verdict.{accepted, refused, verdict}
-use Rattle.flow.specs.Verdict.{Refusal}
+use Rattle.flow.specs.Output.{Output, output}
+use Rattle.flow.specs.Verdict.{Verdict, accepted, verdict}
 use Rattle.flow.specs.declared.answer.Totals.{Totals}
-use Rattle.flow.proofs.Accepted.{answer_determined}
+use Rattle.flow.specs.declared.answer.Refusal.{Refusal as Code-Refusal}
+use Rattle.flow.proofs.Accepted.{accepted-not-refused, accepted-same, answer_determined}
 use Rattle.flow.proofs.Output.{output_leaves, room_exact}
 use Rattle.list.specs.Encode.{encode}
 use Rattle.list.specs.Items.{Parsed, items, faulty, items_or, items_in, item_count}
@@ -20,29 +20,25 @@ use Rattle.list.specs.Output.{filled_output}
 use Rattle.list.specs.ReadBack.{list_of, judge_room, read_back}
 use Rattle.list.specs.Write.{judge_list, write}
 use Rattle.list.proofs.Written.{written_exact}
-use Rattle.list.specs.declared.count.Count.TheVariants.{Items, Faulty}
+use Rattle.std.specs.Prelude.{Result, Ok, Err}
 use Rattle.list.specs.declared.filled.Filled.{Filled}
 
 -- how many items there are, or which is none, tells what was read
-pub items-counted : (p : Parsed) (n : ℕ) → item_count p ≡ Items n → (p ≡ items (items_or p)) × (length (items_or p) ≡ n)
+pub items-counted : (p : Parsed) (n : ℕ) → item_count p ≡ Ok n → (p ≡ items (items_or p)) × (length (items_or p) ≡ n)
 items-counted (items is) n e = (refl, cc)
 items-counted (faulty m) n e = let z : ◌≡◌ {A = ℕ} 0 1 = cc in absurd (omega arith)
 
-pub faulty-counted : (p : Parsed) (n : ℕ) → item_count p ≡ Faulty n → p ≡ faulty n
+pub faulty-counted : (p : Parsed) (n : ℕ) → item_count p ≡ Err n → p ≡ faulty n
 faulty-counted (items is) n e = let z : ◌≡◌ {A = ℕ} 0 1 = cc in absurd (omega arith)
 faulty-counted (faulty m) n e = cc
 
--- a call of writing that is refused, and one that is accepted
-pub write-refuses :
-    (list out : List ℕ) (f : Filled) (x : Refusal) → judge_list list (length out) ≡ refused x → (verdict f.answer ≡ refused x) × (f.length ≡ 0) → filled_output f out ≡ write list out
-unfolding write
-write-refuses list out f x judged_so said = rw judged_so (λ i. record { answer = said.0 i; written = said.1 i; bytes = out })
+-- a call that fills an output is refused, or accepted
+pub filled_refused : {v : Verdict Totals} (x : Code-Refusal) (bytes out : List ℕ) → verdict (Err x) ≡ v → filled_output (Err x) out ≡ output v bytes out
+filled_refused x bytes out told = rw (sym told) refl
 
-pub write_accepts :
-    (list out after : List ℕ) (f : Filled) (t : Totals) → judge_list list (length out) ≡ accepted t → (verdict f.answer ≡ accepted t) × (f.length ≡ length (encode (items_in list)))
-    → after ≡ put 0 (encode (items_in list)) out → filled_output f after ≡ write list out
-unfolding write
-write_accepts list out after f t judged_so said bytes = rw judged_so (λ i. record { answer = said.0 i; written = said.1 i; bytes = bytes i })
+pub filled_accepted :
+    {v : Verdict Totals} (f : Filled) (bytes out after : List ℕ) → verdict (Ok f.totals) ≡ v → f.length ≡ length bytes → after ≡ put 0 bytes out → filled_output (Ok f) after ≡ output v bytes out
+filled_accepted f bytes out after told size stored = rw (sym told) (λ i. record { answer = accepted f.totals; written = size i; bytes = stored i })
 
 -- the rest is what is true of any call that fills an output
 pub read_back-refused : ReadBackRefused
@@ -74,7 +70,13 @@ read_back_leaves f out =
     (λ t e. so.1 t e ((read_back-accepted f (length out) t).0 e).1, so.2)
 
 pub filled_determined : FilledDetermined
-filled_determined r s out e =
-    let answer = answer_determined r.answer s.answer (ap (λ (o : Output Totals). o.answer) e) in
+filled_determined (Ok f) (Ok g) out e =
+    let totals = accepted-same (ap (λ (o : Output Totals). o.answer) e) in
     let length-same = ap (λ (o : Output Totals). o.written) e in
-    λ i. record { answer = answer i; length = length-same i }
+    λ i. Ok (record { totals = totals i; length = length-same i })
+filled_determined (Ok f) (Err y) out e = absurd (accepted-not-refused (sym (ap (λ (o : Output Totals). o.answer) e)))
+filled_determined (Err x) (Ok g) out e = absurd (accepted-not-refused (ap (λ (o : Output Totals). o.answer) e))
+filled_determined (Err x) (Err y) out e = error (answer_determined (Err x) (Err y) (ap (λ (o : Output Totals). o.answer) e))
+  where
+    error : {a b : Code-Refusal} → ◌≡◌ {A = Result Totals Code-Refusal} (Err a) (Err b) → ◌≡◌ {A = Result Filled Code-Refusal} (Err a) (Err b)
+    error {a} {b} same = let one : a ≡ b = cc in ap Err one

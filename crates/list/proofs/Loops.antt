@@ -41,7 +41,7 @@ use Rattle.list.proofs.OneRecord.{encoded-length, encoded-type, encoded_at}
 use Rattle.list.proofs.AllRecords.{trailer-length, encoded-whole, encoded-count}
 use Rattle.list.proofs.ListItems.{items_exact}
 use Rattle.list.proofs.Parsing.{Next, next_item, no_more}
-use Rattle.std.specs.Prelude.{Option, Some, None}
+use Rattle.std.specs.Prelude.{Some}
 
 -- the item of the kind whose kind byte stands at index i
 abbrev pub item_at : List ℕ → ℕ → ItemKind → Item

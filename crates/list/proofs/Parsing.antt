@@ -12,10 +12,8 @@ use Rattle.sequences.specs.Part.{part}
 use Rattle.sequences.proofs.Drop.{drop_next}
 use Rattle.list.specs.Items.{Item, item, Parsed, items, faulty, with_item, items_from, item_count}
 use Rattle.list.specs.Table.{body_length, row_of, KindByte}
-use Rattle.list.specs.declared.count.Count.{Count}
-use Rattle.list.specs.declared.count.Count.TheVariants.{Items, Faulty}
 use Rattle.list.specs.declared.table.ItemKind.{ItemKind}
-use Rattle.std.specs.Prelude.{Option, Some, None}
+use Rattle.std.specs.Prelude.{Option, Some, None, Result, Ok, Err}
 
 -- the bytes of a body are passed over
 pub body_passed : (n s : ℕ) (bs : List ℕ) → items_from n s bs ≡ items_from n 0 (drop s bs)
@@ -44,33 +42,33 @@ unfolding items_from
 items_end list n i h = rw (drop_of_length-le list h)
 
 -- the count of all, where so much is said after n items
-abbrev pub counted_from : ℕ → Parsed → Count
-counted_from n (items is) = Items (n + length is)
-counted_from n (faulty m) = Faulty m
+abbrev pub counted_from : ℕ → Parsed → Result ℕ ℕ
+counted_from n (items is) = Ok (n + length is)
+counted_from n (faulty m) = Err m
 
 pub counted-all : (p : Parsed) → item_count p ≡ counted_from 0 p
-counted-all (items is) = let none : 0 + length is ≡ length is = omega arith in ap Items (sym none)
+counted-all (items is) = let none : 0 + length is ≡ length is = omega arith in ap Ok (sym none)
 counted-all (faulty m) = refl
 
 pub counted_next :
     (list : List ℕ) (n i : ℕ) → i < length list → (k : ItemKind) → row_of (get_or list i 0) ≡ Some k
     → counted_from n (items_from n 0 (drop i list))
-    ≡ cond (leb (body_length k) (length list - (i + 1))) (counted_from (suc n) (items_from (suc n) 0 (drop (i + 1 + body_length k) list))) (Faulty (suc n))
+    ≡ cond (leb (body_length k) (length list - (i + 1))) (counted_from (suc n) (items_from (suc n) 0 (drop (i + 1 + body_length k) list))) (Err (suc n))
 counted_next list n i h k row = ap (counted_from n) (items_next list n i h k row) ∙ by (leb (body_length k) (length list - (i + 1))) (items_from (suc n) 0 (drop (i + 1 + body_length k) list))
   where
     it : Item
     it = item k (part (i + 1) (body_length k) list)
 
-    by : (fits : Bool) (rest : Parsed) → counted_from n (cond fits (with_item it rest) (faulty (suc n))) ≡ cond fits (counted_from (suc n) rest) (Faulty (suc n))
-    by true (items is) = let one : n + suc (length is) ≡ suc n + length is = omega arith in ap Items one
+    by : (fits : Bool) (rest : Parsed) → counted_from n (cond fits (with_item it rest) (faulty (suc n))) ≡ cond fits (counted_from (suc n) rest) (Err (suc n))
+    by true (items is) = let one : n + suc (length is) ≡ suc n + length is = omega arith in ap Ok one
     by true (faulty m) = refl
     by false rest = refl
 
-pub counted_none : (list : List ℕ) (n i : ℕ) → i < length list → row_of (get_or list i 0) ≡ None → counted_from n (items_from n 0 (drop i list)) ≡ Faulty (suc n)
+pub counted_none : (list : List ℕ) (n i : ℕ) → i < length list → row_of (get_or list i 0) ≡ None → counted_from n (items_from n 0 (drop i list)) ≡ Err (suc n)
 counted_none list n i h row = ap (counted_from n) (items-none list n i h row)
 
-pub counted_end : (list : List ℕ) (n i : ℕ) → length list ≤ i → counted_from n (items_from n 0 (drop i list)) ≡ Items n
-counted_end list n i h = let all : n + 0 ≡ n = omega arith in ap (counted_from n) (items_end list n i h) ∙ ap Items all
+pub counted_end : (list : List ℕ) (n i : ℕ) → length list ≤ i → counted_from n (items_from n 0 (drop i list)) ≡ Ok n
+counted_end list n i h = let all : n + 0 ≡ n = omega arith in ap (counted_from n) (items_end list n i h) ∙ ap Ok all
 
 pub items-not-faulty : {is : List Item} {n : ℕ} → items is ≡ faulty n → ⊥
 items-not-faulty e = let never : ◌≡◌ {A = ℕ} 0 1 = cc in omega arith

@@ -45,7 +45,7 @@ use Rattle.list.proofs.OneRecord.{type-length, causale-length, sign-length, enco
 use Rattle.list.proofs.Placing.{Matches, Agrees, AllPlaced, matches_agrees, fill-agrees, fill-all, all-part}
 use Rattle.list.proofs.Covering.{Spanned, spanned_append, spanned_covers, body_spanned, supplied_spanned, spanned_fits, written_spans, written-within, checked-written, checked-within, alike_by_bytes}
 use Rattle.list.proofs.TableSpans.{carried-within}
-use Rattle.std.specs.Prelude.{Option, Some, None}
+use Rattle.std.specs.Prelude.{Option}
 
 -- bytes that stand in the record
 stands : (rec : List ℕ) (p w : ℕ) (bs : List ℕ) → length bs ≡ w → part (p - 1) w rec ≡ bs → Matches rec (place p bs)

@@ -65,7 +65,7 @@ use Rattle.list.proofs.TableSpans.{carried-within}
 use Rattle.list.proofs.Trailer.{Meant, Counted, trailer_formed, trailer-keeps}
 use Rattle.list.proofs.WriteRefused.{fitting_judged}
 use Rattle.list.proofs.Written.{written_exact}
-use Rattle.std.specs.Prelude.{Option, Some, None}
+use Rattle.std.specs.Prelude.{Some}
 
 -- the total at the place of the kind, and the zeros at the other
 by_kind :

@@ -9,7 +9,7 @@ use Rattle.records.specs.declared.flow_kind.FlowKind.{FlowKind}
 use Rattle.list.specs.Table.{rows_of, first_row}
 use Rattle.list.specs.declared.table.ItemKind.{ItemKind}
 use Rattle.list.specs.declared.table.ItemKind.TheVariants.{Z}
-use Rattle.std.specs.Prelude.{Option, Some, None}
+use Rattle.std.specs.Prelude.{Some, None}
 
 module _ (p : ItemKind → Bool) (q : FlowKind) where
   -- what is left from i on decides as the whole does

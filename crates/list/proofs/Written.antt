@@ -43,7 +43,7 @@ use Rattle.grammar.proofs.Order.{Allowed, header_only_first}
 use Rattle.grammar.proofs.Rules.{header_rules}
 use Rattle.grammar.proofs.Walked.{Walked, state_after, code_after, walked_append, walked_allowed, state_append}
 use Rattle.list.specs.Encode.{carried_at, HeaderMeant, no_header, kind_meant, header_after, last_header, list_dispositions, list_cents, list_totals, encode_item, encode_from, records_for, trailer_for, encode}
-use Rattle.list.specs.Items.{Item, record_kind, Proper, list_bytes, Parsed, items, faulty, parse, items_or, items_in}
+use Rattle.list.specs.Items.{Item, record_kind, Proper, list_bytes, Parsed, items, faulty, parse, items_or, items_in, Listed}
 use Rattle.list.specs.Laws.{Fitting, WrittenExact}
 use Rattle.list.specs.ReadBack.{list_of, Canonical}
 use Rattle.list.specs.Table.{carried, body_length}
@@ -250,3 +250,18 @@ written_exact list room t e =
       omega arith,
       omega arith,
     )
+
+-- what writing an accepted list goes by: it has items, the output has room for their records, and the totals are theirs
+pub record Writable (list : List ℕ) (room : ℕ) (t : Totals) : Type 0 where
+  pub listed : Listed list
+  pub roomy : 120 * suc (length (items_in list)) ≤ room
+  pub totals : t ≡ list_totals (items_in list)
+  pub size : 120 * t.records ≡ length (encode (items_in list))
+
+pub writable : (list : List ℕ) (room : ℕ) (t : Totals) → judge_list list room ≡ accepted t → Writable list room t
+writable list room t e =
+    let a = accepted_list list room t e in
+    let fits = subst (Fitting list room) (sym (ap items_or a.fits.said)) a.fits in
+    let judged : judge_items (items_in list) ≡ accepted t = ap judge_items (ap items_or a.fits.said) ∙ a.judged_so in
+    let so = accepted-items (items_in list) ((items_exact list (items_in list)).0 fits.said).1 t judged in
+    record { listed = record { said = fits.said; few = fits.few }; roomy = fits.roomy; totals = sym so.told; size = sym (written_exact list room t e).3 }

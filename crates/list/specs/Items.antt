@@ -1,11 +1,9 @@
 -- A request list: items of one byte of kind and a body whose length the kind fixes (document 01, "Our request list"). Assumes nothing.
-use Rattle.std.specs.Prelude.{ℕ, zero, suc, ◌≤◌, Bool, cond, ◌≡◌, leb, length, take}
+use Rattle.std.specs.Prelude.{Result, Ok, Err, ℕ, zero, suc, ◌≤◌, Bool, cond, ◌≡◌, leb, length, take}
 use mathlib.Core.List.{List, [], ◌∷◌, map, flatten}
 use Rattle.records.specs.Kinds.{opens}
 use Rattle.records.specs.Limits.{most_records}
 use Rattle.records.specs.declared.kind.RecordKind.{RecordKind}
-use Rattle.list.specs.declared.count.Count.{Count}
-use Rattle.list.specs.declared.count.Count.TheVariants.{Items, Faulty}
 use Rattle.list.specs.Table.{letter, record_of, body_length, row_of, with_row}
 use Rattle.list.specs.declared.table.ItemKind.{ItemKind}
 
@@ -65,9 +63,9 @@ abbrev pub items_in : List ℕ → List Item
 items_in list = items_or (parse list)
 
 -- for the contracts of private functions: how many items there are; and bytes that are a list of no more items than a flow has room for
-abbrev pub item_count : Parsed → Count
-item_count (items is) = Items (length is)
-item_count (faulty n) = Faulty n
+abbrev pub item_count : Parsed → Result ℕ ℕ
+item_count (items is) = Ok (length is)
+item_count (faulty n) = Err n
 
 pub record Listed (list : List ℕ) : Type 0 where
   pub said : parse list ≡ items (items_in list)

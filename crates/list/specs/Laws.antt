@@ -16,6 +16,7 @@ use Rattle.flow.specs.Output.{FilledWith, LeftAlone}
 use Rattle.flow.specs.Records.{record_at, records_of}
 use Rattle.flow.specs.Verdict.{accepted, refused, refusal, of_call}
 use Rattle.flow.specs.Verdict.{Refusal}
+use Rattle.flow.specs.declared.answer.Refusal.{Refusal as Code-Refusal}
 use Rattle.flow.specs.declared.answer.Totals.{Totals}
 use Rattle.grammar.specs.Fault.{MayFollow, EachRight}
 use Rattle.list.specs.Encode.{list_cents, list_totals, records_for, encode}
@@ -26,7 +27,7 @@ use Rattle.list.specs.Table.{letter, carried, body_length, row_in}
 use Rattle.list.specs.Write.{judge_list, write}
 use Rattle.list.specs.declared.filled.Filled.{Filled}
 use Rattle.list.specs.declared.table.ItemKind.{ItemKind}
-use Rattle.std.specs.Prelude.{Option, Some, None}
+use Rattle.std.specs.Prelude.{Some, Result}
 
 -- the items that a list is read as are those that it is the bytes of
 abbrev pub ItemsExact : Type 0
@@ -167,4 +168,4 @@ UncheckedOnly =
 
 -- what an answer stands for on paper determines it
 abbrev pub FilledDetermined : Type 0
-FilledDetermined = (r s : Filled) (out : List ℕ) → filled_output r out ≡ filled_output s out → r ≡ s
+FilledDetermined = (r s : Result Filled Code-Refusal) (out : List ℕ) → filled_output r out ≡ filled_output s out → r ≡ s

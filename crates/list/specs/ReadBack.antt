@@ -13,7 +13,7 @@ use Rattle.list.specs.Encode.{encode}
 use Rattle.list.specs.Items.{Item, item, list_bytes}
 use Rattle.list.specs.Table.{carried, body_length, row_in, with_row}
 use Rattle.list.specs.declared.table.ItemKind.{ItemKind}
-use Rattle.std.specs.Prelude.{Option, Some, None}
+use Rattle.std.specs.Prelude.{Option}
 
 -- the bytes of a record at spans, in order
 abbrev pub gather : List Span → List ℕ → List ℕ

@@ -1,33 +1,9 @@
-// What a call that fills an output answers.
-ghost use Rattle.std.specs.Prelude.{◌≡◌};
-ghost use Rattle.flow.specs.Verdict.{accepted, refused, answer_verdict};
+// What a call that fills an output tells where it is accepted.
+use flow::Totals;
 
-use flow::{Answer, Refusal, Totals};
-
-// The answer of the flow that was written or read back, and the length written: 0 where the call is
-// refused.
-#[derive(Clone, Copy)]
+// The totals of the flow that was written or read back, and the length written.
+#[derive(Clone, Copy, Debug, PartialEq, Eq)]
 pub struct Filled {
-    pub answer: Answer,
+    pub totals: Totals,
     pub length: u64,
-}
-
-impl Filled {
-    pub(crate) fn accepted(totals: Totals, length: u64) -> Filled
-        ensures { (answer_verdict result.answer ≡ accepted totals) × (result.length ≡ length) }
-    {
-        Filled {
-            answer: Answer::Accepted(totals),
-            length,
-        }
-    }
-
-    pub(crate) fn refused(refusal: Refusal) -> Filled
-        ensures { (answer_verdict result.answer ≡ refused refusal) × (result.length ≡ 0) }
-    {
-        Filled {
-            answer: Answer::Refused(refusal),
-            length: 0,
-        }
-    }
 }

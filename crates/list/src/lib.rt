@@ -11,7 +11,6 @@ mod encode;
 mod filled;
 mod limits;
 mod own_list;
-mod refusals;
 mod same;
 mod table;
 mod writer;

@@ -10,27 +10,26 @@ ghost use Rattle.list.specs.Table.{body_length, row_in};
 ghost use Rattle.list.specs.Table.{carried as Table-carried};
 
 use crate::filled::Filled;
-use crate::table::{ItemKind, Row, body_length, carried, letter, row_in, width};
-use flow::{Answer, NO_ROOM};
+use crate::table::{ItemKind, body_length, carried, letter, row_in, width};
+use flow::Refusal;
 use records::{FlowKind, field};
+use refusals::Reason;
 
 // Writes the flow's list at the front of out, and answers the flow's totals and the list's length.
 // What the reader refuses is refused alike, and then an out that is too short by 21.
-pub fn read_back(flow: &[u8], out: &mut [u8]) -> Filled
+pub fn read_back(flow: &[u8], out: &mut [u8]) -> Result<Filled, Refusal>
     ensures { filled_output result out.new ≡ read_back flow.now out.old }
 {
-    match flow::read(flow) {
-        Answer::Refused(refusal) => Filled::refused(refusal),
-        Answer::Accepted(totals) => {
-            let kind = totals.kind;
-            let length = list_length(flow, kind);
-            if out.len() < length {
-                return Filled::refused(flow::refusal_of_call(NO_ROOM));
-            }
-            store_list(flow, out, kind);
-            Filled::accepted(totals, flow::as_count(length))
-        }
+    let totals = flow::read(flow)?;
+    let length = list_length(flow, totals.kind);
+    if out.len() < length {
+        return Err(flow::refusal_of_call(Reason::NoRoom));
     }
+    store_list(flow, out, totals.kind);
+    Ok(Filled {
+        totals,
+        length: flow::as_count(length),
+    })
 }
 
 // The length of the flow's list.
@@ -49,12 +48,12 @@ fn list_length(flow: &[u8], kind: FlowKind) -> usize
 }
 
 // The length of the item of a record of the row: a record that the table does not have gives none.
-fn item_length(row: Row) -> usize
+fn item_length(row: Option<ItemKind>) -> usize
     ensures { result ≡ item_length row }
 {
     match row {
-        Row::Of(kind) => 1 + body_length(kind),
-        Row::Missing => 0,
+        Some(kind) => 1 + body_length(kind),
+        None => 0,
     }
 }
 
@@ -80,7 +79,7 @@ fn store_item(rec: &[u8], flow: FlowKind, out: &mut [u8], at: usize) -> usize
     ensures value { result ≡ at + item_length (row_in flow rec.now) }
     ensures out_after { out.new ≡ put at (list_bytes (item_of flow rec.now)) out.old }
 {
-    let Row::Of(kind) = row_in(rec, flow) else {
+    let Some(kind) = row_in(rec, flow) else {
         return at;
     };
     out[at] = letter(kind);

@@ -3,7 +3,7 @@ ghost use Rattle.std.specs.Prelude.{◌≡◌};
 ghost use Rattle.list.specs.Same.{is_alike, carries_same};
 ghost use Rattle.list.specs.Table.{carried as Table-carried};
 
-use crate::table::{ItemKind, Row, carried, record_of, row_in};
+use crate::table::{ItemKind, carried, record_of, row_in};
 use records::{FlowKind, field};
 
 // Whether two records of flows of the kind have one type of the table and the same bytes at every position
@@ -11,7 +11,7 @@ use records::{FlowKind, field};
 pub fn carries_same(rec: &[u8], other: &[u8], flow: FlowKind) -> bool
     ensures { result ≡ carries_same flow rec.now other.now }
 {
-    let Row::Of(kind) = row_in(rec, flow) else {
+    let Some(kind) = row_in(rec, flow) else {
         return false;
     };
     if !records::has_type(other, record_of(kind)) {

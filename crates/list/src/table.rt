@@ -1,17 +1,16 @@
 // Document 01's table of kinds, with the Q of document 02, E1: for each kind of item its kind byte, its
 // record, its carried positions and the length of its body.
-ghost use Rattle.std.specs.Prelude.{◌-◌, ◌≤◌, ◌≡◌, get_or};
+ghost use Rattle.std.specs.Prelude.{Some, ◌-◌, ◌≤◌, ◌≡◌, get_or};
 ghost use Rattle.records.specs.Field.{◌to◌, width as Field-width};
 ghost use Rattle.list.specs.Table.{rows_of, header_letter, record_of, body_length, bounds_of, row_of, row_in, KindByte};
 ghost use Rattle.list.specs.Table.{letter as Table-letter};
 ghost use Rattle.list.specs.declared.table.ItemKind.TheVariants.{Z};
-ghost use Rattle.list.specs.declared.table.Row.TheVariants.{Of};
 
 use records::{FlowKind, RecordKind};
 
 // The kinds of item, by their kind bytes. The header's item tells the kind of flow: H is one of
 // requests, Q one of recalls.
-#[derive(Clone, Copy)]
+#[derive(Clone, Copy, Debug, PartialEq, Eq)]
 pub(crate) enum ItemKind {
     H(FlowKind),
     D,
@@ -23,13 +22,6 @@ pub(crate) enum ItemKind {
     X,
     K,
     Z,
-}
-
-// The row of the table that was looked for, by its kind of item; or the table has none.
-#[derive(Clone, Copy)]
-pub(crate) enum Row {
-    Of(ItemKind),
-    Missing,
 }
 
 // The kind byte.
@@ -125,48 +117,44 @@ pub(crate) fn body_length(kind: ItemKind) -> usize
 }
 
 // The row of a kind byte.
-pub(crate) fn row_of(byte: u8) -> Row
+pub(crate) fn row_of(byte: u8) -> Option<ItemKind>
     ensures { result ≡ row_of byte }
 {
     if byte == header_letter(FlowKind::Recalls) {
-        return Row::Of(ItemKind::H(FlowKind::Recalls));
+        return Some(ItemKind::H(FlowKind::Recalls));
     }
     let mut i = 0;
     while i < ROWS {
         let kind = kind_at(i, FlowKind::Requests);
         if byte == letter(kind) {
-            return Row::Of(kind);
+            return Some(kind);
         }
         i += 1;
     }
-    Row::Missing
+    None
 }
 
-// The kind of a kind byte that is known to stand in the table, as that of an item that was counted. The
-// second arm is not reached.
+// The kind of a kind byte that is known to stand in the table, as that of an item that was counted.
 pub(crate) fn kind_of(byte: u8) -> ItemKind
     requires { KindByte byte }
-    ensures { row_of byte ≡ Of result }
+    ensures { row_of byte ≡ Some result }
 {
-    match row_of(byte) {
-        Row::Of(kind) => kind,
-        Row::Missing => ItemKind::Z,
-    }
+    row_of(byte).unwrap()
 }
 
 // The row of a record of a flow of the kind, by its type.
-pub(crate) fn row_in(rec: &[u8], flow: FlowKind) -> Row
+pub(crate) fn row_in(rec: &[u8], flow: FlowKind) -> Option<ItemKind>
     ensures { result ≡ row_in flow rec.now }
 {
     let mut i = 0;
     while i < ROWS {
         let kind = kind_at(i, flow);
         if records::has_type(rec, record_of(kind)) {
-            return Row::Of(kind);
+            return Some(kind);
         }
         i += 1;
     }
-    Row::Missing
+    None
 }
 
 const ROWS: usize = 10;

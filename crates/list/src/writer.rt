@@ -9,58 +9,64 @@ ghost use Rattle.records.specs.Kinds.{heads, opens, opened};
 ghost use Rattle.records.specs.Limits.{count_limit, most_records};
 ghost use Rattle.flow.specs.Judge.{walk_from};
 ghost use Rattle.flow.specs.Walking.{start, first_company};
-ghost use Rattle.flow.specs.Verdict.{answer_verdict};
+ghost use Rattle.flow.specs.Verdict.{verdict};
 ghost use Rattle.list.specs.Encode.{list_totals, records_for, encode, kind_meant};
 ghost use Rattle.list.specs.Items.{items_in, Listed};
 ghost use Rattle.list.specs.Output.{filled_output};
 ghost use Rattle.list.specs.Table.{record_of};
-ghost use Rattle.list.specs.Write.{closed, judge_items};
+ghost use Rattle.list.specs.Write.{closed, judge_items, judge_list};
 ghost use Rattle.list.specs.Write.{write as Write-write};
 
-use crate::count::{Count, count_items};
+use crate::count::count_items;
 use crate::encode::{encode_item, encode_trailer, place};
 use crate::filled::Filled;
 use crate::limits::MOST_ITEMS;
-use crate::refusals::NO_ITEM;
 use crate::table::{ItemKind, body_length, kind_of, record_of};
-use flow::{Answer, NO_ROOM, Refusal, TOTAL_TOO_LARGE, Totals, WRONG_TYPE, Walk};
-use records::{FlowKind, Judged, MOST_CENTS, WRONG_LENGTH, field};
+use flow::{Refusal, Totals, Walk};
+use records::{FlowKind, MOST_CENTS, field};
+use refusals::Reason;
 
 // Writes the flow that the list encodes at the front of out, and answers its totals and its length.
 // Refused, in this order: 20, an item that is none; 1, too many items; 21, out is too short; what the
 // reader refuses of the records, or 3 where EF may not follow them; 17, a total of more than fifteen
 // digits. All of this is judged before a byte of out is written.
-pub fn write(list: &[u8], out: &mut [u8]) -> Filled
+pub fn write(list: &[u8], out: &mut [u8]) -> Result<Filled, Refusal>
     ensures { filled_output result out.new ≡ Write-write list.now out.old }
 {
+    let totals = judge_list(list, out.len())?;
+    store_items(list, out, totals);
+    Ok(Filled {
+        totals,
+        length: 120 * totals.records,
+    })
+}
+
+// The answer to a list, with an output of so many bytes.
+fn judge_list(list: &[u8], room: usize) -> Result<Totals, Refusal>
+    ensures { verdict result ≡ judge_list list.now room }
+{
     match count_items(list) {
-        Count::Faulty(n) => Filled::refused(Refusal {
-            number: NO_ITEM,
+        Err(n) => Err(Refusal {
+            reason: Reason::NoItem,
             record: n,
             position: 0,
         }),
-        Count::Items(items) => {
+        Ok(items) => {
             if MOST_ITEMS < items {
-                return Filled::refused(flow::refusal_of_call(WRONG_LENGTH));
+                return Err(flow::refusal_of_call(Reason::WrongLength));
             }
-            if out.len() < 120 * (items + 1) {
-                return Filled::refused(flow::refusal_of_call(NO_ROOM));
+            if room < 120 * (items + 1) {
+                return Err(flow::refusal_of_call(Reason::NoRoom));
             }
-            match judge_items(list) {
-                Answer::Refused(refusal) => Filled::refused(refusal),
-                Answer::Accepted(totals) => {
-                    store_items(list, out, totals);
-                    Filled::accepted(totals, 120 * totals.records)
-                }
-            }
+            judge_items(list)
         }
     }
 }
 
 // The answer to the records that the list encodes.
-fn judge_items(list: &[u8]) -> Answer
+fn judge_items(list: &[u8]) -> Result<Totals, Refusal>
     requires { Listed list.now }
-    ensures { answer_verdict result ≡ judge_items (items_in list.now) }
+    ensures { verdict result ≡ judge_items (items_in list.now) }
 {
     if list.len() == 0 {
         return close(Walk::start(), 0);
@@ -82,9 +88,9 @@ fn first_record(list: &[u8]) -> [u8; 120]
 }
 
 // Each record in turn, built and judged, with the flow's header.
-fn judge_records(list: &[u8], im: &[u8]) -> Answer
+fn judge_records(list: &[u8], im: &[u8]) -> Result<Totals, Refusal>
     requires { Listed list.now }
-    ensures { answer_verdict result ≡ walk_from closed
+    ensures { verdict result ≡ walk_from closed
         (header_of im.now)
         start [] 0 (records_for (items_in list.now)) }
 {
@@ -105,14 +111,14 @@ fn judge_records(list: &[u8], im: &[u8]) -> Answer
         let rec = encode_item(kind, &shown, meant, header, body);
         n += 1;
         match walk.judge(&rec, n, im, company) {
-            Judged::Refused(number, position) => {
-                return Answer::Refused(Refusal {
-                    number,
+            Err(fault) => {
+                return Err(Refusal {
+                    reason: fault.reason,
                     record: n,
-                    position,
+                    position: fault.position,
                 });
             }
-            Judged::Right(right) => {
+            Ok(right) => {
                 let first_company = company_after(company, body, kind);
                 company = first_company;
                 walk = walk.next(right, &rec);
@@ -189,21 +195,21 @@ fn body_meant<'a>(header: &'a [u8], body: &'a [u8], kind: ItemKind) -> &'a [u8]
 }
 
 // The answer after the last of n records, where EF is due.
-fn close(walk: Walk, n: u64) -> Answer
+fn close(walk: Walk, n: u64) -> Result<Totals, Refusal>
     requires { suc n ≤ most_records }
-    ensures { answer_verdict result ≡ closed walk n }
+    ensures { verdict result ≡ closed walk n }
 {
     if !walk.may_close() {
-        return Answer::Refused(Refusal {
-            number: WRONG_TYPE,
+        return Err(Refusal {
+            reason: Reason::WrongType,
             record: n + 1,
             position: 2,
         });
     }
     if MOST_CENTS < walk.cents {
-        return Answer::Refused(flow::refusal_of_call(TOTAL_TOO_LARGE));
+        return Err(flow::refusal_of_call(Reason::TotalTooLarge));
     }
-    Answer::Accepted(walk.totals(n + 1))
+    Ok(walk.totals(n + 1))
 }
 
 // Each record, and then EF with the totals, at the front of out.

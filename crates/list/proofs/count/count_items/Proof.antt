@@ -10,11 +10,10 @@ use borrow.Author.Rules.{rules}
 use borrow.Author.Tests.{le-leb, lt-leb}
 use Rattle.list.specs.Items.{items_from, parse, item_count}
 use Rattle.list.specs.Table.{row_of}
-use Rattle.list.specs.declared.count.Count.TheVariants.{Faulty}
 use Rattle.list.proofs.Parsing.{counted_from, counted-all, counted_next, counted_none, counted_end}
 use Rattle.list.proofs.count.count_items.Statement.{statement}
 use Rattle.list.proofs.count.count_items.Tie as tie
-use Rattle.std.specs.Prelude.{Option, Some, None}
+use Rattle.std.specs.Prelude.{Some, None, Err}
 
 abbrev invariant-loop : tie.invariant-loop-at
 invariant-loop list n₀ at₀ n at = (at ≤ length list) × (n ≤ at) × (item_count (parse list) ≡ counted_from n (items_from n 0 (drop at list)))
@@ -37,10 +36,10 @@ decides : (c : tie.After-body_length-size invariant-loop decreases-loop) → let
     item_count (parse list)
     ≡ cond (leb size (length list - (here.loop-at.at + 1)))
     (counted_from (suc here.loop-at.n) (items_from (suc here.loop-at.n) 0 (drop (here.loop-at.at + 1 + size) list)))
-    (Faulty (suc here.loop-at.n))
+    (Err (suc here.loop-at.n))
 decides c =
     let here = c.before.before.before.before.before in
-    let row : row_of (get_or here.before.before.args.list.now here.loop-at.at 0) ≡ Some c.before.in-Of.kind = sym c.before.before.row_of.ensures ∙ c.before.in-Of.is in
+    let row : row_of (get_or here.before.before.args.list.now here.loop-at.at 0) ≡ Some c.before.in-Some.kind = sym c.before.before.row_of.ensures ∙ c.before.in-Some.is in
     rw c.body_length-size.ensures (here.loop-at.invariant.2 ∙ counted_next _ _ _ c.before.before.before.before.loop-at-test.true _ row)
 
 returns-2 : tie.Need-returns-then-list-at invariant-loop decreases-loop

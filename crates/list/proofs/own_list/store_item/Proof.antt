@@ -15,7 +15,7 @@ use Rattle.list.proofs.Gathering.{body_gathered}
 use Rattle.list.proofs.OwnList.{no_item, item_count, item_stored}
 use Rattle.list.proofs.own_list.store_item.Statement.{statement}
 use Rattle.list.proofs.own_list.store_item.Tie as tie
-use Rattle.std.specs.Prelude.{Option, Some, None}
+use Rattle.std.specs.Prelude.{Some, None}
 
 returns : tie.Need-returns-in_default
 returns c =
@@ -24,14 +24,14 @@ returns c =
     (rw none (omega arith), rw (no_item _ _ none) (sym (put-nothing start.args.at start.args.out.now)))
 
 -- the kind of the record's row
-abbrev kind_of : tie.In-Of → ItemKind
-kind_of c = c.in-Of.kind
+abbrev kind_of : tie.In-Some → ItemKind
+kind_of c = c.in-Some.kind
 
-row-so : (c : tie.In-Of) → let start = c.before.before.before.before in row_in start.args.flow start.args.rec.now ≡ Some (kind_of c)
-row-so c = sym c.before.row_in.ensures ∙ c.in-Of.is
+row-so : (c : tie.In-Some) → let start = c.before.before.before.before in row_in start.args.flow start.args.rec.now ≡ Some (kind_of c)
+row-so c = sym c.before.row_in.ensures ∙ c.in-Some.is
 
 -- there is room for the item
-room : (c : tie.In-Of) → let start = c.before.before.before.before in start.args.at + suc (body_length (kind_of c)) ≤ length start.args.out.now
+room : (c : tie.In-Some) → let start = c.before.before.before.before in start.args.at + suc (body_length (kind_of c)) ≤ length start.args.out.now
 room c = rw (row-so c) at c.before.before.before.before.requires.1
 
 slice-write-out : tie.Need-bounds-out-at

@@ -18,7 +18,7 @@ returns c =
 
 -- the row is known, and so is the test of the other record's type
 abbrev kind_of : tie.After-has_type → ItemKind
-kind_of c = c.before.before.in-Of.kind
+kind_of c = c.before.before.in-Some.kind
 
 abbrev alike_of : tie.After-has_type → Bool
 alike_of c = let start = c.before.before.before.before.before.before in is_alike (carried (kind_of c)) start.args.rec.now start.args.other.now
@@ -27,7 +27,7 @@ asked : (c : tie.After-has_type) → let start = c.before.before.before.before.b
     carries_same start.args.flow start.args.rec.now start.args.other.now ≡ (c.has_type.result && alike_of c)
 asked c =
     let start = c.before.before.before.before.before.before in
-    let row : row_in start.args.flow start.args.rec.now ≡ Some (kind_of c) = sym c.before.before.before.row_in.ensures ∙ c.before.before.in-Of.is in
+    let row : row_in start.args.flow start.args.rec.now ≡ Some (kind_of c) = sym c.before.before.before.row_in.ensures ∙ c.before.before.in-Some.is in
     let typed : c.has_type.result ≡ has_type (record_of (kind_of c)) start.args.other.now = c.has_type.ensures ∙ ap (λ k. has_type k start.args.other.now) c.before.record_of.ensures in
     ap (λ (r : Option ItemKind). with_row r (λ (k : ItemKind). has_type (record_of k) start.args.other.now && is_alike (carried k) start.args.rec.now start.args.other.now) false) row ∙ ap (λ (b : Bool). b && alike_of c) (sym typed)
 

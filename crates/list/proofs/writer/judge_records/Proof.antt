@@ -110,10 +110,10 @@ found c =
     let l = c.before.before.before.before.before.before.before.before.before.before.before in
     sym (c.judge.ensures ∙ ap₂ (judge_record _ _ _) (add-one l.loop-at.n) (built c.before.before))
 
-returns : tie.Need-returns-in-Refused invariant-loop decreases-loop
+returns : tie.Need-returns-in-Err invariant-loop decreases-loop
 returns c =
     let l = c.before.before.before.before.before.before.before.before.before.before.before.before in
-    let told = found c.before ∙ ap judged_verdict c.in-Refused.is in
+    let told = found c.before ∙ ap judged_verdict c.in-Err.is in
     rw add-one (judging_refused l.loop-at.invariant.2 c.before.before.before.before.before.before.before.before.before.before.before.loop-at-test.true _ c.before.before.before.before.before.before.before.before.before.kind_of-kind.ensures _ _ told)
 
 loop-less : tie.Need-loop-at-smaller invariant-loop decreases-loop
@@ -127,13 +127,13 @@ loop-again c =
     let b = c.before.before.before.before.before.before.before.before.before.before.before.before.before in
     let k = b.before.kind_of-kind.result in
     let t = turn-so b in
-    let told = found c.before.before.before.before.before.before ∙ ap judged_verdict c.before.before.before.before.before.in-Right.is in
+    let told = found c.before.before.before.before.before.before ∙ ap judged_verdict c.before.before.before.before.before.in-Ok.is in
     let on = judging_on l.loop-at.invariant.2 c.before.before.before.before.before.before.before.before.before.before.before.before.before.before.before.before.loop-at-test.true k b.before.kind_of-kind.ensures _ _ told in
     let end : i + 1 + body_length k ≡ i + 1 + b.body_length.result = omega (arith, t.size_so) in
     let number : l.loop-at.dispositions + opened (record_of k) ≡ c.before.before.before.before.before.before.before.before.before.before.before.dispositions_with-dispositions.result = sym c.before.before.before.before.before.before.before.before.before.before.before.dispositions_with-dispositions.ensures in
     let body : body_meant l.loop-at.header.now (item_at list i k) ≡ c.body_meant-latest_header.result.now = sym (c.body_meant-latest_header.ensures ∙ ap (λ (body : List ℕ). body_meant l.loop-at.header.now (item k body)) t.body_so) in
     let meant : header_after (header_at l) (item_at list i k) ≡ record { kind = c.before.kind_meant-meant.result; body = c.body_meant-latest_header.result.now } = λ j. record { kind = sym c.before.kind_meant-meant.ensures j; body = body j } in
-    let right = c.before.before.before.before.before.in-Right.right in
+    let right = c.before.before.before.before.before.in-Ok.right in
     let walk-so : c.before.before.next-walk.result ≡ saturated (step l.loop-at.walk right.kind right.cents (encode_item (l.loop-at.dispositions + opened (record_of k)) (header_at l) (item_at list i k))) =
     c.before.before.next-walk.ensures ∙ ap (λ (rec : List ℕ). saturated (step l.loop-at.walk right.kind right.cents rec)) (built c.before.before.before.before.before.before.before.before) in
     let company : first_company l.loop-at.company.now (record_of k) (carried_at D company_span (item_at list i k).body) ≡ c.before.before.before.before.company_after-first_company.result.now =
