@@ -31,7 +31,7 @@ use Rattle.grammar.proofs.Rules.{Agrees, member_rules}
 use Rattle.grammar.proofs.KindsOfFlow.{SomeKind, kind_through, Kindred}
 use Rattle.grammar.proofs.Walked.{state_after, code_after, Walked, walked_append, state_append, walked_allowed, state_place}
 use Rattle.records.specs.declared.flow_kind.FlowKind.{FlowKind}
-use Rattle.std.specs.Prelude.{Option, Some, None}
+use Rattle.std.specs.Prelude.{Option}
 
 -- a kind of record that stands in a disposition and does not open it
 abbrev pub Detail : RecordKind → Type 0

@@ -51,7 +51,7 @@ use Rattle.grammar.proofs.KindsOfFlow.{kind_through, Kindred, first_tells, all_k
 use Rattle.grammar.proofs.Order.{Allowed, allowed_before, allowed_after, order_runs}
 use Rattle.grammar.proofs.Rules.{header_rules, trailer_rules, said_below}
 use Rattle.grammar.proofs.Walked.{state_after, code_after, Walked, walked_append, walked_formed, formed_whole, state_append, state_place, Outcome, all_right, stops, outcome}
-use Rattle.std.specs.Prelude.{Option, Some, None}
+use Rattle.std.specs.Prelude.{Option, None}
 
 -- records in the order of a flow are a header, dispositions and a trailer; of a kind that is handed in
 pub record TakenApart (q : FlowKind) (rs : List Typed) : Type 0 where

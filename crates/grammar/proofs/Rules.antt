@@ -41,7 +41,7 @@ use Rattle.records.proofs.Printable.{no_bad_byte}
 use Rattle.flow.specs.declared.answer.Totals.{Totals}
 use Rattle.grammar.specs.Rules.{Digits, Blank, Present, Says, Printable, HeaderRules, DispositionRules, CoordinatesRules, BesideNumber, MemberRules, TotalRules, TrailerRules}
 use Rattle.grammar.proofs.KindsOfFlow.{SomeKind, some-kind}
-use Rattle.std.specs.Prelude.{Option, Some, None}
+use Rattle.std.specs.Prelude.{Option}
 
 -- tests joined, and what they say
 either : {A B : Type 0} {a b : Bool} → (a ≡ true) ↔ A → (b ≡ true) ↔ B → ((a || b) ≡ true) ↔ (A ⊎ B)

@@ -29,7 +29,7 @@ use Rattle.grammar.proofs.AtPlace.{RightAt, FaultAt, Judgement, right_judged, fa
 use Rattle.grammar.proofs.Codes.{code_stands, first_found, none_later, found_stays}
 use Rattle.grammar.proofs.Order.{place_through, Allowed}
 use Rattle.records.specs.declared.flow_kind.FlowKind.{FlowKind}
-use Rattle.std.specs.Prelude.{Option, Some, None}
+use Rattle.std.specs.Prelude.{Option}
 
 -- the state, and the company code, after records
 abbrev pub state_after : Walk → List Typed → Walk

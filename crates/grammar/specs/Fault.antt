@@ -15,7 +15,7 @@ use Rattle.flow.specs.Verdict.{refusal, of_call}
 use Rattle.flow.specs.Verdict.{Refusal}
 use Rattle.grammar.specs.Rules.{Printable}
 use Rattle.grammar.specs.Shape.{InOrder}
-use Rattle.std.specs.Prelude.{Option, Some, None}
+use Rattle.std.specs.Prelude.{None}
 
 -- the types of the records are those of the kinds
 abbrev pub HaveKinds : List RecordKind → List (List ℕ) → Type 0
