@@ -1,12 +1,11 @@
 -- What an amendment knows of disposition k, which stands in an accepted flow. Assumes nothing.
 use Prim.Native.Nat.{ℕ, ◌+◌, ◌-◌, ◌*◌, ◌≤◌, ◌<◌}
 use mathlib.Core.List.{List, [], flatten}
-use mathlib.Core.Path.{◌≡◌, sym, ◌∙◌, ap}
+use mathlib.Core.Path.{◌≡◌, ◌∙◌, ap}
 use native.Mathlib.Omega.{arith}
 use lib.ListN.{length, take, get_or}
 use Rattle.records.specs.Limits.{cents_limit, count_limit}
 use Rattle.flow.specs.Find.{dispositions_in, find_with_totals}
-use Rattle.flow.specs.Verdict.{verdict}
 use Rattle.flow.specs.Judge.{judge}
 use Rattle.flow.specs.Verdict.{accepted}
 use Rattle.flow.specs.declared.location.Location.{Location}
@@ -57,9 +56,3 @@ found_facts f k {v} e =
       ends = omega arith;
       count = dispositions-counted f both.0;
     }
-
--- what was found stands there
-pub found_there :
-    (f : List ℕ) (k : ℕ) {a : FoundWithTotals} {v : WithTotals} → verdict a ≡ find_with_totals f k → a ≡ At v
-    → find_with_totals f k ≡ accepted v
-found_there f k told is = sym told ∙ ap verdict is

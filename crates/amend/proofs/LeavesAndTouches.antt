@@ -3,6 +3,7 @@ use Prim.Native.Nat.{ℕ, suc, ◌+◌, ◌-◌, ◌*◌, ◌/◌, ◌≤◌, �
 use mathlib.Core.List.{List, [], ◌∷◌, ◌++◌, append-nil, append_assoc, map, flatten}
 use mathlib.Core.Path.{◌≡◌, refl, sym, ◌∙◌, ap, subst}
 use native.Mathlib.Omega.{arith}
+use Rattle.std.specs.Prelude.{Result, Ok, Err}
 use lib.ListN.{length, take, drop, get_or, replicate, length-append, get_or-append}
 use lib.Seq.{take_at, take-length, get_or-append_seam, get_or-append-add}
 use Rattle.sequences.specs.Pairs.{Pairs}
@@ -22,6 +23,7 @@ use Rattle.flow.specs.Find.{dispositions_in, find_with_totals}
 use Rattle.flow.specs.Judge.{judge}
 use Rattle.flow.specs.Records.{record_at, records_of}
 use Rattle.flow.specs.Verdict.{accepted}
+use Rattle.flow.specs.declared.answer.Refusal.{Refusal as Code-Refusal}
 use Rattle.flow.specs.declared.answer.Totals.{Totals}
 use Rattle.flow.specs.declared.location.Location.{Location}
 use Rattle.flow.specs.declared.location.WithTotals.{WithTotals}
@@ -31,9 +33,10 @@ use Rattle.flow.proofs.Dispositions.{found_within}
 use Rattle.flow.proofs.FindWithTotals.{find-reads}
 use Rattle.grammar.specs.Fault.{company_of}
 use Rattle.grammar.proofs.Grammar.{grammar_exact}
-use Rattle.amend.specs.Amended.{Amended, written_in_record}
+use Rattle.amend.specs.Amended.{Amended, withdrawn_amended, written_in_record}
+use Rattle.amend.specs.declared.withdrawal.Withdrawn.{Withdrawn}
 use Rattle.amend.specs.Change.{totals_changed, changed, change}
-use Rattle.amend.specs.Laws.{flow_left, LeavesAccepted, ChangeLeaves, WithdrawLeaves, Lies, AmountOnly, ChangeTouches, Outside, SameBut, Moved, WithdrawTouches, AmendedDetermined}
+use Rattle.amend.specs.Laws.{flow_left, LeavesAccepted, ChangeLeaves, WithdrawLeaves, Lies, AmountOnly, ChangeTouches, Outside, SameBut, Moved, WithdrawTouches, AmendedDetermined, WithdrawnDetermined}
 use Rattle.amend.specs.Withdraw.{renumbered, numbered_from, totals_left, recounted, records_left, withdrawn, withdraw}
 use Rattle.amend.proofs.Neighbours.{Neighbours, neighbours_so}
 use Rattle.amend.proofs.Answered.{ChangeCase, change_case, WithdrawCase, withdraw_case, refuses, changes, withdraws, changed_grammar, withdrawn_grammar}
@@ -308,3 +311,14 @@ withdraw-touches f k t left s read found same = go (withdraw f k) (withdraw_case
 
 pub amended_determined : AmendedDetermined
 amended_determined r s size size' bytes bytes' e = (answer_determined r s (ap (λ (a : Amended). a.answer) e), ap (λ (a : Amended). a.size) e, ap (λ (a : Amended). a.bytes) e)
+
+pub withdrawn_determined : WithdrawnDetermined
+withdrawn_determined r s lent lent' bytes bytes' = same r s
+  where
+    same : (r s : Result Withdrawn Code-Refusal) → withdrawn_amended lent r bytes ≡ withdrawn_amended lent' s bytes' → (r ≡ s) × (bytes ≡ bytes')
+    same (Ok w) (Ok x) e = (λ i. Ok (record { totals = accepted-same (ap (λ (a : Amended). a.answer) e) i; length = (e i).size }), ap (λ (a : Amended). a.bytes) e)
+    same (Ok w) (Err x) e = absurd (accepted-not-refused (sym (ap (λ (a : Amended). a.answer) e)))
+    same (Err x) (Ok w) e = absurd (accepted-not-refused (ap (λ (a : Amended). a.answer) e))
+    same (Err x) (Err y) e =
+        let told = answer_determined (Err x) (Err y) (ap (λ (a : Amended). a.answer) e) in
+        (cc, ap (λ (a : Amended). a.bytes) e)

@@ -1,5 +1,5 @@
 -- What is proved of the amendments. `proofs/` has its proof under the law's name in small letters. Assumes nothing.
-use Rattle.std.specs.Prelude.{ℕ, ◌+◌, ◌-◌, ◌*◌, ◌≤◌, ◌<◌, List, [], ◌∷◌, ◌++◌, ◌↔◌, ◌≡◌, length, take, get_or, replicate}
+use Rattle.std.specs.Prelude.{ℕ, Result, ◌+◌, ◌-◌, ◌*◌, ◌≤◌, ◌<◌, List, [], ◌∷◌, ◌++◌, ◌↔◌, ◌≡◌, length, take, get_or, replicate}
 use Rattle.fields.specs.Amount.{IsAmount}
 use Rattle.records.specs.Amount.{amount_span}
 use Rattle.records.specs.Field.{Span, ◌to◌, first_of, last_of, byte_at}
@@ -10,12 +10,14 @@ use Rattle.flow.specs.Judge.{judge}
 use Rattle.flow.specs.Records.{record_at, records_of}
 use Rattle.flow.specs.Verdict.{accepted, refused, of_call}
 use Rattle.grammar.specs.Fault.{company_of}
-use Rattle.amend.specs.Amended.{Amended, amended}
+use Rattle.amend.specs.Amended.{Amended, amended, withdrawn_amended}
 use Rattle.amend.specs.Change.{change}
 use Rattle.amend.specs.Withdraw.{withdraw}
 use Rattle.flow.specs.Verdict.{Refusal}
+use Rattle.flow.specs.declared.answer.Refusal.{Refusal as Code-Refusal}
 use Rattle.flow.specs.declared.answer.Totals.{Totals}
 use Rattle.flow.specs.declared.location.Location.{Location}
+use Rattle.amend.specs.declared.withdrawal.Withdrawn.{Withdrawn}
 
 -- document 01's refusals of a change, each where those before it do not apply
 pub data ChangeFault (f : List ℕ) (k new : ℕ) : Refusal → Type 0 where
@@ -110,4 +112,11 @@ WithdrawTouches =
 -- what an answer, a length and bytes stand for on paper determines them
 abbrev pub AmendedDetermined : Type 0
 AmendedDetermined =
-    (r s : Answer) (size size' : ℕ) (bytes bytes' : List ℕ) → amended r size bytes ≡ amended s size' bytes' → (r ≡ s) × (size ≡ size') × (bytes ≡ bytes')
+    (r s : Result Totals Code-Refusal) (size size' : ℕ) (bytes bytes' : List ℕ) → amended r size bytes ≡ amended s size' bytes'
+    → (r ≡ s) × (size ≡ size') × (bytes ≡ bytes')
+
+-- of a withdrawal, whatever lengths were lent
+abbrev pub WithdrawnDetermined : Type 0
+WithdrawnDetermined =
+    (r s : Result Withdrawn Code-Refusal) (lent lent' : ℕ) (bytes bytes' : List ℕ) → withdrawn_amended lent r bytes ≡ withdrawn_amended lent' s bytes'
+    → (r ≡ s) × (bytes ≡ bytes')

@@ -9,7 +9,6 @@
 
 mod amount;
 mod digits;
-mod refusals;
 mod withdrawal;
 
 pub use amount::change;

@@ -4,67 +4,50 @@ ghost use mathlib.Core.List.{◌++◌, flatten};
 ghost use Rattle.sequences.specs.Part.{put};
 ghost use Rattle.records.specs.Limits.{count_limit};
 ghost use Rattle.flow.specs.Records.{cut};
-ghost use Rattle.flow.specs.Verdict.{answer_verdict};
-ghost use Rattle.flow.specs.Verdict.{refused as Verdict-refused};
-ghost use Rattle.amend.specs.Amended.{amended};
+ghost use Rattle.amend.specs.Amended.{withdrawn_amended};
 ghost use Rattle.amend.specs.Withdraw.{renumbered_from, recounted, counted_at};
 ghost use Rattle.amend.specs.Withdraw.{withdraw as Withdraw-withdraw};
 
 use crate::digits::place_seven;
-use crate::refusals::ONLY_DISPOSITION;
-use flow::{Answer, FoundWithTotals, Refusal, Totals, as_index};
+use flow::{Refusal, Totals, as_index, refusal_of_call};
 use records::{seven_digits, total_first, total_last, write_number};
+use refusals::Reason;
 
-// What a withdrawal answers: the totals of the flow left and its length; or the refusal, and the
-// length that it was lent.
-#[derive(Clone, Copy)]
+// What a withdrawal answers: the totals of the flow left, and its length.
+#[derive(Clone, Copy, Debug, PartialEq, Eq)]
 pub struct Withdrawn {
-    pub answer: Answer,
+    pub totals: Totals,
     pub length: u64,
 }
 
 // Takes disposition k out of the flow: its records go, later ones move up in order and are numbered
 // anew, the trailer gets the new totals, and the freed bytes at the end become blanks. Refused, in this
 // order: what the reader refuses; 15, no such disposition; 18, the only one. Where it is refused it
-// writes nothing.
-pub fn withdraw(flow: &mut [u8], k: u64) -> Withdrawn
-    ensures { amended result.answer result.length flow.new ≡ Withdraw-withdraw flow.old k }
+// writes nothing, and the flow is as long as it was lent.
+pub fn withdraw(flow: &mut [u8], k: u64) -> Result<Withdrawn, Refusal>
+    ensures { withdrawn_amended (length flow.old) result flow.new ≡ Withdraw-withdraw flow.old k }
 {
-    match flow::find_with_totals(flow, k) {
-        FoundWithTotals::Refused(refusal) => refused(refusal, flow.len()),
-        FoundWithTotals::At(found) => {
-            let location = found.location;
-            let before = found.totals;
-            if before.dispositions <= 1 {
-                return refused(flow::refusal_of_call(ONLY_DISPOSITION), flow.len());
-            }
-            let kind = before.kind;
-            let totals = Totals {
-                kind,
-                dispositions: before.dispositions - 1,
-                cents: before.cents - location.cents,
-                records: before.records - location.records,
-            };
-            let at = as_index(location.first) - 1;
-            move_up(flow, 120 * at, 120 * (at + as_index(location.records)));
-            renumber(flow, at, as_index(totals.records) - 1, k - 1);
-            recount(flow, totals);
-            blank(flow, 120 * as_index(totals.records));
-            Withdrawn {
-                answer: Answer::Accepted(totals),
-                length: 120 * totals.records,
-            }
-        }
+    let found = flow::find_with_totals(flow, k)?;
+    let location = found.location;
+    let before = found.totals;
+    if before.dispositions <= 1 {
+        return Err(refusal_of_call(Reason::OnlyDisposition));
     }
-}
-
-fn refused(refusal: Refusal, length: usize) -> Withdrawn
-    ensures { (answer_verdict result.answer ≡ Verdict-refused refusal) × (result.length ≡ length) }
-{
-    Withdrawn {
-        answer: Answer::Refused(refusal),
-        length: flow::as_count(length),
-    }
+    let totals = Totals {
+        dispositions: before.dispositions - 1,
+        cents: before.cents - location.cents,
+        records: before.records - location.records,
+        ..before
+    };
+    let at = as_index(location.first) - 1;
+    move_up(flow, 120 * at, 120 * (at + as_index(location.records)));
+    renumber(flow, at, as_index(totals.records) - 1, k - 1);
+    recount(flow, totals);
+    blank(flow, 120 * as_index(totals.records));
+    Ok(Withdrawn {
+        totals,
+        length: 120 * totals.records,
+    })
 }
 
 // Moves the bytes from index `from` on up to index `to`, the first of them first, so that none is
