@@ -3,11 +3,13 @@
 use Prim.Native.Nat.{ℕ, suc, ◌+◌, ◌-◌, ◌*◌, ◌≤◌, ◌<◌}
 use mathlib.Core.Bool.{Bool, true, false, cond}
 use mathlib.Core.List.{List, [], ◌∷◌, ◌++◌, flatten}
-use mathlib.Core.Path.{◌≡◌, refl, sym, ◌∙◌, ap}
+use mathlib.Core.Path.{◌≡◌, refl, sym, ◌∙◌, ap, subst}
+use native.Mathlib.Numerals.{add-one}
 use native.Mathlib.Omega.{arith}
 use lib.ListN.{length, drop, length-drop}
+use borrow.Rule.Slice.PartMut.{put_mid}
 use Rattle.sequences.specs.Part.{put}
-use Rattle.sequences.proofs.Part.{part_length, put-length, put-append, put-nothing, put-within, drop-put}
+use Rattle.sequences.proofs.Part.{part_length, put-length, put-append, put-nothing, put-within, drop-put, lent_is_put}
 use Rattle.fields.specs.Digits.{digits}
 use Rattle.fields.proofs.Decimal.{written-length}
 use Rattle.records.specs.Kinds.{is_opening}
@@ -46,22 +48,19 @@ anew_length f i to j ends within =
 abbrev pub number_at : List ℕ → ℕ → ℕ → ℕ
 number_at f i j = j + cond (is_opening (record_at i f)) 1 0
 
-pub record Renumbering (f₀ : List ℕ) (from to before : ℕ) (f : List ℕ) (number i : ℕ) : Type 0 where
-  pub begins : from ≤ i
-  pub ends : i ≤ to
+-- the loop at index i, of the records from `from` up to `to`: what it has counted and shows, and the bytes so far
+pub record Renumbering (f₀ : List ℕ) (from to before : ℕ) (f : List ℕ) (number : ℕ) (shown : List ℕ) (i : ℕ) : Type 0 where
   pub few : number ≤ before + (i - from)
+  pub says : shown ≡ digits 7 number
   pub same : length f ≡ length f₀
   pub left : put (120 * i) (anew f i to number) f ≡ put (120 * from) (anew f₀ from to before) f₀
 
-pub renumbering : (f : List ℕ) (from to before : ℕ) → from ≤ to → Renumbering f from to before f before from
-renumbering f from to before ordered = record { begins = omega arith; ends = ordered; few = omega arith; same = refl; left = refl }
-
-module _ {f₀ : List ℕ} {from to before : ℕ} {f : List ℕ} {number i : ℕ} (r : Renumbering f₀ from to before f number i) where
-  module _ (more : i < to) (within : 120 * to ≤ length f₀) where
+module _ {f₀ : List ℕ} {from to before : ℕ} {f : List ℕ} {number : ℕ} {shown : List ℕ} {i : ℕ} (r : Renumbering f₀ from to before f number shown i) where
+  module _ (begun : from ≤ i) (more : i < to) (within : 120 * to ≤ length f₀) where
     -- one more record gets its number
-    pub renumbered_next : Renumbering f₀ from to before (put (120 * i + 3) (digits 7 (number_at f i number)) f) (number_at f i number) (suc i)
+    numbered-next : let j = number_at f i number in Renumbering f₀ from to before (put (120 * i + 3) (digits 7 j) f) j (digits 7 j) (suc i)
     unfolding renumbered_from flatten
-    renumbered_next =
+    numbered-next =
         let j = number_at f i number in
         let same = r.same in
         let size = written-length 7 j in
@@ -76,9 +75,8 @@ module _ {f₀ : List ℕ} {from to before : ℕ} {f : List ℕ} {number i : ℕ
         let whole : next ≡ put (120 * i) rec f = put-within (120 * i) 120 3 (digits 7 j) f (omega arith) (omega arith) in
         let now : put (120 * i) (anew f i to number) f ≡ put (120 * i) (rec ++ rest) f = ap (λ (l : List (List ℕ)). put (120 * i) (flatten (renumbered_from number l)) f) (cut_next to i f more) in
         record {
-          begins = omega (arith, r.begins);
-          ends = more;
-          few = omega (arith, r.begins, r.few, one_at_most (is_opening (record_at i f)));
+          few = omega (arith, r.few, one_at_most (is_opening (record_at i f)));
+          says = refl;
           same = kept ∙ same;
           left = ap (λ (l : List ℕ). put (120 * suc i) (flatten (renumbered_from j (cut (to - suc i) l))) next) after ∙ (λ k. put (on k) rest (whole k)) ∙ sym (put-append (120 * i) rec rest f (omega arith)) ∙ sym now ∙ r.left;
         }
@@ -86,6 +84,16 @@ module _ {f₀ : List ℕ} {from to before : ℕ} {f : List ℕ} {number i : ℕ
         one_at_most : (b : Bool) → cond b 1 0 ≤ 1
         one_at_most true = omega arith
         one_at_most false = omega arith
+
+    -- as the code writes it: over the seven bytes that it lends
+    pub renumbered_next :
+        (j : ℕ) (digits-of back : List ℕ) → j ≡ number_at f i number → digits-of ≡ digits 7 j → back ≡ digits-of
+        → Renumbering f₀ from to before (put_mid (120 * i + 3) (120 * i + 10 - (120 * i + 3)) f back) j digits-of (i + 1)
+    renumbered_next j digits-of back counted says came =
+        let shown : digits-of ≡ digits 7 (number_at f i number) = says ∙ ap (digits 7) counted in
+        let size : length back ≡ 120 * i + 10 - (120 * i + 3) = ap length (came ∙ says) ∙ written-length 7 j ∙ omega arith in
+        let written = lent_is_put (120 * i + 3) (120 * i + 10) f back size ∙ ap (λ (l : List ℕ). put (120 * i + 3) l f) (came ∙ shown) in
+        subst (λ (A : Type 0). A) (λ k. Renumbering f₀ from to before (sym written k) (sym counted k) (sym shown k) (sym (add-one i) k)) numbered-next
 
   pub renumbered-all : to ≤ i → f ≡ put (120 * from) (anew f₀ from to before) f₀
   unfolding renumbered_from flatten

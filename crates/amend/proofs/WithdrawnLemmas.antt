@@ -1,19 +1,22 @@
 -- The bytes that a withdrawal leaves: what its steps write is the flow without the disposition. Assumes nothing.
-use Prim.Native.Nat.{ℕ, suc, ◌+◌, ◌-◌, ◌*◌}
+use Prim.Native.Nat.{ℕ, suc, ◌+◌, ◌-◌, ◌*◌, ◌≤◌}
 use mathlib.Core.Bool.{false, cond}
 use mathlib.Core.List.{List, [], ◌∷◌, ◌++◌, append_assoc, append-nil, map, flatten}
 use mathlib.Core.Path.{◌≡◌, refl, sym, ◌∙◌, ap, subst}
 use native.Mathlib.Nat.{add-zero}
 use native.Mathlib.Numerals.{add-one}
 use native.Mathlib.Omega.{arith}
-use lib.ListN.{length, take, drop, replicate, length-append, length-drop, take-append-drop}
+use borrow.Rule.Slice.PartMut.{put_mid}
+use lib.ListN.{length, take, drop, replicate, length-append, length-drop, drop_of_length-le, take-append-drop}
+use Rattle.std.proofs.lemmas.List.{length-replicate, take_rest}
+use Rattle.std.specs.List.{copy_within}
 use lib.Seq.{take_at, drop_at}
 use Rattle.sequences.specs.All.{All}
 use Rattle.sequences.specs.Part.{put}
 use Rattle.sequences.proofs.All.{all_after}
 use Rattle.sequences.proofs.Flatten.{flatten-append}
 use Rattle.sequences.proofs.Groups.{Opens, groups_open}
-use Rattle.sequences.proofs.Part.{put_at, drop-two}
+use Rattle.sequences.proofs.Part.{put_at, drop-two, lent_is_put}
 use Rattle.records.specs.Kinds.{is_opening}
 use Rattle.flow.specs.Find.{dispositions_in}
 use Rattle.flow.specs.Records.{cut, record_at}
@@ -33,6 +36,13 @@ unfolding renumbered_from
 others_numbered j [] rest none = refl
 others_numbered j (rec ∷ recs) rest none =
     rw (none.0, add-zero j) (ap (λ (l : List (List ℕ)). renumbered j rec ∷ l) (others_numbered j recs rest none.1))
+
+-- a tail that is filled with blanks
+filled : (n : ℕ) (f blanks : List ℕ) → n ≤ length f → blanks ≡ replicate (length f - n) 32 → put_mid n (length f - n) f blanks ≡ take n f ++ replicate (length f - n) 32
+filled n f blanks within came =
+    let all = replicate (length f - n) 32 in
+    let size : length all ≡ length f - n = length-replicate (length f - n) 32 in
+    ap (put_mid n (length f - n) f) came ∙ lent_is_put n (length f) f all size ∙ ap (λ (l : List ℕ). take n f ++ (all ++ l)) (drop_of_length-le f (omega arith)) ∙ ap (λ (l : List ℕ). take n f ++ l) (append-nil all)
 
 -- record by record or disposition by disposition, the numbers are the same
 dispositions_numbered : (j : ℕ) (ds : List (List (List ℕ))) → All (Opens is_opening) ds → renumbered_from j (flatten ds) ≡ flatten (numbered_from (suc j) ds)
@@ -98,12 +108,14 @@ module _ {f : List ℕ} {k : ℕ} {v : WithTotals} (s : FoundFacts f k v) where
   abbrev over : List ℕ
   over = drop (120 * at + length (flatten (after s) ++ (trailer s))) f
 
-  moved : put (120 * at) (drop (120 * (at + m)) f) f ≡ flatten (before s) ++ (flatten (after s) ++ ((trailer s) ++ over))
+  moved : copy_within f (120 * (at + m)) (length f) (120 * at) ≡ flatten (before s) ++ (flatten (after s) ++ ((trailer s) ++ over))
   moved =
       let place : 120 * (at + m) ≡ 120 * at + 120 * m = omega arith in
       let front : take (120 * at) f ≡ flatten (before s) = ap (take (120 * at)) bytes_split ∙ take_at (flatten (before s)) (flatten (own s) ++ (flatten (after s) ++ (trailer s))) (120 * at) before-length in
       let back : drop (120 * (at + m)) f ≡ flatten (after s) ++ (trailer s) = (λ i. drop (place i) (bytes_split i)) ∙ drop-two (120 * at) (120 * m) (flatten (before s)) (flatten (own s)) (flatten (after s) ++ (trailer s)) before-length own_length in
-      (λ i. front i ++ (back i ++ drop (120 * at + length (back i)) f)) ∙ ap (λ (l : List ℕ). flatten (before s) ++ l) (append_assoc (flatten (after s)) (trailer s) over)
+      let size : length f - 120 * (at + m) ≡ length (flatten (after s) ++ (trailer s)) = sym (length-drop (120 * (at + m)) f) ∙ ap length back in
+      (λ i. (front i ++ take_rest f (120 * (at + m)) i) ++ drop (120 * at + size i) f) ∙ ap (λ (l : List ℕ). (flatten (before s) ++ l) ++ over) back
+      ∙ append_assoc (flatten (before s)) (flatten (after s) ++ (trailer s)) over ∙ ap (λ (l : List ℕ). flatten (before s) ++ l) (append_assoc (flatten (after s)) (trailer s) over)
 
   -- then the later dispositions get their numbers
   abbrev renewed : List ℕ
@@ -133,6 +145,12 @@ module _ {f : List ℕ} {k : ℕ} {v : WithTotals} (s : FoundFacts f k v) where
       ap (counted_at (totals_left v)) (sym (append_assoc (flatten (before s)) renewed ((trailer s) ++ over)))
       ∙ trailer-counted (totals_left v) (trailer s) (pieces s).3 (flatten (before s) ++ renewed) over front_length
 
+  over-length : length over ≡ length f - 120 * left
+  over-length =
+      let starts = s.starts in
+      let ends = s.ends in
+      length-drop (120 * at + length (flatten (after s) ++ (trailer s))) f ∙ omega (arith, length-append (flatten (after s)) (trailer s), (pieces s).3, after-length, after-count)
+
   -- which is the flow that is meant
   joined : flatten (records_left f k n (totals_left v)) ≡ (flatten (before s) ++ renewed) ++ counts
   unfolding flatten
@@ -146,6 +164,12 @@ module _ {f : List ℕ} {k : ℕ} {v : WithTotals} (s : FoundFacts f k v) where
       ap (λ (l : List (List ℕ)). flatten ((record_at 0 f ∷ l) ++ (counts ∷ []))) middle ∙ flatten-append ((before s) ++ renumbered_from (k - 1) (after s)) (counts ∷ [])
       ∙ (λ i. flatten-append (before s) (renumbered_from (k - 1) (after s)) i ++ append-nil counts i)
 
+  whole-length : length ((flatten (before s) ++ renewed) ++ (counts ++ over)) ≡ length f
+  whole-length =
+      let front = flatten (before s) ++ renewed in
+      let end = recounted-length (totals_left v) (trailer s) (pieces s).3 in
+      length-append front (counts ++ over) ∙ omega (arith, length-append counts over, over-length, front_length, s.size, s.starts, s.ends)
+
   blanked : let all = (flatten (before s) ++ renewed) ++ (counts ++ over) in
       take (120 * left) all ++ replicate (length all - 120 * left) 32 ≡ withdrawn f k n (totals_left v)
   blanked =
@@ -155,17 +179,19 @@ module _ {f : List ℕ} {k : ℕ} {v : WithTotals} (s : FoundFacts f k v) where
       let starts = s.starts in
       let through : length (front ++ counts) ≡ 120 * left = length-append front counts ∙ omega (arith, front_length) in
       let kept : take (120 * left) (front ++ (counts ++ over)) ≡ front ++ counts = ap (take (120 * left)) (sym (append_assoc front counts over)) ∙ take_at (front ++ counts) over (120 * left) through in
-      let tail : length over ≡ length f - 120 * left = length-drop (120 * at + length (flatten (after s) ++ (trailer s))) f ∙ omega (arith, length-append (flatten (after s)) (trailer s), (pieces s).3, after-length, after-count) in
-      let size : length (front ++ (counts ++ over)) ≡ length f = length-append front (counts ++ over) ∙ omega (arith, length-append counts over, front_length, s.size) in
-      (λ i. kept i ++ replicate (size i - 120 * left) 32) ∙ ap (λ (l : List ℕ). l ++ replicate (length f - 120 * left) 32) (sym joined)
+      (λ i. kept i ++ replicate (whole-length i - 120 * left) 32) ∙ ap (λ (l : List ℕ). l ++ replicate (length f - 120 * left) 32) (sym joined)
 
+  -- by the indices that the code has, and its steps
   pub withdrawn_so :
-      (f₁ f₂ f₃ f₄ : List ℕ) → f₁ ≡ put (120 * at) (drop (120 * (at + m)) f) f
-      → f₂ ≡ put (120 * at) (flatten (renumbered_from (k - 1) (cut (left - 1 - at) (drop (120 * at) f₁)))) f₁
-      → f₃ ≡ counted_at (totals_left v) f₂
-      → f₄ ≡ take (120 * left) f₃ ++ replicate (length f₃ - 120 * left) 32 → f₄ ≡ withdrawn f k n (totals_left v)
-  withdrawn_so f₁ f₂ f₃ f₄ first_step second-step third-step last_step =
-      let one = first_step ∙ moved in
-      let two = second-step ∙ ap (λ (l : List ℕ). put (120 * at) (flatten (renumbered_from (k - 1) (cut (left - 1 - at) (drop (120 * at) l)))) l) one ∙ numbered in
+      {a taken kept : ℕ} → a ≡ v.location.first → taken ≡ m → kept ≡ left
+      → (f₁ f₂ f₃ blanks : List ℕ) → f₁ ≡ copy_within f (120 * (a - 1 + taken)) (length f) (120 * (a - 1))
+      → f₂ ≡ put (120 * (a - 1)) (flatten (renumbered_from (k - 1) (cut (kept - 1 - (a - 1)) (drop (120 * (a - 1)) f₁)))) f₁
+      → f₃ ≡ counted_at (totals_left v) f₂ → blanks ≡ replicate (length f₃ - 120 * kept) 32
+      → put_mid (120 * kept) (length f₃ - 120 * kept) f₃ blanks ≡ withdrawn f k n (totals_left v)
+  withdrawn_so begins takes ends f₁ f₂ f₃ blanks first_step second-step third-step last_step =
+      let one = first_step ∙ (λ i. copy_within f (120 * (begins i - 1 + takes i)) (length f) (120 * (begins i - 1))) ∙ moved in
+      let two =
+      second-step ∙ (λ i. put (120 * (begins i - 1)) (flatten (renumbered_from (k - 1) (cut (ends i - 1 - (begins i - 1)) (drop (120 * (begins i - 1)) (one i))))) (one i)) ∙ numbered in
       let three = third-step ∙ ap (counted_at (totals_left v)) two ∙ counted in
-      last_step ∙ ap (λ (l : List ℕ). take (120 * left) l ++ replicate (length l - 120 * left) 32) three ∙ blanked
+      let long : length f₃ ≡ length f = ap length three ∙ whole-length in
+      filled _ f₃ blanks (omega (arith, s.size)) last_step ∙ (λ i. take (120 * ends i) (three i) ++ replicate (length (three i) - 120 * ends i) 32) ∙ blanked

@@ -16,11 +16,3 @@ pub(crate) fn place_number(flow: &mut [u8], r: u64, first: usize, last: usize, v
     let at = 120 * (flow::as_index(r) - 1);
     records::write_number(&mut flow[at..at + 120], first, last, value);
 }
-
-// Puts seven digits in the flow, from an index on.
-pub(crate) fn place_seven(flow: &mut [u8], at: usize, shown: &[u8; 7])
-    requires { at + 7 ≤ length flow.old }
-    ensures { flow.new ≡ put at shown.now flow.old }
-{
-    flow[at..at + 7].copy_from_slice(shown);
-}

@@ -8,7 +8,6 @@ ghost use Rattle.amend.specs.Amended.{withdrawn_amended};
 ghost use Rattle.amend.specs.Withdraw.{renumbered_from, recounted, counted_at};
 ghost use Rattle.amend.specs.Withdraw.{withdraw as Withdraw-withdraw};
 
-use crate::digits::place_seven;
 use flow::{Refusal, Totals, as_index, refusal_of_call};
 use records::{seven_digits, total_first, total_last, write_number};
 use refusals::Reason;
@@ -40,28 +39,16 @@ pub fn withdraw(flow: &mut [u8], k: u64) -> Result<Withdrawn, Refusal>
         ..before
     };
     let at = as_index(location.first) - 1;
-    move_up(flow, 120 * at, 120 * (at + as_index(location.records)));
-    renumber(flow, at, as_index(totals.records) - 1, k - 1);
+    let after = at + as_index(location.records);
+    let left = as_index(totals.records);
+    flow.copy_within(120 * after.., 120 * at);
+    renumber(flow, at, left - 1, k - 1);
     recount(flow, totals);
-    blank(flow, 120 * as_index(totals.records));
+    flow[120 * left..].fill(b' ');
     Ok(Withdrawn {
         totals,
         length: 120 * totals.records,
     })
-}
-
-// Moves the bytes from index `from` on up to index `to`, the first of them first, so that none is
-// written over before it is read. What they leave at the end stays as it is.
-fn move_up(flow: &mut [u8], to: usize, from: usize)
-    requires to_le_from { to ≤ from }
-    requires from_in_bounds { from ≤ length flow.old }
-    ensures { flow.new ≡ put to (drop from flow.old) flow.old }
-{
-    let mut i = 0;
-    while i < flow.len() - from {
-        flow[to + i] = flow[from + i];
-        i += 1;
-    }
 }
 
 // Numbers the records from index `from` up to index `to` anew, the first disposition among them with
@@ -78,14 +65,12 @@ fn renumber(flow: &mut [u8], from: usize, to: usize, before: u64)
 {
     let mut number = before;
     let mut shown = seven_digits(before);
-    let mut i = from;
-    while i < to {
+    for i in from..to {
         if records::is_opening(&flow[120 * i..120 * i + 120]) {
             number += 1;
             shown = seven_digits(number);
         }
-        place_seven(flow, 120 * i + 3, &shown);
-        i += 1;
+        flow[120 * i + 3..120 * i + 10].copy_from_slice(&shown);
     }
 }
 
@@ -108,16 +93,4 @@ fn write_totals(rec: &mut [u8], totals: Totals)
     let kind = totals.kind;
     write_number(rec, total_first(kind), total_last(kind), totals.cents);
     write_number(rec, 83, 89, totals.records);
-}
-
-// Makes the bytes from an index on blanks.
-fn blank(flow: &mut [u8], from: usize)
-    requires { from ≤ length flow.old }
-    ensures { flow.new ≡ take from flow.old ++ replicate (length flow.old - from) 32 }
-{
-    let mut i = from;
-    while i < flow.len() {
-        flow[i] = b' ';
-        i += 1;
-    }
 }

@@ -1,15 +1,13 @@
 -- `amend::withdraw` meets its contract. Assumes nothing.
-use Prim.Native.Nat.{ℕ, ◌+◌, ◌-◌, ◌*◌}
-use mathlib.Core.List.{List, ◌++◌, flatten}
+use Prim.Native.Nat.{ℕ, ◌-◌, ◌*◌}
+use mathlib.Core.List.{List}
 use mathlib.Core.Path.{◌≡◌, sym, ◌∙◌, ap}
 use native.Mathlib.Omega.{arith}
-use lib.ListN.{length, take, drop, replicate}
+use lib.ListN.{length, replicate}
 use Rattle.std.proofs.Common.{rules}
 use Rattle.std.specs.Prelude.{Err}
-use Rattle.sequences.specs.Part.{put}
-use Rattle.flow.specs.Records.{cut}
 use Rattle.flow.specs.Verdict.{accepted}
-use Rattle.amend.specs.Withdraw.{renumbered_from, totals_left, withdrawn}
+use Rattle.amend.specs.Withdraw.{totals_left}
 use Rattle.amend.proofs.FoundFacts.{found_facts}
 use Rattle.amend.proofs.Unchanged.{withdraw-found, the-only, withdrawal-made}
 use Rattle.amend.proofs.WithdrawnLemmas.{withdrawn_so}
@@ -24,49 +22,34 @@ pub returns-then-before-le1 : goal.returns-then-before-le1
 returns-then-before-le1 c = rw c.refusal_of_call.ensures (sym (the-only _ _ (sym c.in_ok-found.ensures) c.if-before-le1.true))
 
 pub overflow_sub-totals-2 : goal.overflow_sub-totals-2
-overflow_sub-totals-2 c =
-    let s = found_facts _ _ (sym c.in_ok-found.ensures) in
-    omega arith
+overflow_sub-totals-2 c = omega (arith, found_facts _ _ (sym c.in_ok-found.ensures))
 
 pub overflow_sub-totals-3 : goal.overflow_sub-totals-3
-overflow_sub-totals-3 c =
-    let s = found_facts _ _ (sym c.in_ok-found.ensures) in
-    omega arith
+overflow_sub-totals-3 c = omega (arith, found_facts _ _ (sym c.in_ok-found.ensures))
 
 pub overflow_sub-at : goal.overflow_sub-at
-overflow_sub-at c =
-    let s = found_facts _ _ (sym c.in_ok-found.ensures) in
-    omega arith
+overflow_sub-at c = omega (arith, found_facts _ _ (sym c.in_ok-found.ensures))
+
+pub overflow_add-after : goal.overflow_add-after
+overflow_add-after c = omega (arith, found_facts _ _ (sym c.in_ok-found.ensures))
+
+pub overflow_mul-after : goal.overflow_mul-after
+overflow_mul-after c = omega (arith, found_facts _ _ (sym c.in_ok-found.ensures))
 
 pub overflow_mul-at : goal.overflow_mul-at
-overflow_mul-at c =
-    let s = found_facts _ _ (sym c.in_ok-found.ensures) in
-    omega arith
+overflow_mul-at c = omega (arith, found_facts _ _ (sym c.in_ok-found.ensures))
 
-pub overflow_add-at : goal.overflow_add-at
-overflow_add-at c =
-    let s = found_facts _ _ (sym c.in_ok-found.ensures) in
-    omega arith
+pub copy_within-requires-clause-start_le_end : goal.copy_within-requires-clause-start_le_end
+copy_within-requires-clause-start_le_end c = omega (arith, found_facts _ _ (sym c.in_ok-found.ensures))
 
-pub overflow_mul-at-2 : goal.overflow_mul-at-2
-overflow_mul-at-2 c =
-    let s = found_facts _ _ (sym c.in_ok-found.ensures) in
-    omega arith
+pub copy_within-requires-clause-dest_in_bounds : goal.copy_within-requires-clause-dest_in_bounds
+copy_within-requires-clause-dest_in_bounds c = omega (arith, found_facts _ _ (sym c.in_ok-found.ensures))
 
-pub move_up-requires : goal.move_up-requires
-move_up-requires c =
-    let s = found_facts _ _ (sym c.in_ok-found.ensures) in
-    record { to_le_from = omega arith; from_in_bounds = omega arith }
-
-pub overflow_sub-as_index : goal.overflow_sub-as_index
-overflow_sub-as_index c =
-    let s = found_facts _ _ (sym c.in_ok-found.ensures) in
-    omega arith
+pub overflow_sub-left : goal.overflow_sub-left
+overflow_sub-left c = omega (arith, found_facts _ _ (sym c.in_ok-found.ensures))
 
 pub overflow_sub-k : goal.overflow_sub-k
-overflow_sub-k c =
-    let s = found_facts _ _ (sym c.in_ok-found.ensures) in
-    omega arith
+overflow_sub-k c = omega (arith, found_facts _ _ (sym c.in_ok-found.ensures))
 
 pub renumber-requires : goal.renumber-requires
 renumber-requires c =
@@ -78,40 +61,24 @@ recount-requires c =
     let s = found_facts _ _ (sym c.in_ok-found.ensures) in
     record { le_records = omega arith; records_in_bounds = omega arith }
 
-pub overflow_mul-as_index : goal.overflow_mul-as_index
-overflow_mul-as_index c =
-    let s = found_facts _ _ (sym c.in_ok-found.ensures) in
-    omega arith
+pub overflow_mul-left : goal.overflow_mul-left
+overflow_mul-left c = omega (arith, found_facts _ _ (sym c.in_ok-found.ensures))
 
-pub blank-requires : goal.blank-requires
-blank-requires c =
-    let s = found_facts _ _ (sym c.in_ok-found.ensures) in
-    omega arith
+pub slice_bounds-fill-count : goal.slice_bounds-fill-count
+slice_bounds-fill-count c = omega (arith, found_facts _ _ (sym c.in_ok-found.ensures))
+
+pub slice_bounds-fill-start : goal.slice_bounds-fill-start
+slice_bounds-fill-start c = omega (arith, found_facts _ _ (sym c.in_ok-found.ensures))
 
 pub overflow_mul-result : goal.overflow_mul-result
-overflow_mul-result c =
-    let s = found_facts _ _ (sym c.in_ok-found.ensures) in
-    omega arith
+overflow_mul-result c = omega (arith, found_facts _ _ (sym c.in_ok-found.ensures))
 
 pub returns : goal.returns
 returns c =
-    let f = c.args.flow.now in
-    let k = c.args.k in
     let v = c.in_ok-found.found in
-    let t = totals_left v in
-    let f₁ = c.move_up.new.flow in
-    let f₂ = c.renumber.new.flow in
-    let f₃ = c.recount.new.flow in
-    let f₄ = c.blank.new.flow in
-    let begins = c.as_index-at.ensures in
-    let taken = c.as_index.ensures in
-    let ends = c.as_index-2.ensures in
-    let kept = c.as_index-3.ensures in
-    let bytes : f₄ ≡ withdrawn f k v.totals.records t =
-    withdrawn_so (found_facts _ _ (sym c.in_ok-found.ensures)) f₁ f₂ f₃ f₄
-    (c.move_up.ensures ∙ (λ i. put (120 * (begins i - 1)) (drop (120 * (begins i - 1 + taken i)) f) f))
-    (c.renumber.ensures ∙ (λ i. put (120 * (begins i - 1)) (flatten (renumbered_from (k - 1) (cut (ends i - 1 - (begins i - 1)) (drop (120 * (begins i - 1)) f₁)))) f₁))
-    c.recount.ensures
-    (c.blank.ensures ∙ (λ i. take (120 * kept i) f₃ ++ replicate (length f₃ - 120 * kept i) 32)) in
-    ap (λ (l : List ℕ). record { answer = accepted t; size = 120 * t.records; bytes = l }) bytes
+    let blanks : c.fill.new.self ≡ replicate (length c.recount.new.flow - 120 * c.as_index-left.result) 32 = search rules in
+    let bytes =
+    withdrawn_so (found_facts _ _ (sym c.in_ok-found.ensures)) c.as_index-at.ensures c.as_index.ensures c.as_index-left.ensures _ _ _ _
+    c.copy_within.ensures.after c.renumber.ensures c.recount.ensures blanks in
+    ap (λ (l : List ℕ). record { answer = accepted (totals_left v); size = 120 * (totals_left v).records; bytes = l }) bytes
     ∙ sym (withdrawal-made _ _ (sym c.in_ok-found.ensures) c.if-before-le1.false)
