@@ -1,5 +1,5 @@
 -- Decimal numbers, as the vector files have them. Assumes nothing.
-use Rattle.std.specs.Prelude.{ℕ, ◌+◌, ◌*◌, ◌-◌, min, cond, ◌&&◌, List, [], ◌∷◌, leb}
+use Rattle.std.specs.Prelude.{ℕ, ◌+◌, ◌*◌, ◌-◌, min, cond, ◌&&◌, List, leb, fold}
 
 -- the largest number of 64 bits
 abbrev pub largest : ℕ
@@ -9,10 +9,9 @@ largest = 18446744073709551615
 abbrev pub decimal_digit : ℕ → ℕ
 decimal_digit b = cond (leb 48 b && leb b 57) (b - 48) 0
 
--- the number n with the digits of bs after it, or the largest one
-unfoldable pub decimal_from : ℕ → List ℕ → ℕ
-decimal_from n [] = n
-decimal_from n (b ∷ bs) = decimal_from (min largest (10 * n + decimal_digit b)) bs
+-- the number n with the digit of b after it, or the largest one
+abbrev pub with_digit : ℕ → ℕ → ℕ
+with_digit n b = min largest (10 * n + decimal_digit b)
 
 abbrev pub decimal_number : List ℕ → ℕ
-decimal_number bs = decimal_from 0 bs
+decimal_number bs = fold with_digit 0 bs

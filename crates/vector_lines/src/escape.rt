@@ -1,8 +1,8 @@
 // Bytes as text: each stands for itself, but a backslash and two lower-case hexadecimal digits for
 // the byte with that value.
-ghost use Rattle.std.specs.Prelude.{◌<◌, ◌≤◌, ◌≡◌, length};
+ghost use Rattle.std.specs.Prelude.{◌≤◌, ◌≡◌, [], ◌∷◌, length, MatchOption};
 ghost use Rattle.sequences.specs.Part.{put};
-ghost use Rattle.vector_lines.specs.Escapes.{fitting, escape_width, escaped_byte};
+ghost use Rattle.vector_lines.specs.Escapes.{fitting, unescaped};
 
 use crate::hex_digit;
 
@@ -14,43 +14,27 @@ pub fn unescape(text: &[u8], out: &mut [u8]) -> usize
     ensures value { result ≡ length (fitting (length out.old) text.now) }
     ensures upper_bound { result ≤ length out.new }
 {
-    let mut at = 0;
-    let mut n = 0;
-    while at < text.len() {
-        if n == out.len() {
+    let mut rest = text;
+    for n in 0..out.len() {
+        let Some((byte, after)) = first(rest) else {
             return n;
+        };
+        out[n] = byte;
+        rest = after;
+    }
+    out.len()
+}
+
+// The first byte that rest encodes, and what is left after it.
+#[tactic(auto, using(crate::proofs::Escapes::none_left, crate::proofs::Escapes::escape_first, crate::proofs::Escapes::byte_first, crate::proofs::Escapes::byte_near_end))]
+fn first(rest: &[u8]) -> Option<(u8, &[u8])>
+    ensures { MatchOption result (unescaped rest.now ≡ []) (λ p. unescaped rest.now ≡ p.0 ∷ unescaped p.1.now) }
+{
+    let (byte, after) = rest.split_first()?;
+    match after {
+        [high, low, ..] if *byte == b'\\' => {
+            Some((16 * hex_digit(*high) + hex_digit(*low), &after[2..]))
         }
-        let rest = &text[at..];
-        out[n] = first(rest);
-        n += 1;
-        at += width(rest);
+        _ => Some((*byte, after)),
     }
-    n
-}
-
-// The first byte that rest encodes.
-fn first(rest: &[u8]) -> u8
-    requires { 0 < length rest.now }
-    ensures { result ≡ escaped_byte rest.now }
-{
-    if rest.len() < 3 {
-        return rest[0];
-    }
-    if rest[0] == b'\\' {
-        16 * hex_digit(rest[1]) + hex_digit(rest[2])
-    } else {
-        rest[0]
-    }
-}
-
-// How many bytes of rest encode the first one.
-fn width(rest: &[u8]) -> usize
-    requires { 0 < length rest.now }
-    ensures value { result ≡ escape_width rest.now }
-    ensures upper_bound { (result ≤ length rest.now) × (0 < result) }
-{
-    if rest.len() < 3 {
-        return 1;
-    }
-    if rest[0] == b'\\' { 3 } else { 1 }
 }

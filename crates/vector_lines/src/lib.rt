@@ -5,29 +5,16 @@
 #![tactic(auto)]
 
 mod escape;
+mod held;
+mod lines;
 
-ghost use Rattle.std.specs.Prelude.{◌+◌, ◌*◌, ◌≤◌, min, ◌≡◌, length};
-ghost use Rattle.vector_lines.specs.Lines.{line_end, hex_digit};
-ghost use Rattle.vector_lines.specs.Numbers.{decimal_digit, decimal_number, largest};
+ghost use Rattle.std.specs.Prelude.{◌≤◌, ◌≡◌};
+ghost use Rattle.vector_lines.specs.Texts.{hex_digit};
+ghost use Rattle.vector_lines.specs.Numbers.{with_digit, decimal_digit, decimal_number};
 
 pub use escape::unescape;
-
-const LARGEST: u64 = 18446744073709551615;
-
-// Where the first line of text ends: at its line feed, or at the end of the text.
-pub fn line_end(text: &[u8]) -> usize
-    ensures value { result ≡ line_end text.now }
-    ensures upper_bound { result ≤ length text.now }
-{
-    let mut end = 0;
-    while end < text.len() {
-        if text[end] == b'\n' {
-            return end;
-        }
-        end += 1;
-    }
-    end
-}
+pub use held::Held;
+pub use lines::Lines;
 
 // What a hexadecimal digit in lower case stands for; 0 where b is none.
 pub fn hex_digit(b: u8) -> u8
@@ -46,33 +33,21 @@ pub fn hex_digit(b: u8) -> u8
 pub fn decimal(text: &[u8]) -> u64
     ensures { result ≡ decimal_number text.now }
 {
-    let mut n = 0;
-    let mut at = 0;
-    while at < text.len() {
-        n = with_digit(n, decimal_digit(text[at]));
-        at += 1;
-    }
-    n
+    text.iter().fold(0, |n, b| with_digit(n, *b))
 }
 
-// n with one digit more after it, or the largest number.
-fn with_digit(n: u64, digit: u64) -> u64
-    ensures { result ≡ min largest (10 * n + digit) }
+// n with the digit of b after it, or the largest number.
+fn with_digit(n: u64, b: u8) -> u64
+    ensures { result ≡ with_digit n b }
 {
-    if LARGEST / 10 < n {
-        return LARGEST;
-    }
-    if LARGEST - 10 * n < digit {
-        return LARGEST;
-    }
-    10 * n + digit
+    n.saturating_mul(10).saturating_add(decimal_digit(b))
 }
 
 fn decimal_digit(b: u8) -> u64
     ensures { result ≡ decimal_digit b }
 {
     match b {
-        b'0'..=b'9' => (b - b'0') as u64,
+        b'0'..=b'9' => u64::from(b - b'0'),
         _ => 0,
     }
 }

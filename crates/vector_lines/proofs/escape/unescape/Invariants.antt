@@ -1,10 +1,6 @@
--- `vector_lines::unescape`: what has been read and written so far, as `Decoding` has it. Assumes nothing.
-use Rattle.std.proofs.Common.{◌-◌, length}
+-- `vector_lines::unescape`: what has been written so far and what is left, as `Decoding` has it. Assumes nothing.
 use Rattle.vector_lines.proofs.Escapes.{Decoding}
 use Rattle.vector_lines.proofs.escape.unescape.Given as goal
 
-abbrev pub invariant-loop-at : goal.invariant-loop-at
-invariant-loop-at l = Decoding l.text l.initial.out l.out l.at l.n
-
-abbrev pub decreases-loop-at : goal.decreases-loop-at
-decreases-loop-at l = length l.text - l.at
+abbrev pub invariant-loop-n : goal.invariant-loop-n
+invariant-loop-n l = Decoding l.text l.initial.out l.out l.rest l.n
