@@ -3,7 +3,7 @@
 // No public function has a `requires`.
 #![tactic(auto)]
 
-ghost use Rattle.std.specs.Prelude.{◌≡◌, ◌≤◌, length, take, slice_index, EachIndex};
+ghost use Rattle.std.specs.Prelude.{◌≡◌, ◌≤◌, ◌<◌, ℕ, length, take, slice_get, EachIndex, IfSome};
 ghost use Rattle.std.specs.Io.KnownBytes.{Consumes};
 
 use std::io::Read;
@@ -25,10 +25,12 @@ pub fn read_full<R: Read>(from: &mut R, buf: &mut [u8]) -> usize
     done
 }
 
-// N zeros, for a buffer. Its length is told apart from its bytes, so that a long one can be lent.
-pub fn buffer<const N: usize>() -> [u8; N]
+// N zeros, for a buffer of bytes or of wider numbers. Its length is told apart from its elements, so
+// that a long one can be lent.
+pub fn buffer<T: From<u8> + Copy, const N: usize>() -> [T; N]
     ensures size { length result ≡ N }
-    ensures zeros { EachIndex result (λ k. slice_index result k ≡ 0) }
+    ensures zeros { EachIndex result (λ k. IfSome (slice_get result k) (λ x. T.from_gives 0 x)) }
 {
-    [0; N]
+    let zero = T::from(0);
+    [zero; N]
 }

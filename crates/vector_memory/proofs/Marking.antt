@@ -1,32 +1,35 @@
--- Laws of marks, for a loop over i: the byte at i, then the rest; and past the end none is left. Assumes nothing.
-use Prim.Native.Nat.{ℕ, ◌+◌, ◌≤◌, ◌<◌}
-use mathlib.Core.Path.{◌≡◌}
-use mathlib.Core.Bool.{cond}
-use mathlib.Core.List.{List, [], ◌∷◌, ◌++◌, append_assoc, append-nil}
-use native.Mathlib.Numerals.{add-one}
-use native.Mathlib.Omega.{arith}
-use lib.Dec.{eqb}
-use lib.ListN.{length, take, drop, set, get_or, drop_of_length-le}
-use lib.Seq.{take-suc-set, drop-set-lt, take_all}
-use Rattle.sequences.proofs.Drop.{drop_next}
-use Rattle.vector_memory.specs.Marks.{marker, marks_from, marked, changed_from}
+-- Laws of the marks, for a loop over i: the element at i, then the rest; and past the end none is left. Assumes nothing.
+use Rattle.std.proofs.Common.{ℕ, ◌+◌, ◌≤◌, ◌<◌, ◌≡◌, refl, ◌∙◌, Bool, true, false, not, cond, Some, None, List, [], ◌∷◌, ◌++◌, arith, length, take, drop, set, get_or, append_assoc, append-nil, add-one}
+use lib.ListN.{drop_of_length-le}
+use lib.Seq.{take-suc-set, drop-set-lt, take_all, drop-cons}
+use Rattle.vector_memory.specs.Marks.{marks_from, marked, changed_from}
 
-pub changed_next : (xs : List ℕ) (i : ℕ) → i < length xs → changed_from i (drop i xs) ≡ cond (eqb (get_or xs i 0) (marker i)) (changed_from (i + 1) (drop (i + 1) xs)) i
-unfolding changed_from
-changed_next xs i h = rw (drop_next xs i h, add-one i)
+turned : {B : Type 0} (t : Bool) (x y : B) → cond t x y ≡ cond (not t) y x
+turned true x y = refl
+turned false x y = refl
 
-pub changed_past : (xs : List ℕ) (i : ℕ) → length xs ≤ i → changed_from i (drop i xs) ≡ i
-unfolding changed_from
-changed_past xs i h = rw (drop_of_length-le xs h)
+module _ {A : Type 0} (marker : ℕ → A) where
+  module _ (same : A → A → Bool) where
+    changed_next : (xs : List A) (i : ℕ) (d : A) → i < length xs → changed_from same marker i (drop i xs) ≡ cond (same (get_or xs i d) (marker i)) (changed_from same marker (i + 1) (drop (i + 1) xs)) (Some i)
+    unfolding changed_from
+    changed_next xs i d h = rw (drop-cons xs i d h, add-one i) refl
 
--- what is marked from i on is marked from i + 1 on, once the index i is
-pub marked_next : (xs : List ℕ) (i : ℕ) → i < length xs → marked (i + 1) (set xs i (marker i)) ≡ marked i xs
-unfolding marks_from
-marked_next xs i h =
-    let stored : take (i + 1) (set xs i (marker i)) ≡ take i xs ++ (marker i ∷ []) = rw add-one (take-suc-set xs i (marker i) h) in
-    let after : drop (i + 1) (set xs i (marker i)) ≡ drop (i + 1) xs = drop-set-lt (i + 1) xs i (marker i) (omega arith) in
-    rw (stored, after, append_assoc, drop_next xs i h, add-one i)
+    -- where the code finds the element x, the mark m and whether they differ
+    pub changed_here : (xs : List A) (i : ℕ) (x m : A) (differ : Bool) → i < length xs → x ≡ get_or xs i x → m ≡ marker i → differ ≡ not (same x m) → changed_from same marker i (drop i xs) ≡ cond differ (Some i) (changed_from same marker (i + 1) (drop (i + 1) xs))
+    changed_here xs i x m differ h found mark test = changed_next xs i x h ∙ rw (← found, ← mark, test) (turned (same x m) _ _)
 
-pub marked_past : (xs : List ℕ) (i : ℕ) → length xs ≤ i → marked i xs ≡ xs
-unfolding marks_from
-marked_past xs i h = rw (drop_of_length-le xs h, append-nil) (take_all i xs h)
+    pub changed_past : (xs : List A) (i : ℕ) → length xs ≤ i → changed_from same marker i (drop i xs) ≡ None
+    unfolding changed_from
+    changed_past xs i h = rw (drop_of_length-le xs h)
+
+  -- what is marked from i on is marked from i + 1 on, once the index i is
+  pub marked_next : (xs : List A) (i : ℕ) (d : A) → i < length xs → marked marker (i + 1) (set xs i (marker i)) ≡ marked marker i xs
+  unfolding marks_from
+  marked_next xs i d h =
+      let stored : take (i + 1) (set xs i (marker i)) ≡ take i xs ++ (marker i ∷ []) = rw add-one (take-suc-set xs i (marker i) h) in
+      let after : drop (i + 1) (set xs i (marker i)) ≡ drop (i + 1) xs = drop-set-lt (i + 1) xs i (marker i) (omega arith) in
+      rw (stored, after, append_assoc, drop-cons xs i d h, add-one i)
+
+  pub marked_past : (xs : List A) (i : ℕ) → length xs ≤ i → marked marker i xs ≡ xs
+  unfolding marks_from
+  marked_past xs i h = rw (drop_of_length-le xs h, append-nil) (take_all i xs h)

@@ -1,20 +1,24 @@
--- Marks in memory: a byte for each index. Assumes nothing.
-use Rattle.std.specs.Prelude.{ℕ, suc, ◌+◌, ◌%◌, cond, List, [], ◌∷◌, ◌++◌, eqb, take, drop}
+-- Marks in memory: an element for each index. Assumes nothing.
+use Rattle.std.specs.Prelude.{ℕ, suc, ◌+◌, ◌%◌, Bool, cond, Option, Some, None, List, [], ◌∷◌, ◌++◌, take, drop}
 
--- the byte that marks the index i
-abbrev pub marker : ℕ → ℕ
-marker i = 128 + i % 101
+-- the byte that marks the index i, and the number that does
+abbrev pub byte_marker : ℕ → ℕ
+byte_marker i = 128 + i % 101
 
--- the marks in the place of the bytes bs, the first of which has the index i
-unfoldable pub marks_from : ℕ → List ℕ → List ℕ
-marks_from i [] = []
-marks_from i (b ∷ bs) = marker i ∷ marks_from (suc i) bs
+abbrev pub number_marker : ℕ → ℕ
+number_marker i = 1 + i % 60013
 
--- bs with each index from `at` on marked
-abbrev pub marked : ℕ → List ℕ → List ℕ
-marked at bs = take at bs ++ marks_from at (drop at bs)
+module _ {A : Type 0} where
+  -- the marks in the place of the elements xs, the first of which has the index i
+  unfoldable pub marks_from : (ℕ → A) → ℕ → List A → List A
+  marks_from marker i [] = []
+  marks_from marker i (x ∷ xs) = marker i ∷ marks_from marker (suc i) xs
 
--- the first index whose byte is not its mark, where the first of bs has the index i: the index after the last byte where there is none
-unfoldable pub changed_from : ℕ → List ℕ → ℕ
-changed_from i [] = i
-changed_from i (b ∷ bs) = cond (eqb b (marker i)) (changed_from (suc i) bs) i
+  -- xs with each index from `at` on marked
+  abbrev pub marked : (ℕ → A) → ℕ → List A → List A
+  marked marker at xs = take at xs ++ marks_from marker at (drop at xs)
+
+  -- the first index whose element is not its mark, where the first of xs has the index i
+  unfoldable pub changed_from : (A → A → Bool) → (ℕ → A) → ℕ → List A → Option ℕ
+  changed_from same marker i [] = None
+  changed_from same marker i (x ∷ xs) = cond (same x (marker i)) (changed_from same marker (suc i) xs) (Some i)

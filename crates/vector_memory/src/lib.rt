@@ -1,9 +1,9 @@
 // What the programs that run vectors tell of memory: marks that stand in it before a call, which of
 // them are found changed after it, and a checksum that stands for long runs of bytes.
 //
-// No public function has a `requires`. Each says its answer and every byte that it changes, but
-// `print_kept`, whose writing is tested and not proved, and which answers with the error of a write that
-// fails.
+// No public function has a `requires`. Each says its answer and every element that it changes, but
+// `print_found` and `print_kept`, whose writing is tested and not proved, and which answer with the
+// error of a write that fails.
 #![tactic(auto)]
 
 mod checksum;
@@ -12,13 +12,12 @@ mod marks;
 ghost use Rattle.std.specs.Prelude.{◌≤◌, min, ◌≡◌};
 
 pub use checksum::adler;
-pub use marks::{changed, mark, print_kept};
+pub use marks::{Markable, changed, mark, print_found, print_kept};
 
 // The smaller one of a length that a call has told and a length that there is.
 pub fn least(a: u64, b: usize) -> usize
     ensures value { result ≡ min a b }
     ensures upper_bound { (result ≤ a) × (result ≤ b) }
 {
-    let limit = b as u64;
-    if a < limit { a as usize } else { b }
+    a.min(b as u64) as usize
 }
