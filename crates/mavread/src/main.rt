@@ -4,6 +4,7 @@
 #![tactic(auto)]
 
 use reading::{buffer, read_full};
+use report::Told;
 use std::io;
 
 // 546 records.
@@ -12,11 +13,11 @@ const MOST_BYTES: usize = 65520;
 // The buffer holds more than a flow may have, so that one byte too many is seen. What lies beyond the
 // buffer is never read: it is too long by then.
 fn main(rt: HostRuntime) -> io::Result<()> {
-    let mut space = buffer::<65536>();
+    let mut space = buffer::<u8, 65536>();
     let n = read_full(&mut rt.stdin(), &mut space);
     if MOST_BYTES < n {
         println!(rt; "too long for this program")
     } else {
-        report::print_answer(&rt, flow::read(&space[..n]))
+        println!(rt; "{}", Told(flow::read(&space[..n])))
     }
 }

@@ -5,41 +5,53 @@
 #![tactic(auto)]
 
 use flow::{Answer, Refusal};
-use printing::{labelled, line_feed, text};
 use records::FlowKind;
-use std::io;
+use std::{fmt, io};
 
-// Writes the answer's line, as `print_text` has it, and its line feed.
-pub fn print_answer(rt: &impl Print, answer: Answer) -> io::Result<()> {
-    print_text(rt, answer)?;
-    line_feed(rt)
-}
+// What is printed of an answer: `accepted dispositions 2 cents 83050 records 16 kind requests`, or of a
+// refusal what `Refused` has.
+#[derive(Clone, Copy)]
+pub struct Told(pub Answer);
 
-// Writes the answer, as `accepted dispositions 2 cents 83050 records 16 kind requests` or `refused 9
-// record 10 position 4` with no line feed.
-pub fn print_text(rt: &impl Print, answer: Answer) -> io::Result<()> {
-    match answer {
-        Answer::Accepted(totals) => {
-            labelled(rt, b"accepted dispositions ", totals.dispositions)?;
-            labelled(rt, b" cents ", totals.cents)?;
-            labelled(rt, b" records ", totals.records)?;
-            print_kind(rt, totals.kind)
+impl fmt::Display for Told {
+    fn fmt<W: fmt::Write>(&self, f: &mut fmt::Formatter<W>) -> fmt::Result {
+        match self.0 {
+            Answer::Accepted(totals) => {
+                let dispositions = totals.dispositions;
+                let cents = totals.cents;
+                let records = totals.records;
+                write!(f, "accepted dispositions {dispositions} cents {cents} records {records}")?;
+                write!(f, " kind {}", word(totals.kind))
+            }
+            Answer::Refused(refusal) => write!(f, "{}", Refused(refusal)),
         }
-        Answer::Refused(refusal) => print_refusal(rt, refusal),
     }
 }
 
-// Writes the kind of flow, as ` kind requests` or ` kind recalls`.
-fn print_kind(rt: &impl Print, kind: FlowKind) -> io::Result<()> {
+fn word(kind: FlowKind) -> &'static str {
     match kind {
-        FlowKind::Requests => text(rt, b" kind requests"),
-        FlowKind::Recalls => text(rt, b" kind recalls"),
+        FlowKind::Requests => "requests",
+        FlowKind::Recalls => "recalls",
     }
 }
 
-// Writes a refusal, as `refused 9 record 10 position 4` with no line feed.
-pub fn print_refusal(rt: &impl Print, refusal: Refusal) -> io::Result<()> {
-    labelled(rt, b"refused ", refusal.number)?;
-    labelled(rt, b" record ", refusal.record)?;
-    labelled(rt, b" position ", refusal.position)
+// What is printed of a refusal: `refused 9 record 10 position 4`.
+#[derive(Clone, Copy)]
+pub struct Refused(pub Refusal);
+
+impl fmt::Display for Refused {
+    fn fmt<W: fmt::Write>(&self, f: &mut fmt::Formatter<W>) -> fmt::Result {
+        let number = self.0.number;
+        let record = self.0.record;
+        let position = self.0.position;
+        write!(f, "refused {number} record {record} position {position}")
+    }
+}
+
+// Writes a blank and, in quotes, the first 10 bytes as they are, or all where there are fewer: a record's
+// type and number.
+pub fn print_start(rt: &impl Print, bytes: &[u8]) -> io::Result<()> {
+    rt.write_all(b" \"")?;
+    rt.write_all(bytes.get(..10).unwrap_or(bytes))?;
+    rt.write_all(b"\"")
 }
