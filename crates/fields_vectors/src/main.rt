@@ -8,43 +8,33 @@ mod hex;
 
 use reading::{buffer, read_full};
 use std::io;
+use vector_lines::Lines;
 
 // What lies beyond the first 65,536 bytes is not read, and a read that fails counts as the end.
 fn main(rt: HostRuntime) -> io::Result<()> {
-    let mut space = buffer::<65536>();
-    let mut bytes = [0u8; 64];
-    let n = read_full(&mut rt.stdin(), &mut space);
-    answer_lines(&rt, &space[..n], &mut bytes)?;
+    let mut text = buffer::<u8, 65536>();
+    let n = read_full(&mut rt.stdin(), &mut text);
+    for line in Lines::of(&text[..n]) {
+        answer(&rt, line)?;
+    }
     case::six_digits(&rt)
 }
 
-// The bytes of each case are decoded into `space`.
-fn answer_lines(rt: &impl Print, text: &[u8], space: &mut [u8]) -> io::Result<()> {
-    let mut at = 0;
-    while at < text.len() {
-        let rest = &text[at..];
-        let n = vector_lines::line_end(rest);
-        answer(rt, &rest[0..n], space)?;
-        at += n + 1;
-    }
-    Ok(())
-}
-
 // One case: a letter, then its bytes in hexadecimal.
-fn answer(rt: &impl Print, line: &[u8], space: &mut [u8]) -> io::Result<()> {
-    if line.len() == 0 {
+fn answer(rt: &impl Print, line: &[u8]) -> io::Result<()> {
+    let Some((kind, text)) = line.split_first() else {
         return Ok(());
-    }
-    let n = hex::decode(&line[1..], space);
-    let bytes = &space[0..n];
-    let kind = line[0];
-    match kind {
+    };
+    let mut space = [0; 64];
+    let n = hex::decode(text, &mut space);
+    let bytes = &space[..n];
+    match *kind {
         b'n' => case::number(rt, fields::read_digits(bytes)),
         b'a' => case::number(rt, fields::read_amount(bytes)),
         b'd' => case::date(rt, fields::read_date(bytes)),
         b'w' => case::written(rt, bytes),
         b'b' => case::flag(rt, fields::all_blank(bytes)),
         b'e' => case::compared(rt, bytes),
-        _ => case::unknown(rt),
+        _ => println!(rt; "unknown"),
     }
 }

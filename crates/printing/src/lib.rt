@@ -4,8 +4,7 @@
 // written is tested, not proved.
 #![tactic(auto)]
 
-use std::fmt;
-use std::io;
+use std::{fmt, io};
 
 // Bytes in quotes: each as it is, but those outside 32 to 126 and the backslash as a backslash and two
 // lower-case hexadecimal digits.

@@ -20,7 +20,10 @@ impl fmt::Display for Told {
                 let dispositions = totals.dispositions;
                 let cents = totals.cents;
                 let records = totals.records;
-                write!(f, "accepted dispositions {dispositions} cents {cents} records {records}")?;
+                write!(
+                    f,
+                    "accepted dispositions {dispositions} cents {cents} records {records}"
+                )?;
                 write!(f, " kind {}", word(totals.kind))
             }
             Answer::Refused(refusal) => write!(f, "{}", Refused(refusal)),

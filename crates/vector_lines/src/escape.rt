@@ -4,7 +4,7 @@ ghost use Rattle.std.specs.Prelude.{◌≤◌, ◌≡◌, [], ◌∷◌, length,
 ghost use Rattle.sequences.specs.Part.{put};
 ghost use Rattle.vector_lines.specs.Escapes.{fitting, unescaped};
 
-use crate::hex_digit;
+use crate::hex_byte;
 
 // Puts the bytes that text encodes at the start of out, as many as fit, and answers how many. What is
 // no digit after a backslash counts as 0, and a backslash with fewer than two bytes after it stands
@@ -32,9 +32,7 @@ fn first(rest: &[u8]) -> Option<(u8, &[u8])>
 {
     let (byte, after) = rest.split_first()?;
     match after {
-        [high, low, ..] if *byte == b'\\' => {
-            Some((16 * hex_digit(*high) + hex_digit(*low), &after[2..]))
-        }
+        [high, low, ..] if *byte == b'\\' => Some((hex_byte(*high, *low), &after[2..])),
         _ => Some((*byte, after)),
     }
 }

@@ -8,7 +8,7 @@ mod escape;
 mod held;
 mod lines;
 
-ghost use Rattle.std.specs.Prelude.{◌≤◌, ◌≡◌};
+ghost use Rattle.std.specs.Prelude.{◌+◌, ◌*◌, ◌≤◌, ◌≡◌};
 ghost use Rattle.vector_lines.specs.Texts.{hex_digit};
 ghost use Rattle.vector_lines.specs.Numbers.{with_digit, decimal_digit, decimal_number};
 
@@ -16,8 +16,14 @@ pub use escape::unescape;
 pub use held::Held;
 pub use lines::Lines;
 
-// What a hexadecimal digit in lower case stands for; 0 where b is none.
-pub fn hex_digit(b: u8) -> u8
+// The byte that two hexadecimal digits in lower case stand for; 0 counts for what is no digit.
+pub fn hex_byte(high: u8, low: u8) -> u8
+    ensures { result ≡ 16 * hex_digit high + hex_digit low }
+{
+    16 * hex_digit(high) + hex_digit(low)
+}
+
+fn hex_digit(b: u8) -> u8
     ensures value { result ≡ hex_digit b }
     ensures upper_bound { result ≤ 15 }
 {
