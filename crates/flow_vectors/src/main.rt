@@ -3,29 +3,34 @@
 // (`oracle vectors flow`, which says the format).
 #![tactic(auto)]
 
-mod line;
 mod location;
 
 use reading::{buffer, read_full};
+use report::Told;
 use std::io;
+use vector_lines::{Held, Lines, decimal};
 
 // What lies beyond the first 655,360 bytes is not read, and a read that fails counts as the end.
 fn main(rt: HostRuntime) -> io::Result<()> {
-    let mut text = buffer::<655360>();
-    let mut space = buffer::<131072>();
+    let mut text = buffer::<u8, 655360>();
+    let mut held = Held::<131072>::new();
     let n = read_full(&mut rt.stdin(), &mut text);
-    answer_lines(&rt, &text[..n], &mut space)
-}
-
-// The latest flow is kept in `space`, as its first `held` bytes.
-fn answer_lines(rt: &impl Print, text: &[u8], space: &mut [u8]) -> io::Result<()> {
-    let mut at = 0;
-    let mut held = 0;
-    while at < text.len() {
-        let rest = &text[at..];
-        let n = vector_lines::line_end(rest);
-        held = line::answer(rt, &rest[0..n], space, held)?;
-        at += n + 1;
+    for line in Lines::of(&text[..n]) {
+        answer(&rt, line, &mut held)?;
     }
     Ok(())
+}
+
+// `#` and a name, `=` and a flow, `?` and a number, or none of these. The latest flow is held, cut to N
+// bytes.
+fn answer<const N: usize>(rt: &impl Print, line: &[u8], held: &mut Held<N>) -> io::Result<()> {
+    match line {
+        [b'#', ..] => printing::line(rt, line),
+        [b'=', text @ ..] => {
+            held.take_over(text);
+            println!(rt; "{}", Told(flow::read(held.bytes())))
+        }
+        [b'?', text @ ..] => location::print(rt, held.bytes(), decimal(text)),
+        _ => println!(rt; "unknown"),
+    }
 }
