@@ -1,69 +1,51 @@
 // The line that each line of the vectors is answered by.
-ghost use Rattle.std.specs.Prelude.{◌≤◌, length};
-
+use crate::call::Way;
 use crate::{call, round_trip};
-use printing::{labelled, line_feed};
+use reading::buffer;
 use std::io;
+use vector_lines::{Held, decimal};
 
-// Takes over the bytes of a line `=`; any other line leaves those held. The answer is how many are
-// held then. What is longer than `held` is cut to it.
-pub(crate) fn hold(line: &[u8], held: &mut [u8], size: usize) -> usize
-    requires { size ≤ length held.old }
-    ensures { result ≤ length held.new }
-{
-    if line.len() == 0 {
-        return size;
-    }
-    if line[0] == b'=' {
-        return vector_lines::unescape(&line[1..], held);
-    }
-    size
+// The latest list or flow, and the outputs of the calls on it.
+#[derive(Drop)]
+pub(crate) struct Memory {
+    held: Held<131072>,
+    between: [u8; 131072],
+    out: [u8; 131072],
 }
 
-// `#` and a name, `=` and bytes, `>` or `<` and a room, `><` or `<>`, or none of these.
-pub(crate) fn answer(
-    rt: &impl Print,
-    line: &[u8],
-    held: &[u8],
-    between: &mut [u8],
-    out: &mut [u8],
-) -> io::Result<()> {
-    if line.len() == 0 {
-        return unknown(rt);
+impl Memory {
+    pub(crate) fn new() -> Memory {
+        Memory {
+            held: Held::new(),
+            between: buffer(),
+            out: buffer(),
+        }
     }
-    let kind = line[0];
-    match kind {
-        b'#' => printing::line(rt, line),
-        b'=' => size(rt, held),
-        b'>' | b'<' => asked(rt, kind, &line[1..], held, between, out),
-        _ => unknown(rt),
-    }
-}
 
-// After the kind: the room that the output has, or the other kind.
-fn asked(
-    rt: &impl Print,
-    kind: u8,
-    text: &[u8],
-    held: &[u8],
-    between: &mut [u8],
-    out: &mut [u8],
-) -> io::Result<()> {
-    if text.len() == 0 {
-        return unknown(rt);
+    // `#` and a name, `=` and bytes, `>` or `<` and a room, `><` or `<>`, or none of these.
+    pub(crate) fn answer(&mut self, rt: &impl Print, line: &[u8]) -> io::Result<()> {
+        match line {
+            [b'#', ..] => printing::line(rt, line),
+            [b'=', text @ ..] => {
+                self.held.take_over(text);
+                println!(rt; "bytes {}", self.held.bytes().len())
+            }
+            [b'>', text @ ..] => self.asked(rt, Way::Written, text),
+            [b'<', text @ ..] => self.asked(rt, Way::ReadBack, text),
+            _ => println!(rt; "unknown"),
+        }
     }
-    match text[0] {
-        b'0'..=b'9' => call::print(rt, kind, held, vector_lines::decimal(text), out),
-        b'>' | b'<' => round_trip::print(rt, kind, text[0], held, between, out),
-        _ => unknown(rt),
+
+    // After the way: the room that the output has, or the other way.
+    fn asked(&mut self, rt: &impl Print, way: Way, text: &[u8]) -> io::Result<()> {
+        let given = self.held.bytes();
+        let between = &mut self.between;
+        let out = &mut self.out;
+        match text {
+            [b'0'..=b'9', ..] => call::print(rt, way, given, decimal(text), out),
+            [b'>', ..] => round_trip::print(rt, way, Way::Written, given, between, out),
+            [b'<', ..] => round_trip::print(rt, way, Way::ReadBack, given, between, out),
+            _ => println!(rt; "unknown"),
+        }
     }
-}
-
-fn size(rt: &impl Print, held: &[u8]) -> io::Result<()> {
-    labelled(rt, b"bytes ", held.len() as u64)?;
-    line_feed(rt)
-}
-
-fn unknown(rt: &impl Print) -> io::Result<()> {
-    printing::line(rt, b"unknown")
 }

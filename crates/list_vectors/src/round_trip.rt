@@ -1,8 +1,7 @@
 // A list to a flow and back, or a flow to its list and back.
-use crate::call::fill;
-use flow::Answer;
-use list::Filled;
-use printing::{labelled, line_feed, text};
+use crate::call::Way;
+use flow::{Answer, Refusal};
+use report::Refused;
 use std::io;
 use vector_memory::{least, mark};
 
@@ -10,68 +9,50 @@ use vector_memory::{least, mark};
 // `there 1236 back 1920 differs at 226`; or the refusal of the call that was refused.
 pub(crate) fn print(
     rt: &impl Print,
-    kind: u8,
-    other: u8,
+    way: Way,
+    other: Way,
     given: &[u8],
     between: &mut [u8],
     out: &mut [u8],
 ) -> io::Result<()> {
-    let there = fill_marked(kind, given, between);
-    if refused(rt, there)? {
-        return Ok(());
-    }
-    let n = least(there.length, between.len());
-    let back = fill_marked(other, &between[0..n], out);
-    if refused(rt, back)? {
-        return Ok(());
-    }
-    let m = least(back.length, out.len());
-    labelled(rt, b"there ", there.length)?;
-    labelled(rt, b" back ", back.length)?;
-    compared(rt, given, &out[0..m])?;
-    line_feed(rt)
-}
-
-// The call with all of `out` for its output, which holds nothing of an earlier call.
-fn fill_marked(kind: u8, given: &[u8], out: &mut [u8]) -> Filled {
-    mark(out, 0);
-    fill(kind, given, out)
-}
-
-// Writes the line of a refusal, and answers whether it is one.
-fn refused(rt: &impl Print, filled: Filled) -> io::Result<bool> {
-    let answer = filled.answer;
-    match answer {
-        Answer::Accepted(_) => Ok(false),
-        Answer::Refused(refusal) => {
-            report::print_refusal(rt, refusal)?;
-            line_feed(rt)?;
-            Ok(true)
+    match lengths(way, other, given, between, out) {
+        Ok((there, back)) => {
+            print!(rt; "there {there} back {back}")?;
+            let n = least(back, out.len());
+            compared(rt, given, &out[..n])
         }
+        Err(refusal) => println!(rt; "{}", Refused(refusal)),
+    }
+}
+
+// The length of what is filled first, and of what is filled from it.
+fn lengths(
+    way: Way,
+    other: Way,
+    given: &[u8],
+    between: &mut [u8],
+    out: &mut [u8],
+) -> Result<(u64, u64), Refusal> {
+    let there = fill_marked(way, given, between)?;
+    let n = least(there, between.len());
+    let back = fill_marked(other, &between[..n], out)?;
+    Ok((there, back))
+}
+
+// The length of a call with all of `out` for its output, which holds nothing of an earlier call.
+fn fill_marked(way: Way, given: &[u8], out: &mut [u8]) -> Result<u64, Refusal> {
+    mark(out, 0);
+    let filled = way.fill(given, out);
+    match filled.answer {
+        Answer::Accepted(_) => Ok(filled.length),
+        Answer::Refused(refusal) => Err(refusal),
     }
 }
 
 fn compared(rt: &impl Print, a: &[u8], b: &[u8]) -> io::Result<()> {
-    let i = equal_start(a, b);
-    if i == a.len() {
-        if i == b.len() {
-            return text(rt, b" same");
-        }
+    if a == b {
+        return println!(rt; " same");
     }
-    labelled(rt, b" differs at ", i as u64)
-}
-
-// How many bytes at the start are equal.
-fn equal_start(a: &[u8], b: &[u8]) -> usize {
-    let mut i = 0;
-    while i < a.len() {
-        if i == b.len() {
-            return i;
-        }
-        if a[i] != b[i] {
-            return i;
-        }
-        i += 1;
-    }
-    i
+    let n = a.iter().zip(b).take_while(|(x, y)| x == y).count();
+    println!(rt; " differs at {n}")
 }
