@@ -3,37 +3,42 @@
 // says the format).
 #![tactic(auto)]
 
-mod call;
-mod line;
-mod told;
+mod memory;
 
+use crate::memory::Memory;
 use reading::{buffer, read_full};
 use std::io;
+use vector_lines::{Lines, decimal};
 
-// What lies beyond the first 655,360 bytes is not read, and a read that fails counts as the end. `space`
-// has room for a flow of 131,072 bytes and the marks after it.
+// What lies beyond the first 655,360 bytes is not read, and a read that fails counts as the end.
 fn main(rt: HostRuntime) -> io::Result<()> {
-    let mut text = buffer::<655360>();
-    let mut space = buffer::<131136>();
-    let mut list = buffer::<131072>();
+    let mut text = buffer::<u8, 655360>();
+    let mut memory = Memory::new();
     let n = read_full(&mut rt.stdin(), &mut text);
-    answer_lines(&rt, &text[..n], &mut space, &mut list)
-}
-
-// The memory of the latest first flow is the first `memory` bytes of `space`, and the flow left the
-// first `size` of these.
-fn answer_lines(rt: &impl Print, text: &[u8], space: &mut [u8], list: &mut [u8]) -> io::Result<()> {
-    let mut at = 0;
-    let mut memory = 0;
-    let mut size = 0;
-    while at < text.len() {
-        let rest = &text[at..];
-        let n = vector_lines::line_end(rest);
-        let line = &rest[0..n];
-        memory = line::hold(line, space, memory);
-        size = line::lent(line, memory, size);
-        size = line::answer(rt, line, space, memory, size, list)?;
-        at += n + 1;
+    for line in Lines::of(&text[..n]) {
+        answer(&rt, line, &mut memory)?;
     }
     Ok(())
+}
+
+// `#` and a name, `=` and a flow, `!` or `-` and a call, `@` and the number of a record, or none of
+// these.
+fn answer(rt: &impl Print, line: &[u8], memory: &mut Memory) -> io::Result<()> {
+    match line {
+        [b'#', ..] => printing::line(rt, line),
+        [b'=', text @ ..] => {
+            memory.begin(text);
+            memory.tell(rt)
+        }
+        [b'!', text @ ..] => {
+            memory.change(rt, text)?;
+            memory.tell(rt)
+        }
+        [b'-', text @ ..] => {
+            memory.withdraw(rt, text)?;
+            memory.tell(rt)
+        }
+        [b'@', text @ ..] => memory.print_record(rt, decimal(text)),
+        _ => println!(rt; "unknown"),
+    }
 }

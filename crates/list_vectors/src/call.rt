@@ -2,10 +2,7 @@
 use crate::output;
 use list::Filled;
 use std::io;
-use vector_memory::{least, mark};
-
-// How many bytes after the room are looked at too.
-const AFTER: usize = 64;
+use vector_memory::{least, mark, marks_end};
 
 // A list is written to a flow, or a flow is read back to its list.
 #[derive(Clone, Copy)]
@@ -32,7 +29,7 @@ pub(crate) fn print(
     out: &mut [u8],
 ) -> io::Result<()> {
     let n = least(room, out.len());
-    let end = out.len().min(n + AFTER);
+    let end = marks_end(n, out.len());
     mark(&mut out[..end], 0);
     let filled = way.fill(given, &mut out[..n]);
     output::print(rt, filled, &out[..end], n)

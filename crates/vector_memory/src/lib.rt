@@ -12,7 +12,7 @@ mod marks;
 ghost use Rattle.std.specs.Prelude.{◌≤◌, min, ◌≡◌};
 
 pub use checksum::adler;
-pub use marks::{Markable, changed, mark, print_found, print_kept};
+pub use marks::{Markable, changed, mark, marks_end, print_found, print_kept};
 
 // The smaller one of a length that a call has told and a length that there is.
 pub fn least(a: u64, b: usize) -> usize

@@ -1,5 +1,5 @@
 // Marks, which stand in memory before a call, and what is found of them after it.
-ghost use Rattle.std.specs.Prelude.{◌≡◌, ◌<◌, ◌≤◌, ℕ, length, drop, IfSome};
+ghost use Rattle.std.specs.Prelude.{◌≡◌, ◌<◌, ◌≤◌, ◌+◌, ℕ, min, length, drop, IfSome};
 ghost use Rattle.vector_memory.specs.Marks.{byte_marker, number_marker, marked, changed_from};
 
 use std::io;
@@ -30,6 +30,18 @@ impl Markable for u16 {
     fn marker(i: usize) -> u16 {
         1 + (i % 60013) as u16
     }
+}
+
+// How many elements after those that a call may write are marked too, and looked at.
+const AFTER: usize = 64;
+
+// Where the marks after the first n elements end, of a memory of that length.
+pub fn marks_end(n: usize, length: usize) -> usize
+    ensures value { result ≡ min (n + 64) length }
+    ensures upper_bound { result ≤ length }
+    ensures lower_bound { n ≤ length → n ≤ result }
+{
+    n.saturating_add(AFTER).min(length)
 }
 
 // Marks each index from `at` on.
