@@ -5,7 +5,7 @@ use printing::Quoted;
 use reading::buffer;
 use report::Told;
 use std::io;
-use vector_lines::{decimal, unescape};
+use vector_lines::{decimal, two_decimals, unescape};
 use vector_memory::{adler, least, mark, marks_end, print_found, print_kept};
 
 // The latest first flow was the first `first` bytes of the space, the flow that is left is the first
@@ -33,32 +33,27 @@ impl Memory {
 
     // Begins with the flow that text encodes, and marks after it. A flow for which there is no room is cut.
     pub(crate) fn begin(&mut self, text: &[u8]) {
-        let space = &mut self.space;
-        let n = unescape(text, space);
-        let end = marks_end(n, space.len());
-        mark(&mut space[..end], n);
+        let n = unescape(text, &mut self.space);
+        let end = marks_end(n, self.space.len());
+        let (marked, _) = self.space.split_at_mut(end);
+        mark(marked, n);
         self.first = n;
         self.left = n;
     }
 
-    // `2 40000` stands for the number 2 and the amount 40000; the blank counts as a zero before it.
+    // `2 40000` stands for the number 2 and the amount 40000.
     pub(crate) fn change(&mut self, rt: &impl Print, text: &[u8]) -> io::Result<()> {
-        let n = text.iter().position(|b| *b == b' ').unwrap_or(text.len());
-        let (number, cents) = text.split_at(n);
-        let left = self.left;
-        let space = &mut self.space;
-        let (flow, _) = space.split_at_mut(left);
-        let answer = amend::change(flow, decimal(number), decimal(cents));
+        let (k, cents) = two_decimals(text);
+        let (flow, _) = self.space.split_at_mut(self.left);
+        let answer = amend::change(flow, k, cents);
         print!(rt; "{} ", Told(answer))
     }
 
     // Writes the returned length too. A length above the flow's counts as the flow's.
     pub(crate) fn withdraw(&mut self, rt: &impl Print, text: &[u8]) -> io::Result<()> {
-        let left = self.left;
-        let space = &mut self.space;
-        let (flow, _) = space.split_at_mut(left);
+        let (flow, _) = self.space.split_at_mut(self.left);
         let withdrawn = amend::withdraw(flow, decimal(text));
-        self.left = least(withdrawn.length, left);
+        self.left = least(withdrawn.length, self.left);
         print!(rt; "{} length {} ", Told(withdrawn.answer), withdrawn.length)
     }
 

@@ -1,5 +1,5 @@
 -- Decimal numbers, as the vector files have them. Assumes nothing.
-use Rattle.std.specs.Prelude.{ℕ, ◌+◌, ◌*◌, ◌-◌, min, cond, ◌&&◌, List, leb, fold}
+use Rattle.std.specs.Prelude.{ℕ, ◌+◌, ◌*◌, ◌-◌, min, cond, ◌&&◌, List, leb, fold, length, unwrap_or, position, ◌==◌}
 
 -- the largest number of 64 bits
 abbrev pub largest : ℕ
@@ -15,3 +15,7 @@ with_digit n b = min largest (10 * n + decimal_digit b)
 
 abbrev pub decimal_number : List ℕ → ℕ
 decimal_number bs = fold with_digit 0 bs
+
+-- the index of the first blank: the index after the last byte where there is none
+abbrev pub first_blank : List ℕ → ℕ
+first_blank bs = unwrap_or (position (λ b. b == 32) bs) (length bs)

@@ -8,13 +8,14 @@ mod escape;
 mod held;
 mod lines;
 
-ghost use Rattle.std.specs.Prelude.{◌+◌, ◌*◌, ◌≤◌, ◌≡◌};
+ghost use Rattle.std.specs.Prelude.{◌+◌, ◌*◌, ◌≤◌, ◌≡◌, length, take, drop};
 ghost use Rattle.vector_lines.specs.Texts.{hex_digit};
-ghost use Rattle.vector_lines.specs.Numbers.{with_digit, decimal_digit, decimal_number};
+ghost use Rattle.vector_lines.specs.Numbers.{with_digit, decimal_digit, decimal_number, first_blank};
 
 pub use escape::unescape;
 pub use held::Held;
 pub use lines::Lines;
+use lines::first;
 
 // The byte that two hexadecimal digits in lower case stand for; 0 counts for what is no digit.
 pub fn hex_byte(high: u8, low: u8) -> u8
@@ -40,6 +41,17 @@ pub fn decimal(text: &[u8]) -> u64
     ensures { result ≡ decimal_number text.now }
 {
     text.iter().fold(0, |n, b| with_digit(n, *b))
+}
+
+// The numbers before and after the first blank of text, which counts as a digit 0 of the second; that is
+// 0 where there is no blank.
+pub fn two_decimals(text: &[u8]) -> (u64, u64)
+    ensures first { result.0 ≡ decimal_number (take (first_blank text.now) text.now) }
+    ensures second { result.1 ≡ decimal_number (drop (first_blank text.now) text.now) }
+{
+    let blank = first(text, b' ').unwrap_or(text.len());
+    let (before, after) = text.split_at(blank);
+    (decimal(before), decimal(after))
 }
 
 // n with the digit of b after it, or the largest number.

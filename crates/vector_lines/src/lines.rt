@@ -28,7 +28,7 @@ impl<'a> Iterator for Lines<'a> {
     #[tactic(auto, using(crate::proofs::LineCuts::line_at, crate::proofs::LineCuts::lines_fewer, crate::proofs::LineCuts::line_only, crate::proofs::LineCuts::line_none))]
     fn next(&mut self) -> Option<&'a [u8]> {
         let rest = self.rest;
-        match feed(rest) {
+        match first(rest, b'\n') {
             Some(end) => {
                 self.rest = &rest[end + 1..];
                 Some(&rest[..end])
@@ -42,9 +42,9 @@ impl<'a> Iterator for Lines<'a> {
     }
 }
 
-// Where the first line feed is.
-fn feed(text: &[u8]) -> Option<usize>
-    ensures { result ≡ position (λ b. b == 10) text.now }
+// The index of the first byte that is the one given.
+pub(crate) fn first(text: &[u8], byte: u8) -> Option<usize>
+    ensures { result ≡ position (λ b. b == byte) text.now }
 {
-    text.iter().position(|b| *b == b'\n')
+    text.iter().position(|b| *b == byte)
 }
