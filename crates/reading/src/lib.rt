@@ -14,6 +14,7 @@ pub fn read_full<R: Read>(from: &mut R, buf: &mut [u8]) -> usize
     ensures bound { result ≤ length buf.new }
     ensures bytes { Consumes (R.remaining from.old) (R.remaining from.new) (take result buf.new) }
 {
+    // A read may give fewer bytes than there is room for, so that no number of turns is known beforehand.
     let mut done = 0;
     while done < buf.len() {
         match from.read(&mut buf[done..]) {

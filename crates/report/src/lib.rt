@@ -16,16 +16,14 @@ pub struct Told(pub Answer);
 impl fmt::Display for Told {
     fn fmt<W: fmt::Write>(&self, f: &mut fmt::Formatter<W>) -> fmt::Result {
         match self.0 {
-            Answer::Accepted(totals) => {
-                let dispositions = totals.dispositions;
-                let cents = totals.cents;
-                let records = totals.records;
-                write!(
-                    f,
-                    "accepted dispositions {dispositions} cents {cents} records {records}"
-                )?;
-                write!(f, " kind {}", word(totals.kind))
-            }
+            Answer::Accepted(totals) => write!(
+                f,
+                "accepted dispositions {} cents {} records {} kind {}",
+                totals.dispositions,
+                totals.cents,
+                totals.records,
+                word(totals.kind)
+            ),
             Answer::Refused(refusal) => write!(f, "{}", Refused(refusal)),
         }
     }
@@ -44,9 +42,11 @@ pub struct Refused(pub Refusal);
 
 impl fmt::Display for Refused {
     fn fmt<W: fmt::Write>(&self, f: &mut fmt::Formatter<W>) -> fmt::Result {
-        let number = self.0.number;
-        let record = self.0.record;
-        let position = self.0.position;
+        let Refusal {
+            number,
+            record,
+            position,
+        } = self.0;
         write!(f, "refused {number} record {record} position {position}")
     }
 }

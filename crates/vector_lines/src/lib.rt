@@ -1,7 +1,8 @@
 // Lines, escaped bytes, hexadecimal digits and decimal numbers of the vector files, for the programs
 // that run them.
 //
-// No public function has a `requires`. The one that changes bytes, `unescape`, says each of them.
+// No public function has a `requires`. `unescape` says each byte that it changes, and `Held` which bytes
+// it holds.
 #![tactic(auto)]
 
 mod escape;
@@ -24,6 +25,7 @@ pub fn hex_byte(high: u8, low: u8) -> u8
     16 * hex_digit(high) + hex_digit(low)
 }
 
+// What a digit stands for; that of std takes upper case too.
 fn hex_digit(b: u8) -> u8
     ensures value { result ≡ hex_digit b }
     ensures upper_bound { result ≤ 15 }
