@@ -1,10 +1,10 @@
 // The eight entries that the caller's `answer` receives, and what is returned beside them.
 ghost use Rattle.std.specs.Prelude.{◌≡◌};
-ghost use Rattle.flow.specs.Verdict.{answer_verdict};
+ghost use Rattle.flow.specs.Verdict.{verdict, on_paper};
 ghost use Rattle.flow.specs.Verdict.{accepted as Verdict-accepted};
 ghost use Rattle.capi.specs.Returned.{returned, returned_three, kind_entry, of_refusal, of_verdict};
 
-use flow::{Answer, Refusal, Totals};
+use flow::{Refusal, Totals};
 use records::FlowKind;
 
 const ACCEPTED: u8 = 1;
@@ -20,16 +20,15 @@ pub(crate) fn accept(answer: &mut [u64; 8], a: u64, b: u64, c: u64, length: u64)
 }
 
 // Writes the totals of a flow, its kind, and the length where the call has one.
-fn accept_flow(answer: &mut [u64; 8], totals: Totals, length: u64) -> u8
+pub(crate) fn accept_flow(answer: &mut [u64; 8], totals: Totals, length: u64) -> u8
     ensures { returned result answer.new ≡ of_verdict (Verdict-accepted totals) length }
 {
-    let kind = totals.kind;
     *answer = [
         totals.dispositions,
         totals.cents,
         totals.records,
         length,
-        kind_entry(kind),
+        kind_entry(totals.kind),
         0,
         0,
         0,
@@ -49,10 +48,10 @@ fn kind_entry(kind: FlowKind) -> u64
 
 // Writes a refusal, and the length where the call has one.
 pub(crate) fn refuse(answer: &mut [u64; 8], refusal: Refusal, length: u64) -> u8
-    ensures { returned result answer.new ≡ of_refusal refusal length }
+    ensures { returned result answer.new ≡ of_refusal (on_paper refusal) length }
 {
     *answer = [
-        refusal.number,
+        refusal.reason.number(),
         refusal.record,
         refusal.position,
         length,
@@ -64,12 +63,12 @@ pub(crate) fn refuse(answer: &mut [u64; 8], refusal: Refusal, length: u64) -> u8
     REFUSED
 }
 
-// Writes what a call on a flow or a list answers.
-pub(crate) fn tell(answer: &mut [u64; 8], told: Answer, length: u64) -> u8
-    ensures { returned result answer.new ≡ of_verdict (answer_verdict told) length }
+// Writes what a call on a flow answers.
+pub(crate) fn tell(answer: &mut [u64; 8], told: Result<Totals, Refusal>, length: u64) -> u8
+    ensures { returned result answer.new ≡ of_verdict (verdict told) length }
 {
     match told {
-        Answer::Accepted(totals) => accept_flow(answer, totals, length),
-        Answer::Refused(refusal) => refuse(answer, refusal, length),
+        Ok(totals) => accept_flow(answer, totals, length),
+        Err(refusal) => refuse(answer, refusal, length),
     }
 }

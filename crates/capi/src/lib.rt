@@ -7,26 +7,27 @@
 // writes nothing but `answer`.
 #![tactic(auto)]
 
-ghost use Rattle.std.specs.Prelude.{◌≡◌, length};
+ghost use Rattle.std.specs.Prelude.{◌≡◌, ℕ, List, length};
 ghost use Rattle.fields.specs.Amount.{amount_field};
-ghost use Rattle.fields.specs.FieldVerdict.{number_verdict};
+ghost use Rattle.fields.specs.FieldVerdict.{field_verdict};
 ghost use Rattle.fields.specs.Date.{date_field};
 ghost use Rattle.fields.specs.Digits.{digit_field};
 ghost use Rattle.flow.specs.Find.{find};
 ghost use Rattle.flow.specs.Judge.{judge};
+ghost use Rattle.list.specs.Output.{filled_output};
 ghost use Rattle.list.specs.ReadBack.{read_back};
 ghost use Rattle.list.specs.Write.{write};
 ghost use Rattle.amend.specs.Change.{change};
 ghost use Rattle.amend.specs.Withdraw.{withdraw};
-ghost use Rattle.evenings.specs.Compare.{compare, judge_comparison, work_after, find_line, comparison_verdict, line_verdict};
-ghost use Rattle.capi.specs.Returned.{returned, of_number, of_day, of_verdict, of_found, of_output, of_change, of_withdrawal, of_lines, of_compared, of_line};
+ghost use Rattle.evenings.specs.Compare.{compare, judge_comparison, work_after, find_line};
+ghost use Rattle.capi.specs.Returned.{returned, of_number, of_day, of_verdict, of_found, of_output, of_change, of_withdrawal, of_compared, of_line};
 
 mod answer;
 
-use answer::{accept, refuse, tell};
-use evenings::{Comparison, LineFound};
-use fields::{Date, Number};
-use flow::Found;
+use answer::{accept, accept_flow, refuse, tell};
+use flow::{Refusal, refusal_of_call};
+use list::Filled;
+use refusals::Reason;
 
 // The number that a field of 1 to 15 digits gives; or 5.
 pub fn mav_digits(field: &[u8], answer: &mut [u64; 8]) -> u8
@@ -47,12 +48,8 @@ pub fn mav_date(field: &[u8], answer: &mut [u64; 8]) -> u8
     ensures { returned result answer.new ≡ of_day (date_field field.now) }
 {
     match fields::read_date(field) {
-        Date::On {
-            day: _,
-            month: _,
-            year: _,
-        } => accept(answer, 0, 0, 0, 0),
-        Date::Refused(number) => refuse(answer, flow::refusal_of_call(number), 0),
+        Ok(_) => accept(answer, 0, 0, 0, 0),
+        Err(reason) => refuse(answer, refusal_of_call(reason), 0),
     }
 }
 
@@ -68,8 +65,8 @@ pub fn mav_find(flow: &[u8], k: u64, answer: &mut [u64; 8]) -> u8
     ensures { returned result answer.new ≡ of_found (find flow.now k) }
 {
     match flow::find(flow, k) {
-        Found::At(location) => accept(answer, location.first, location.records, location.cents, 0),
-        Found::Refused(refusal) => refuse(answer, refusal, 0),
+        Ok(location) => accept(answer, location.first, location.records, location.cents, 0),
+        Err(refusal) => refuse(answer, refusal, 0),
     }
 }
 
@@ -78,9 +75,7 @@ pub fn mav_write(list: &[u8], out: &mut [u8], answer: &mut [u64; 8]) -> u8
     ensures answer_after { returned result answer.new ≡ of_output (write list.now out.old) }
     ensures out_after { out.new ≡ (write list.now out.old).bytes }
 {
-    let filled = list::write(list, out);
-    let told = filled.answer;
-    tell(answer, told, filled.length)
+    tell_filled(answer, list::write(list, out))
 }
 
 // Writes a flow's list at the front of out, and tells its length: 0 where it is refused.
@@ -88,9 +83,7 @@ pub fn mav_list(flow: &[u8], out: &mut [u8], answer: &mut [u64; 8]) -> u8
     ensures answer_after { returned result answer.new ≡ of_output (read_back flow.now out.old) }
     ensures out_after { out.new ≡ (read_back flow.now out.old).bytes }
 {
-    let filled = list::read_back(flow, out);
-    let told = filled.answer;
-    tell(answer, told, filled.length)
+    tell_filled(answer, list::read_back(flow, out))
 }
 
 // Gives disposition k the amount.
@@ -106,9 +99,10 @@ pub fn mav_withdraw(flow: &mut [u8], k: u64, answer: &mut [u64; 8]) -> u8
     ensures answer_after { returned result answer.new ≡ of_withdrawal (withdraw flow.old k) }
     ensures flow_after { flow.new ≡ (withdraw flow.old k).bytes }
 {
-    let withdrawn = amend::withdraw(flow, k);
-    let told = withdrawn.answer;
-    tell(answer, told, withdrawn.length)
+    match amend::withdraw(flow, k) {
+        Ok(left) => accept_flow(answer, left.totals, left.length),
+        Err(refusal) => refuse(answer, refusal, flow::as_count(flow.len())),
+    }
 }
 
 // Compares two flows: how many requests are kept, dropped and added, and the length of the account that is
@@ -124,9 +118,13 @@ pub fn mav_compare(
     ensures account_after { account.new ≡ (compare old.now new.now (length work.old) account.old).bytes }
     ensures work_after { work.new ≡ work_after (judge_comparison old.now new.now (length work.old) (length account.old)) work.old }
 {
-    let compared = evenings::compare(old, new, work, account);
-    let told = compared.answer;
-    tell_comparison(answer, told, compared.length)
+    match evenings::compare(old, new, work, account) {
+        Ok(told) => {
+            let lines = told.lines;
+            accept(answer, lines.kept, lines.dropped, lines.added, told.length)
+        }
+        Err(refusal) => refuse(answer, refusal, 0),
+    }
 }
 
 // What line n of that account tells: its letter, and the number of its record 14 in its flow.
@@ -140,35 +138,28 @@ pub fn mav_compare_line(
     ensures answer_after { returned result answer.new ≡ of_line (find_line old.now new.now (length work.old) n) }
     ensures work_after { work.new ≡ work_after (find_line old.now new.now (length work.old) n) work.old }
 {
-    tell_line(answer, evenings::find_line(old, new, work, n))
+    match evenings::find_line(old, new, work, n) {
+        Ok(line) => accept(answer, u64::from(line.letter), line.record, 0, 0),
+        Err(refusal) => refuse(answer, refusal, 0),
+    }
 }
 
 // Writes what a digit field or an amount answers.
-fn tell_number(answer: &mut [u64; 8], told: Number) -> u8
-    ensures { returned result answer.new ≡ of_number (number_verdict told) }
+fn tell_number(answer: &mut [u64; 8], told: Result<u64, Reason>) -> u8
+    ensures { returned result answer.new ≡ of_number (field_verdict told) }
 {
     match told {
-        Number::Value(value) => accept(answer, value, 0, 0, 0),
-        Number::Refused(number) => refuse(answer, flow::refusal_of_call(number), 0),
+        Ok(value) => accept(answer, value, 0, 0, 0),
+        Err(reason) => refuse(answer, refusal_of_call(reason), 0),
     }
 }
 
-fn tell_comparison(answer: &mut [u64; 8], told: Comparison, length: u64) -> u8
-    ensures { returned result answer.new ≡ of_lines (comparison_verdict told) length }
+// Writes what a call answers that has filled an output, whatever it has left there.
+fn tell_filled(answer: &mut [u64; 8], told: Result<Filled, Refusal>) -> u8
+    ensures { (out : List ℕ) → returned result answer.new ≡ of_output (filled_output told out) }
 {
     match told {
-        Comparison::Accepted(lines) => {
-            accept(answer, lines.kept, lines.dropped, lines.added, length)
-        }
-        Comparison::Refused(refusal) => refuse(answer, refusal, length),
-    }
-}
-
-fn tell_line(answer: &mut [u64; 8], told: LineFound) -> u8
-    ensures { returned result answer.new ≡ of_line (line_verdict told) }
-{
-    match told {
-        LineFound::At(line) => accept(answer, line.letter as u64, line.record, 0, 0),
-        LineFound::Refused(refusal) => refuse(answer, refusal, 0),
+        Ok(filled) => accept_flow(answer, filled.totals, filled.length),
+        Err(refusal) => refuse(answer, refusal, 0),
     }
 }

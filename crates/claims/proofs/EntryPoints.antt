@@ -1,6 +1,7 @@
 -- Every public function of the library meets its contract, by the proof that stands with the function, and none has a `requires`. Assumes
 -- nothing.
 use mathlib.Core.Path.{refl}
+use Rattle.refusals.proofs.Reason.number.Met.{met as reason_number-met}
 use Rattle.fields.proofs.read_digits.Met.{met as read_digits-met}
 use Rattle.fields.proofs.write_digits.Met.{met as write_digits-met}
 use Rattle.fields.proofs.read_amount.Met.{met as read_amount-met}
@@ -66,6 +67,7 @@ use Rattle.claims.specs.EntryPoints.{EntryPoints}
 pub entry_points : EntryPoints
 entry_points =
     record {
+      reason_number = (λ M. reason_number-met, λ κs a g w. refl);
       read_digits = (λ M. read_digits-met, λ κs a g w. refl);
       write_digits = (λ M. write_digits-met, λ κs a g w. refl);
       read_amount = (λ M. read_amount-met, λ κs a g w. refl);

@@ -3,6 +3,8 @@
 use Rattle.std.specs.Prelude.{◌≡◌}
 use base.Logic.{emp}
 use borrow.Fn.World.{World, Pr}
+use Rattle.refusals.proofs.Reason.number.Reads.{requires as reason_number-requires}
+use Rattle.refusals.proofs.Reason.number.Statement.{statement as reason_number-statement}
 use Rattle.fields.proofs.read_digits.Reads.{requires as read_digits-requires}
 use Rattle.fields.proofs.read_digits.Statement.{statement as read_digits-statement}
 use Rattle.fields.proofs.write_digits.Reads.{requires as write_digits-requires}
@@ -130,6 +132,8 @@ abbrev pub EntryPoint : {L : Type 0} {A : L → Type 0} {G : Type 0} → (Type 1
 EntryPoint {L} {A} {G} statement requires = ((M : Type 1) → statement M) × ((κs : L) (a : A κs) (g : G) (w : World) → requires κs a g w ≡ emp w.𝓤)
 
 pub record EntryPoints : Type 2 where
+  -- refusals: the number of a reason
+  pub reason_number : EntryPoint reason_number-statement reason_number-requires
   -- fields: the field rules
   pub read_digits : EntryPoint read_digits-statement read_digits-requires
   pub write_digits : EntryPoint write_digits-statement write_digits-requires

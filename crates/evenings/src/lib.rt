@@ -14,9 +14,8 @@ mod account_line;
 mod comparison;
 mod limits;
 mod pair;
-mod refusals;
 mod requests;
 mod table;
 
-pub use account_line::{AccountLine, LineFound, find_line, line};
-pub use comparison::{Compared, Comparison, Lines, compare};
+pub use account_line::{AccountLine, find_line, line};
+pub use comparison::{Compared, Lines, compare};

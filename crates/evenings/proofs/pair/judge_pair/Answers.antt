@@ -1,26 +1,22 @@
 -- `evenings::judge_pair` meets its contract. Assumes nothing.
-use mathlib.Core.Path.{◌≡◌, refl, sym, ◌∙◌, ap}
-use Rattle.flow.specs.Judge.{judge}
-use Rattle.flow.specs.Verdict.{accepted, refused, verdict}
+use mathlib.Core.Path.{◌≡◌, sym}
+use Rattle.std.proofs.Common.{rules}
+use Rattle.std.specs.Prelude.{Err}
 use Rattle.evenings.specs.Pair.{judge_pair}
 use Rattle.evenings.proofs.pair.judge_pair.Goals as goal
 
-pub returns-in-Refused : goal.returns-in-Refused
+pub returns-in_err-old_totals : goal.returns-in_err-old_totals
 unfolding judge_pair
-returns-in-Refused c =
-    let read : judge c.args.old.now ≡ refused _ = sym c.read.ensures ∙ ap verdict c.in-Refused.is in
-    rw read refl
+returns-in_err-old_totals c =
+    let passed_on : c.from_residual.result ≡ Err c.in_err-old_totals.field-0.0 = search rules in
+    rw (passed_on, sym c.in_err-old_totals.ensures)
 
-pub returns-in-Refused-read : goal.returns-in-Refused-read
+pub returns-in_err-new_totals : goal.returns-in_err-new_totals
 unfolding judge_pair
-returns-in-Refused-read c =
-    let read : judge c.args.old.now ≡ accepted _ = sym c.read.ensures ∙ ap verdict c.in-Accepted.is in
-    let other : judge c.args.new.now ≡ refused _ = sym c.read-in-Accepted.ensures ∙ ap verdict c.in-Refused-read.is in
-    rw (read, other) refl
+returns-in_err-new_totals c =
+    let passed_on : c.from_residual-in_err-new_totals.result ≡ Err c.in_err-new_totals.field-0.0 = search rules in
+    rw (passed_on, sym c.in_ok-old_totals.ensures, sym c.in_err-new_totals.ensures)
 
-pub returns-in-Accepted-read : goal.returns-in-Accepted-read
+pub returns : goal.returns
 unfolding judge_pair
-returns-in-Accepted-read c =
-    let read : judge c.args.old.now ≡ accepted _ = sym c.read.ensures ∙ ap verdict c.in-Accepted.is in
-    let other : judge c.args.new.now ≡ accepted _ = sym c.read-in-Accepted.ensures ∙ ap verdict c.in-Accepted-read.is in
-    c.fit.ensures ∙ rw (read, other) refl
+returns c = rw (sym c.in_ok-old_totals.ensures, sym c.in_ok-new_totals.ensures) c.fit.ensures
