@@ -1,7 +1,7 @@
 -- What an amendment knows of disposition k, which stands in an accepted flow. Assumes nothing.
 use Prim.Native.Nat.{ℕ, ◌+◌, ◌-◌, ◌*◌, ◌≤◌, ◌<◌}
 use mathlib.Core.List.{List, [], flatten}
-use mathlib.Core.Path.{◌≡◌, ◌∙◌, ap}
+use mathlib.Core.Path.{◌≡◌, sym, ◌∙◌, ap}
 use native.Mathlib.Omega.{arith}
 use lib.ListN.{length, take, get_or}
 use Rattle.records.specs.Limits.{cents_limit, count_limit}
@@ -56,3 +56,12 @@ found_facts f k {v} e =
       ends = omega arith;
       count = dispositions-counted f both.0;
     }
+
+-- the bounds that an amendment keeps to
+pub bounds_found :
+    (f : List ℕ) (k : ℕ) (v : WithTotals) → accepted v ≡ find_with_totals f k
+    → (1 ≤ k) × (k < count_limit) × (v.totals.cents < cents_limit) × (v.totals.records < count_limit) × (v.location.cents ≤ v.totals.cents) × (2 ≤ v.location.first)
+    × (v.location.first + v.location.records ≤ v.totals.records) × (length f ≡ 120 * v.totals.records)
+bounds_found f k v e =
+    let s = found_facts f k (sym e) in
+    (s.some, omega arith, s.cents, s.records, s.share, omega arith, s.ends, s.size)

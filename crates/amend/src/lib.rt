@@ -8,7 +8,6 @@
 #![tactic(auto)]
 
 mod amount;
-mod digits;
 mod withdrawal;
 
 pub use amount::change;

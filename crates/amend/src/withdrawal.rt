@@ -23,6 +23,7 @@ pub struct Withdrawn {
 // anew, the trailer gets the new totals, and the freed bytes at the end become blanks. Refused, in this
 // order: what the reader refuses; 15, no such disposition; 18, the only one. Where it is refused it
 // writes nothing, and the flow is as long as it was lent.
+#[tactic(auto, using(crate::proofs::FoundFacts::bounds_found))]
 pub fn withdraw(flow: &mut [u8], k: u64) -> Result<Withdrawn, Refusal>
     ensures { withdrawn_amended (length flow.old) result flow.new ≡ Withdraw-withdraw flow.old k }
 {

@@ -25,9 +25,6 @@ pub returns-then-not-is_amount : goal.returns-then-not-is_amount
 returns-then-not-is_amount c =
     rw c.refusal_of_call.ensures (sym (no-amount _ _ (sym c.in_ok-found.ensures) _ (sym c.is_amount.ensures ∙ c.if-not-is_amount.true)))
 
-pub overflow_sub-totals : goal.overflow_sub-totals
-overflow_sub-totals c = (found_facts _ _ (sym c.in_ok-found.ensures)).share
-
 pub overflow_add-totals : goal.overflow_add-totals
 overflow_add-totals c =
     let s = found_facts _ _ (sym c.in_ok-found.ensures) in
@@ -36,17 +33,6 @@ overflow_add-totals c =
 pub returns-then-totals-gt-MOST_CENTS : goal.returns-then-totals-gt-MOST_CENTS
 returns-then-totals-gt-MOST_CENTS c =
     rw c.refusal_of_call-then-totals-gt-MOST_CENTS.ensures (sym (too-large _ _ (sym c.in_ok-found.ensures) _ (sym c.is_amount.ensures ∙ c.if-not-is_amount.false) c.if-totals-gt-MOST_CENTS.true))
-
-pub place_number-requires : goal.place_number-requires
-place_number-requires c =
-    let s = found_facts _ _ (sym c.in_ok-found.ensures) in
-    record { le_r = omega arith; r_in_bounds = omega arith; le_first = omega arith; first_bound = omega arith; last_bound = omega arith }
-
-pub place_number-requires-2 : goal.place_number-requires-2
-place_number-requires-2 c =
-    let s = found_facts _ _ (sym c.in_ok-found.ensures) in
-    let place = total-place c.in_ok-found.found.totals.kind in
-    record { le_r = omega arith; r_in_bounds = omega arith; le_first = omega arith; first_bound = omega arith; last_bound = omega arith }
 
 pub returns : goal.returns
 returns c =

@@ -21,57 +21,11 @@ returns-in_err-found c =
 pub returns-then-before-le1 : goal.returns-then-before-le1
 returns-then-before-le1 c = rw c.refusal_of_call.ensures (sym (the-only _ _ (sym c.in_ok-found.ensures) c.if-before-le1.true))
 
-pub overflow_sub-totals-2 : goal.overflow_sub-totals-2
-overflow_sub-totals-2 c = omega (arith, found_facts _ _ (sym c.in_ok-found.ensures))
-
-pub overflow_sub-totals-3 : goal.overflow_sub-totals-3
-overflow_sub-totals-3 c = omega (arith, found_facts _ _ (sym c.in_ok-found.ensures))
-
-pub overflow_sub-at : goal.overflow_sub-at
-overflow_sub-at c = omega (arith, found_facts _ _ (sym c.in_ok-found.ensures))
-
-pub overflow_add-after : goal.overflow_add-after
-overflow_add-after c = omega (arith, found_facts _ _ (sym c.in_ok-found.ensures))
-
-pub overflow_mul-after : goal.overflow_mul-after
-overflow_mul-after c = omega (arith, found_facts _ _ (sym c.in_ok-found.ensures))
-
-pub overflow_mul-at : goal.overflow_mul-at
-overflow_mul-at c = omega (arith, found_facts _ _ (sym c.in_ok-found.ensures))
-
-pub copy_within-requires-clause-start_le_end : goal.copy_within-requires-clause-start_le_end
-copy_within-requires-clause-start_le_end c = omega (arith, found_facts _ _ (sym c.in_ok-found.ensures))
-
-pub copy_within-requires-clause-dest_in_bounds : goal.copy_within-requires-clause-dest_in_bounds
-copy_within-requires-clause-dest_in_bounds c = omega (arith, found_facts _ _ (sym c.in_ok-found.ensures))
-
-pub overflow_sub-left : goal.overflow_sub-left
-overflow_sub-left c = omega (arith, found_facts _ _ (sym c.in_ok-found.ensures))
-
-pub overflow_sub-k : goal.overflow_sub-k
-overflow_sub-k c = omega (arith, found_facts _ _ (sym c.in_ok-found.ensures))
-
-pub renumber-requires : goal.renumber-requires
-renumber-requires c =
-    let s = found_facts _ _ (sym c.in_ok-found.ensures) in
-    record { from_le_to = omega arith; to_in_bounds = omega arith; before_lt_count_limit = omega arith; to_lt_count_limit = omega arith }
-
-pub recount-requires : goal.recount-requires
-recount-requires c =
-    let s = found_facts _ _ (sym c.in_ok-found.ensures) in
-    record { le_records = omega arith; records_in_bounds = omega arith }
-
-pub overflow_mul-left : goal.overflow_mul-left
-overflow_mul-left c = omega (arith, found_facts _ _ (sym c.in_ok-found.ensures))
-
 pub slice_bounds-fill-count : goal.slice_bounds-fill-count
 slice_bounds-fill-count c = omega (arith, found_facts _ _ (sym c.in_ok-found.ensures))
 
 pub slice_bounds-fill-start : goal.slice_bounds-fill-start
 slice_bounds-fill-start c = omega (arith, found_facts _ _ (sym c.in_ok-found.ensures))
-
-pub overflow_mul-result : goal.overflow_mul-result
-overflow_mul-result c = omega (arith, found_facts _ _ (sym c.in_ok-found.ensures))
 
 pub returns : goal.returns
 returns c =

@@ -10,7 +10,7 @@ use Rattle.fields.specs.Digits.{digits}
 use Rattle.fields.proofs.Decimal.{written-length}
 use Rattle.records.specs.Field.{◌to◌, width}
 use Rattle.records.proofs.NumberWritten.{written-within}
-use Rattle.amend.proofs.digits.place_number.Goals as goal
+use Rattle.amend.proofs.amount.place_number.Goals as goal
 
 pub returns : goal.returns
 returns c =
