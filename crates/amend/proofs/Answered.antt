@@ -8,7 +8,7 @@ use mathlib.Core.Path.{◌≡◌, refl, sym, ◌∙◌, ap, subst}
 use native.Mathlib.Omega.{arith}
 use lib.Dec.{leb, ltb}
 use lib.ListN.{length}
-use borrow.Author.Tests.{leb-true, leb-false, ltb-true, ltb-false, lt-leb}
+use borrow.Author.Tests.{leb-true, leb-false, ltb-true, ltb-false}
 use Rattle.fields.specs.Amount.{IsAmount, is_amount}
 use Rattle.fields.proofs.Amounts.{amount_test, no_amount}
 use Rattle.records.specs.Limits.{most_cents}
@@ -28,7 +28,7 @@ use Rattle.amend.specs.Amended.{Amended, unchanged, where_found}
 use Rattle.amend.specs.Change.{totals_changed, changed, change_at, change}
 use Rattle.amend.specs.Laws.{ChangeFault, not_read, no_disposition, not_an_amount, total_too_large, ChangeRefused, WithdrawFault, only_one, WithdrawRefused, Untouched, RefusedUntouched}
 use Rattle.amend.specs.Withdraw.{totals_left, records_left, withdrawn, withdraw_at, withdraw}
-use Rattle.amend.proofs.Unchanged.{change-found, withdraw-found}
+use Rattle.amend.proofs.Unchanged.{change-found, withdraw-found, no-amount, too-large, the-only}
 use Rattle.amend.proofs.Neighbours.{Neighbours, kind_so, rest_of, withdrawn-left, changed_of, changed-left}
 use Rattle.amend.proofs.PartsLeft.{left_with, rest-count, rest_cents, rest-records, rest-right, changed-count, changed_cents, changed-records, changed-right}
 
@@ -127,7 +127,6 @@ module _ (f : List ℕ) (k : ℕ) {t : Totals} (read : judge f ≡ accepted t) w
       (_, read_found f k read found)
 
 pub change-refused : ChangeRefused
-unfolding change
 change-refused f k new x = (said (change f k new) (change_case f k new), tested)
   where
     said : (a : Amended) → ChangeCase f k new a → a.answer ≡ refused x → ChangeFault f k new x
@@ -140,17 +139,10 @@ change-refused f k new x = (said (change f k new) (change_case f k new), tested)
     tested : {x : Refusal} → ChangeFault f k new x → (change f k new).answer ≡ refused x
     tested (not_read x wrong) = answers (unread-so f k wrong)
     tested (no_disposition t read absent) = answers (absent_so f k read absent)
-    tested (not_an_amount t read numbers not-one) =
-        let refused_so : is_amount new ≡ false = (no_amount new).1 not-one in
-        answers (numbers_so f k read numbers).1 ∙ rw refused_so
-    tested (total_too_large t s read found asked large) =
-        let total = t.cents - s.cents + new in
-        let within : is_amount new ≡ true = (amount_test new).1 asked in
-        let above : leb total most_cents ≡ false = lt-leb total most_cents large in
-        answers (read_found f k read found) ∙ rw (within, above)
+    tested (not_an_amount t read numbers not-one) = ap (λ (a : Amended). a.answer) (no-amount f k (numbers_so f k read numbers).1 new ((no_amount new).1 not-one))
+    tested (total_too_large t s read found asked large) = ap (λ (a : Amended). a.answer) (too-large f k (read_found f k read found) new ((amount_test new).1 asked) large)
 
 pub withdraw-refused : WithdrawRefused
-unfolding withdraw
 withdraw-refused f k x = (said (withdraw f k) (withdraw_case f k), tested)
   where
     said : (a : Amended) → WithdrawCase f k a → a.answer ≡ refused x → WithdrawFault f k x
@@ -163,9 +155,7 @@ withdraw-refused f k x = (said (withdraw f k) (withdraw_case f k), tested)
     tested : {x : Refusal} → WithdrawFault f k x → (withdraw f k).answer ≡ refused x
     tested (not_read x wrong) = answers (unread-so f k wrong)
     tested (no_disposition t read absent) = answers (absent_so f k read absent)
-    tested (only_one t read count one) =
-        let few : ltb 1 t.dispositions ≡ false = ap (ltb 1) count in
-        answers (numbers_so f k read (omega arith, omega arith)).1 ∙ rw few
+    tested (only_one t read count one) = ap (λ (a : Amended). a.answer) (the-only f k (numbers_so f k read (omega arith, omega arith)).1 (omega arith))
 
 pub refused_untouched : RefusedUntouched
 refused_untouched f k x = (λ new. changed-not new (change f k new) (change_case f k new), withdrawn-not (withdraw f k) (withdraw_case f k))

@@ -2,7 +2,7 @@
 use Prim.Native.Nat.{ℕ, ◌*◌, ◌≤◌, ◌<◌}
 use mathlib.Core.Bool.{true, false}
 use mathlib.Core.List.{List}
-use mathlib.Core.Path.{◌≡◌, ◌∙◌, ap}
+use mathlib.Core.Path.{◌≡◌, sym, ◌∙◌, ap}
 use lib.ListN.{length}
 use borrow.Author.Tests.{le-leb, lt-leb, le-ltb, lt-ltb}
 use Rattle.fields.specs.Amount.{is_amount}
@@ -31,14 +31,18 @@ module _ (f : List ℕ) (k : ℕ) {v : WithTotals} (found : find_with_totals f k
   too-large new one large = change-found f k found new ∙ rw (one, lt-leb (totals_changed v new).cents most_cents large)
 
   pub change-made :
-      (new : ℕ) → is_amount new ≡ true → (totals_changed v new).cents ≤ most_cents
-      → change f k new ≡ record { answer = accepted (totals_changed v new); size = length f; bytes = changed v.location.first new (totals_changed v new) f }
-  change-made new one fits = change-found f k found new ∙ rw (one, le-leb (totals_changed v new).cents most_cents fits)
+      (new : ℕ) → is_amount new ≡ true → (totals_changed v new).cents ≤ most_cents → (bytes : List ℕ) → bytes ≡ changed v.location.first new (totals_changed v new) f
+      → record { answer = accepted (totals_changed v new); size = length f; bytes = bytes } ≡ change f k new
+  change-made new one fits bytes so =
+      ap (λ (l : List ℕ). record { answer = accepted (totals_changed v new); size = length f; bytes = l }) so
+      ∙ sym (change-found f k found new ∙ rw (one, le-leb (totals_changed v new).cents most_cents fits))
 
   pub the-only : v.totals.dispositions ≤ 1 → withdraw f k ≡ unchanged (of_call 18) f
   the-only few = withdraw-found f k found ∙ rw (le-ltb 1 v.totals.dispositions few)
 
   pub withdrawal-made :
-      1 < v.totals.dispositions
-      → withdraw f k ≡ record { answer = accepted (totals_left v); size = 120 * (totals_left v).records; bytes = withdrawn f k v.totals.records (totals_left v) }
-  withdrawal-made some = withdraw-found f k found ∙ rw (lt-ltb 1 v.totals.dispositions some)
+      1 < v.totals.dispositions → (bytes : List ℕ) → bytes ≡ withdrawn f k v.totals.records (totals_left v)
+      → record { answer = accepted (totals_left v); size = 120 * (totals_left v).records; bytes = bytes } ≡ withdraw f k
+  withdrawal-made some bytes so =
+      ap (λ (l : List ℕ). record { answer = accepted (totals_left v); size = 120 * (totals_left v).records; bytes = l }) so
+      ∙ sym (withdraw-found f k found ∙ rw (lt-ltb 1 v.totals.dispositions some))

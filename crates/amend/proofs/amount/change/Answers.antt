@@ -1,14 +1,11 @@
 -- `amend::change` meets its contract. Assumes nothing.
-use Prim.Native.Nat.{ℕ, ◌-◌}
-use mathlib.Core.List.{List}
-use mathlib.Core.Path.{◌≡◌, sym, ◌∙◌, ap}
+use Prim.Native.Nat.{◌-◌}
+use mathlib.Core.Path.{◌≡◌, sym, ◌∙◌}
 use native.Mathlib.Omega.{arith}
-use lib.ListN.{length}
 use Rattle.std.proofs.Common.{rules}
 use Rattle.std.specs.Prelude.{Err}
 use Rattle.fields.specs.Digits.{digits}
 use Rattle.fields.proofs.Amounts.{amount_test}
-use Rattle.flow.specs.Verdict.{accepted}
 use Rattle.amend.specs.Amended.{written_in_record}
 use Rattle.amend.specs.Change.{totals_changed, changed}
 use Rattle.amend.proofs.FoundFacts.{found_facts}
@@ -44,5 +41,4 @@ returns c =
     let first = c.place_number.ensures in
     let bytes : c.place_number-2.new.flow ≡ changed v.location.first c.args.cents t c.args.flow.now =
     c.place_number-2.ensures ∙ (λ i. written_in_record t.records (begins.ensures i) (digits (wide i) t.cents) (first i)) in
-    ap (λ (l : List ℕ). record { answer = accepted t; size = length c.args.flow.now; bytes = l }) bytes
-    ∙ sym (change-made _ _ (sym c.in_ok-found.ensures) _ (sym c.is_amount.ensures ∙ c.if-not-is_amount.false) c.if-totals-gt-MOST_CENTS.false)
+    change-made _ _ (sym c.in_ok-found.ensures) _ (sym c.is_amount.ensures ∙ c.if-not-is_amount.false) c.if-totals-gt-MOST_CENTS.false _ bytes

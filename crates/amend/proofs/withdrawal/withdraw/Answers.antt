@@ -1,13 +1,10 @@
 -- `amend::withdraw` meets its contract. Assumes nothing.
-use Prim.Native.Nat.{ℕ, ◌-◌, ◌*◌}
-use mathlib.Core.List.{List}
-use mathlib.Core.Path.{◌≡◌, sym, ◌∙◌, ap}
+use Prim.Native.Nat.{◌-◌, ◌*◌}
+use mathlib.Core.Path.{◌≡◌, sym}
 use native.Mathlib.Omega.{arith}
 use lib.ListN.{length, replicate}
 use Rattle.std.proofs.Common.{rules}
 use Rattle.std.specs.Prelude.{Err}
-use Rattle.flow.specs.Verdict.{accepted}
-use Rattle.amend.specs.Withdraw.{totals_left}
 use Rattle.amend.proofs.FoundFacts.{found_facts}
 use Rattle.amend.proofs.Unchanged.{withdraw-found, the-only, withdrawal-made}
 use Rattle.amend.proofs.WithdrawnLemmas.{withdrawn_so}
@@ -29,10 +26,8 @@ slice_bounds-fill-start c = omega (arith, found_facts _ _ (sym c.in_ok-found.ens
 
 pub returns : goal.returns
 returns c =
-    let v = c.in_ok-found.found in
     let blanks : c.fill.new.self ≡ replicate (length c.recount.new.flow - 120 * c.as_index-left.result) 32 = search rules in
     let bytes =
     withdrawn_so (found_facts _ _ (sym c.in_ok-found.ensures)) c.as_index-at.ensures c.as_index.ensures c.as_index-left.ensures _ _ _ _
     c.copy_within.ensures.after c.renumber.ensures c.recount.ensures blanks in
-    ap (λ (l : List ℕ). record { answer = accepted (totals_left v); size = 120 * (totals_left v).records; bytes = l }) bytes
-    ∙ sym (withdrawal-made _ _ (sym c.in_ok-found.ensures) c.if-before-le1.false)
+    withdrawal-made _ _ (sym c.in_ok-found.ensures) c.if-before-le1.false _ bytes
