@@ -1,9 +1,8 @@
 -- `amend::renumber` meets its contract. Assumes nothing.
 use Prim.Native.Nat.{◌+◌}
 use mathlib.Core.Bool.{Bool, true, false, cond}
-use mathlib.Core.Path.{◌≡◌, refl, sym, ◌∙◌, ap}
+use mathlib.Core.Path.{◌≡◌, sym, ◌∙◌, ap}
 use native.Mathlib.Nat.{add-zero}
-use native.Mathlib.Omega.{arith}
 use Rattle.fields.specs.Digits.{digits}
 use Rattle.records.specs.Kinds.{is_opening}
 use Rattle.flow.specs.Records.{record_at}
@@ -11,9 +10,6 @@ use Rattle.flow.proofs.Cut.{record_part}
 use Rattle.amend.proofs.Renumbering.{number_at, renumbered_next, renumbered-all}
 use Rattle.amend.proofs.withdrawal.renumber.Goals as goal
 use Rattle.amend.proofs.withdrawal.renumber.Goals.{then-is_opening, else-is_opening}
-
-pub loop-i-init : goal.loop-i-init
-loop-i-init c = record { few = omega arith; says = c.seven_digits-shown.ensures; same = refl; left = refl }
 
 pub loop-i-preserved : goal.loop-i-preserved
 loop-i-preserved c =
@@ -27,9 +23,6 @@ loop-i-preserved c =
       | else-is_opening w ↦ (w.number-is ∙ sym (add-zero at.number) ∙ counted false w.if-is_opening.false, w.shown-is ∙ at.invariant.says ∙ ap (digits 7) (sym w.number-is))
     ] in
     renumbered_next at.invariant at.auto.i c.loop-i-test.true c.requires.to_in_bounds _ _ _ so.0 so.1 c.copy_from_slice.ensures.after
-
-pub shape_of-flow : goal.shape_of-flow
-shape_of-flow c = c.loop-i.invariant.same
 
 pub returns : goal.returns
 returns c = renumbered-all c.loop-i.invariant c.loop-i-test.false
