@@ -1,6 +1,6 @@
 -- Records that carry the same: the spans are compared one by one, and two records whose kinds are known carry the same exactly where their
 -- items are the same. Assumes nothing.
-use Prim.Native.Nat.{ℕ, ◌+◌, ◌<◌, ◌≤◌}
+use Prim.Native.Nat.{ℕ}
 use mathlib.Core.Bool.{Bool, true, false, ◌&&◌, and-eq-true_iff, false≢true}
 use mathlib.Core.List.{List, [], ◌∷◌, ◌++◌, flatten}
 use mathlib.Core.Logic.{◌↔◌}
@@ -22,31 +22,13 @@ use Rattle.grammar.specs.Rules.{Formed}
 use Rattle.list.specs.Items.{Item, item_bytes}
 use Rattle.list.specs.ReadBack.{gather}
 use Rattle.list.specs.Same.{is_same, are_same, is_alike, carries_same}
-use Rattle.list.specs.Table.{letter, record_of, carried, four_of, bounds_of}
+use Rattle.list.specs.Table.{letter, record_of, carried}
 use Rattle.list.specs.declared.table.ItemKind.{ItemKind}
 use Rattle.list.proofs.Carried.{span_length}
-use Rattle.list.proofs.ItemKinds.{each_item, letters-differ}
+use Rattle.list.proofs.ItemKinds.{letters-differ}
 use Rattle.list.proofs.RecordsAgain.{kind_for, record_for, own_item}
 use Rattle.list.proofs.Rewritten.{own_row}
-use Rattle.list.proofs.TableSpans.{Within, span_at, carried-within, four_next, four_end}
-
--- a span that is no position is alike in all records
-pub four_alike : (k : ItemKind) (rec other : List ℕ) → is_alike (carried k) rec other ≡ is_alike (four_of (carried k)) rec other
-unfolding is_alike is_equal
-four_alike k rec other = each_item (λ (k : ItemKind). is_alike (carried k) rec other ≡ is_alike (four_of (carried k)) rec other) (refl, (refl, (refl, (refl, (refl, (refl, (refl, (refl, (refl, (refl, (refl, tt))))))))))) k
-
--- for a loop over i: the span at i, then the others; and past the fourth none is left
-pub alike_next :
-    (k : ItemKind) (spans : List ℕ) (i : ℕ) (rec other : List ℕ) → spans ≡ bounds_of k → i < 4
-    → is_alike (drop i (four_of (carried k))) rec other ≡ (is_equal (field_at (span_at spans i) rec) (field_at (span_at spans i) other) && is_alike (drop (i + 1) (four_of (carried k))) rec other)
-unfolding is_alike
-alike_next k spans i rec other kept few =
-    let next : drop i (four_of (carried k)) ≡ span_at spans i ∷ drop (i + 1) (four_of (carried k)) = rw kept (four_next k i few) in
-    ap (λ (ss : List Span). is_alike ss rec other) next
-
-pub alike_end : (k : ItemKind) (i : ℕ) (rec other : List ℕ) → 4 ≤ i → is_alike (drop i (four_of (carried k))) rec other ≡ true
-unfolding is_alike
-alike_end k i rec other past = ap (λ (ss : List Span). is_alike ss rec other) (four_end k i past)
+use Rattle.list.proofs.TableSpans.{Within, carried-within}
 
 -- bytes one after the other are the same where their parts are
 is_equal-append : (xs ys us vs : List ℕ) → length xs ≡ length ys → is_equal (xs ++ us) (ys ++ vs) ≡ (is_equal xs ys && is_equal us vs)

@@ -1,19 +1,15 @@
--- What the bytes of a list say, item by item, as a loop goes that stands at the index of a kind byte. Assumes nothing.
-use Prim.Native.Nat.{ℕ, zero, suc, ◌+◌, ◌-◌, ◌≤◌, ◌<◌}
-use mathlib.Core.Bool.{Bool, true, false, cond}
+-- What the bytes of a list say, item by item. Assumes nothing.
+use Prim.Native.Nat.{ℕ, zero, suc, ◌+◌, ◌≤◌, ◌<◌}
 use mathlib.Core.List.{List, [], ◌∷◌}
 use mathlib.Core.Path.{◌≡◌, refl, sym, ◌∙◌, ap}
 use native.Mathlib.Omega.{arith}
-use lib.Dec.{leb}
-use lib.ListN.{length, drop, get_or, length-drop, drop_of_length-le}
-use lib.Seq.{drop-drop}
-use borrow.Author.Tests.{leb-true}
-use Rattle.sequences.specs.Part.{part}
-use Rattle.sequences.proofs.Drop.{drop_next}
-use Rattle.list.specs.Items.{Item, item, Parsed, items, faulty, with_item, items_from, item_count}
-use Rattle.list.specs.Table.{body_length, row_of, KindByte}
+use lib.ListN.{length, take, drop, take-append-drop}
+use borrow.Author.Tests.{le-leb, lt-leb}
+use Rattle.list.specs.Items.{Item, item, Parsed, items, faulty, with_item, items_from, item_count, FirstItem, NoFirst}
+use Rattle.list.specs.Table.{body_length, row_of}
 use Rattle.list.specs.declared.table.ItemKind.{ItemKind}
-use Rattle.std.specs.Prelude.{Option, Some, None, Result, Ok, Err}
+use Rattle.list.proofs.ItemKinds.{row-letter}
+use Rattle.std.specs.Prelude.{Some, None, Result, Ok, Err}
 
 -- the bytes of a body are passed over
 pub body_passed : (n s : ℕ) (bs : List ℕ) → items_from n s bs ≡ items_from n 0 (drop s bs)
@@ -22,24 +18,29 @@ body_passed n zero bs = refl
 body_passed n (suc s) [] = refl
 body_passed n (suc s) (b ∷ bs) = body_passed n s bs
 
--- for a loop over i: the item whose kind byte stands at i, then the rest; a fault where the table does not have the byte; and past the end
--- none is left
-pub items_next :
-    (list : List ℕ) (n i : ℕ) → i < length list → (k : ItemKind) → row_of (get_or list i 0) ≡ Some k
-    → items_from n 0 (drop i list)
-    ≡ cond (leb (body_length k) (length list - (i + 1)))
-    (with_item (item k (part (i + 1) (body_length k) list)) (items_from (suc n) 0 (drop (i + 1 + body_length k) list)))
-    (faulty (suc n))
+-- bytes begin with no item where there are none, where the table does not have the kind byte, and where the body is cut short
+pub empty_none : (list : List ℕ) → length list ≡ 0 → NoFirst list
 unfolding items_from
-items_next list n i h k row = rw (drop_next list i h, row, body_passed (suc n) (body_length k) (drop (i + 1) list), drop-drop, length-drop)
+empty_none [] e = record { said = λ n. refl }
+empty_none (b ∷ bs) e = absurd (omega arith)
 
-pub items-none : (list : List ℕ) (n i : ℕ) → i < length list → row_of (get_or list i 0) ≡ None → items_from n 0 (drop i list) ≡ faulty (suc n)
-unfolding items_from
-items-none list n i h row = rw (drop_next list i h, row)
+module _ (b : ℕ) (bs : List ℕ) where
+  pub unknown_none : row_of b ≡ None → NoFirst (b ∷ bs)
+  unfolding items_from
+  unknown_none row = record { said = λ n. rw row refl }
 
-pub items_end : (list : List ℕ) (n i : ℕ) → length list ≤ i → items_from n 0 (drop i list) ≡ items []
-unfolding items_from
-items_end list n i h = rw (drop_of_length-le list h)
+  pub short_none : (k : ItemKind) → row_of b ≡ Some k → length bs < body_length k → NoFirst (b ∷ bs)
+  unfolding items_from
+  short_none k row short = record { said = λ n. rw (row, lt-leb (body_length k) (length bs) short) refl }
+
+  -- and else with one
+  pub item_first : (k : ItemKind) → row_of b ≡ Some k → body_length k ≤ length bs → FirstItem (b ∷ bs) k (take (body_length k) bs) (drop (body_length k) bs)
+  unfolding items_from
+  item_first k row fits =
+      record {
+        said = λ n. rw (row, le-leb (body_length k) (length bs) fits, body_passed (suc n) (body_length k) bs) refl;
+        bytes = (λ i. sym (row-letter b k row) i ∷ sym (take-append-drop (body_length k) bs) i);
+      }
 
 -- the count of all, where so much is said after n items
 abbrev pub counted_from : ℕ → Parsed → Result ℕ ℕ
@@ -50,62 +51,37 @@ pub counted-all : (p : Parsed) → item_count p ≡ counted_from 0 p
 counted-all (items is) = let none : 0 + length is ≡ length is = omega arith in ap Ok (sym none)
 counted-all (faulty m) = refl
 
-pub counted_next :
-    (list : List ℕ) (n i : ℕ) → i < length list → (k : ItemKind) → row_of (get_or list i 0) ≡ Some k
-    → counted_from n (items_from n 0 (drop i list))
-    ≡ cond (leb (body_length k) (length list - (i + 1))) (counted_from (suc n) (items_from (suc n) 0 (drop (i + 1 + body_length k) list))) (Err (suc n))
-counted_next list n i h k row = ap (counted_from n) (items_next list n i h k row) ∙ by (leb (body_length k) (length list - (i + 1))) (items_from (suc n) 0 (drop (i + 1 + body_length k) list))
+pub counted_on : {list : List ℕ} {k : ItemKind} {body after : List ℕ} → FirstItem list k body after → (n : ℕ) → counted_from n (items_from n 0 list) ≡ counted_from (suc n) (items_from (suc n) 0 after)
+counted_on {k = k} {body = body} {after = after} first n = ap (counted_from n) (first.said n) ∙ by (items_from (suc n) 0 after)
   where
-    it : Item
-    it = item k (part (i + 1) (body_length k) list)
+    by : (rest : Parsed) → counted_from n (with_item (item k body) rest) ≡ counted_from (suc n) rest
+    by (items is) = let one : n + suc (length is) ≡ suc n + length is = omega arith in ap Ok one
+    by (faulty m) = refl
 
-    by : (fits : Bool) (rest : Parsed) → counted_from n (cond fits (with_item it rest) (faulty (suc n))) ≡ cond fits (counted_from (suc n) rest) (Err (suc n))
-    by true (items is) = let one : n + suc (length is) ≡ suc n + length is = omega arith in ap Ok one
-    by true (faulty m) = refl
-    by false rest = refl
+pub counted_end : (list : List ℕ) → NoFirst list → (n : ℕ) → length list ≡ 0 → counted_from n (items_from n 0 list) ≡ Ok n
+counted_end [] none n e = let all : n + 0 ≡ n = omega arith in ap (counted_from n) (none.said n) ∙ ap Ok all
+counted_end (b ∷ bs) none n e = absurd (omega arith)
 
-pub counted_none : (list : List ℕ) (n i : ℕ) → i < length list → row_of (get_or list i 0) ≡ None → counted_from n (items_from n 0 (drop i list)) ≡ Err (suc n)
-counted_none list n i h row = ap (counted_from n) (items-none list n i h row)
-
-pub counted_end : (list : List ℕ) (n i : ℕ) → length list ≤ i → counted_from n (items_from n 0 (drop i list)) ≡ Ok n
-counted_end list n i h = let all : n + 0 ≡ n = omega arith in ap (counted_from n) (items_end list n i h) ∙ ap Ok all
+pub counted_none : (list : List ℕ) → NoFirst list → (n : ℕ) → ¬ (length list ≡ 0) → counted_from n (items_from n 0 list) ≡ Err (suc n)
+counted_none [] none n e = absurd (e refl)
+counted_none (b ∷ bs) none n e = ap (counted_from n) (none.said n)
 
 pub items-not-faulty : {is : List Item} {n : ℕ} → items is ≡ faulty n → ⊥
 items-not-faulty e = let never : ◌≡◌ {A = ℕ} 0 1 = cc in omega arith
 
--- the table has the kind byte of the next item of a list, which stands at index i
-pub next_kind : (list : List ℕ) (n i : ℕ) (is : List Item) → items_from n 0 (drop i list) ≡ items is → i < length list → KindByte (get_or list i 0)
-next_kind list n i is e h = by (row_of (get_or list i 0)) refl
-  where
-    by : (row : Option ItemKind) → row_of (get_or list i 0) ≡ row → KindByte (get_or list i 0)
-    by (Some k) r = record { kind = k; row = r }
-    by None r = absurd (items-not-faulty (sym e ∙ items-none list n i h r))
-
--- that item, of the kind
-pub record Next (list : List ℕ) (n i : ℕ) (k : ItemKind) (is : List Item) : Type 0 where
-  pub ends : i + 1 + body_length k ≤ length list
+-- the first of the items that bytes say, and the others
+pub record Next (n : ℕ) (k : ItemKind) (body after : List ℕ) (is : List Item) : Type 0 where
   pub others : List Item
-  pub whole : is ≡ item k (part (i + 1) (body_length k) list) ∷ others
-  pub left : items_from (suc n) 0 (drop (i + 1 + body_length k) list) ≡ items others
+  pub whole : is ≡ item k body ∷ others
+  pub left : items_from (suc n) 0 after ≡ items others
 
-pub next_item :
-    (list : List ℕ) (n i : ℕ) (is : List Item) → items_from n 0 (drop i list) ≡ items is → i < length list → (k : ItemKind) → row_of (get_or list i 0) ≡ Some k
-    → Next list n i k is
-next_item list n i is e h k row = by (leb (body_length k) (length list - (i + 1))) refl (sym (items_next list n i h k row) ∙ e)
+pub next_item : {list : List ℕ} {k : ItemKind} {body after : List ℕ} → FirstItem list k body after → (n : ℕ) (is : List Item) → items_from n 0 list ≡ items is → Next n k body after is
+next_item {k = k} {body = body} {after = after} first n is e = by (items_from (suc n) 0 after) refl (sym (first.said n) ∙ e)
   where
-    it : Item
-    it = item k (part (i + 1) (body_length k) list)
+    by : (p : Parsed) → items_from (suc n) 0 after ≡ p → with_item (item k body) p ≡ items is → Next n k body after is
+    by (items others) b w = record { others = others; whole = cc; left = b }
+    by (faulty m) b w = absurd (items-not-faulty (sym w))
 
-    after : Parsed
-    after = items_from (suc n) 0 (drop (i + 1 + body_length k) list)
-
-    first : (p : Parsed) → after ≡ p → with_item it p ≡ items is → body_length k ≤ length list - (i + 1) → Next list n i k is
-    first (items others) b w fits = record { ends = omega arith; others = others; whole = cc; left = b }
-    first (faulty m) b w fits = absurd (items-not-faulty (sym w))
-
-    by : (fits : Bool) → leb (body_length k) (length list - (i + 1)) ≡ fits → cond fits (with_item it after) (faulty (suc n)) ≡ items is → Next list n i k is
-    by true f w = first after refl w (leb-true _ _ f)
-    by false f w = absurd (items-not-faulty (sym w))
-
-pub no_more : (list : List ℕ) (n i : ℕ) (is : List Item) → items_from n 0 (drop i list) ≡ items is → length list ≤ i → is ≡ []
-no_more list n i is e h = let none : items [] ≡ items is = sym (items_end list n i h) ∙ e in cc
+pub no_more : (list : List ℕ) → NoFirst list → (n : ℕ) (is : List Item) → items_from n 0 list ≡ items is → is ≡ []
+no_more [] none n is e = let same : items [] ≡ items is = sym (none.said n) ∙ e in cc
+no_more (b ∷ bs) none n is e = absurd (items-not-faulty (sym e ∙ none.said n))

@@ -1,21 +1,19 @@
--- The spans of the table as the code keeps them: four to a kind, each within the record. Assumes nothing.
-use Prim.Native.Nat.{ℕ, zero, suc, ◌+◌, ◌-◌, ◌*◌, ◌≤◌, ◌<◌}
+-- The spans of the table: each lies within the record, and after those before it. Assumes nothing.
+use Prim.Native.Nat.{ℕ, zero, suc, ◌+◌, ◌-◌, ◌≤◌, ◌<◌}
 use mathlib.Core.Bool.{Bool, true, false, ◌&&◌, and-eq-true_iff, true≢false}
-use mathlib.Core.List.{List, [], ◌∷◌, ◌++◌, map}
-use mathlib.Core.Path.{◌≡◌, refl, sym, ◌∙◌, subst}
+use mathlib.Core.List.{List, [], ◌∷◌, map}
+use mathlib.Core.Path.{◌≡◌, refl, ap}
 use native.Mathlib.Nat.{le_of_suc-le-suc, not-suc-le-zero}
+use native.Mathlib.Numerals.{add-one}
 use native.Mathlib.Numerals.{add-one}
 use native.Mathlib.Omega.{arith}
 use lib.Dec.{leb}
-use lib.ListN.{length, drop, get_or, replicate, drop_of_length-le}
-use lib.Seq.{drop-cons}
+use lib.ListN.{length, drop, get_or, length-map, drop_of_length-le}
 use borrow.Author.Tests.{leb-true}
 use Rattle.sequences.specs.All.{All}
-use Rattle.sequences.specs.Sum.{sum}
-use Rattle.sequences.proofs.All.{all_get_d}
-use Rattle.records.specs.Field.{Span, ◌to◌, first_of, last_of, width}
+use Rattle.records.specs.Field.{Span, ◌to◌, first_of, last_of}
 use Rattle.records.specs.Kinds.{heads}
-use Rattle.list.specs.Table.{record_of, carried, body_length, four_of, bounds, bounds_of}
+use Rattle.list.specs.Table.{record_of, carried, pair_of}
 use Rattle.list.specs.declared.table.ItemKind.{ItemKind}
 use Rattle.list.proofs.ItemKinds.{each_item}
 
@@ -47,59 +45,19 @@ all-within (s ∷ ss) t =
 pub carried-within : (k : ItemKind) → All Within (carried k)
 carried-within k = all-within (carried k) (each_item (λ (k : ItemKind). are_within (carried k) ≡ true) (refl, (refl, (refl, (refl, (refl, (refl, (refl, (refl, (refl, (refl, (refl, tt))))))))))) k)
 
--- each of the four spans of a kind
-pub four-within : (k : ItemKind) → All Within (four_of (carried k))
-four-within k = all-within (four_of (carried k)) (each_item (λ (k : ItemKind). are_within (four_of (carried k)) ≡ true) (refl, (refl, (refl, (refl, (refl, (refl, (refl, (refl, (refl, (refl, (refl, tt))))))))))) k)
-
-pub four-count : (k : ItemKind) → length (four_of (carried k)) ≡ 4
-four-count = each_item (λ (k : ItemKind). length (four_of (carried k)) ≡ 4) (refl, (refl, (refl, (refl, (refl, (refl, (refl, (refl, (refl, (refl, (refl, tt)))))))))))
-
--- the widths of the four are the body's length
-pub four_widths : (k : ItemKind) → sum (map width (four_of (carried k))) ≡ body_length k
-four_widths = each_item (λ (k : ItemKind). sum (map width (four_of (carried k))) ≡ body_length k) (refl, (refl, (refl, (refl, (refl, (refl, (refl, (refl, (refl, (refl, (refl, tt)))))))))))
-
--- the span at index i by its two numbers
-pub bounds_first : (ss : List Span) (i : ℕ) → i < length ss → get_or (bounds ss) (2 * i) 0 ≡ first_of (get_or ss i (1 to 0))
-bounds_first [] i h = absurd (not-suc-le-zero h)
-bounds_first ((a to e) ∷ ss) zero h = refl
-bounds_first ((a to e) ∷ ss) (suc i) h = let on : 2 * suc i ≡ suc (suc (2 * i)) = omega arith in rw on (bounds_first ss i (le_of_suc-le-suc h))
-
-pub bounds-last : (ss : List Span) (i : ℕ) → i < length ss → get_or (bounds ss) (2 * i + 1) 0 ≡ last_of (get_or ss i (1 to 0))
-bounds-last [] i h = absurd (not-suc-le-zero h)
-bounds-last ((a to e) ∷ ss) zero h = refl
-bounds-last ((a to e) ∷ ss) (suc i) h = let on : 2 * suc i + 1 ≡ suc (suc (2 * i + 1)) = omega arith in rw on (bounds-last ss i (le_of_suc-le-suc h))
-
--- the span at index i as the code keeps it
-abbrev pub span_at : List ℕ → ℕ → Span
-span_at bs i = get_or bs (2 * i) 0 to get_or bs (2 * i + 1) 0
-
--- is the one of the kind, and lies within the record
-span_at_lem : (k : ItemKind) (i : ℕ) → i < 4 → get_or (four_of (carried k)) i (1 to 0) ≡ span_at (bounds_of k) i
-span_at_lem k i h =
-    let ss = four_of (carried k) in
-    let counted : i < length ss = rw four-count h in
-    whole (get_or ss i (1 to 0)) ∙ (λ j. sym (bounds_first ss i counted) j to sym (bounds-last ss i counted) j)
+-- for a loop over the spans as the code has them: the span at index i, then the others; and past the last none is left
+pub span_next :
+    (ss : List Span) {ps : List (ℕ × ℕ)} (i : ℕ) → ps ≡ map pair_of ss → i < length ps
+    → drop i ss ≡ ((get_or ps i (0, 0)).0 to (get_or ps i (0, 0)).1) ∷ drop (i + 1) ss
+span_next ss i same h = rw (same, add-one i) (at ss i (rw same at h))
   where
-    whole : (s : Span) → s ≡ (first_of s to last_of s)
-    whole (a to e) = refl
+    at : (ss : List Span) (i : ℕ) → i < length (map pair_of ss) → drop i ss ≡ ((get_or (map pair_of ss) i (0, 0)).0 to (get_or (map pair_of ss) i (0, 0)).1) ∷ drop (suc i) ss
+    at [] i h = absurd (not-suc-le-zero h)
+    at ((a to e) ∷ ss) zero h = refl
+    at ((a to e) ∷ ss) (suc i) h = at ss i (le_of_suc-le-suc h)
 
-pub span_within : (k : ItemKind) (i : ℕ) → i < 4 → Within (span_at (bounds_of k) i)
-span_within k i h =
-    let counted : i < length (four_of (carried k)) = rw four-count h in
-    subst (λ (s : Span). Within s) (span_at_lem k i h) (all_get_d Within (four_of (carried k)) i (1 to 0) counted (four-within k))
-
--- the spans that are left from i on: this one and then the others, and none after the fourth
-pub four_next : (k : ItemKind) (i : ℕ) → i < 4 → drop i (four_of (carried k)) ≡ span_at (bounds_of k) i ∷ drop (i + 1) (four_of (carried k))
-four_next k i h =
-    let counted : i < length (four_of (carried k)) = rw four-count h in
-    drop-cons (four_of (carried k)) i (1 to 0) counted ∙ (λ j. span_at_lem k i h j ∷ drop (sym (add-one i) j) (four_of (carried k)))
-
-pub four_end : (k : ItemKind) (i : ℕ) → 4 ≤ i → drop i (four_of (carried k)) ≡ []
-four_end k i h = let counted : length (four_of (carried k)) ≤ i = rw four-count h in drop_of_length-le (four_of (carried k)) counted
-
--- the four are the carried positions, and then spans of none
-pub four_padded : (k : ItemKind) → four_of (carried k) ≡ carried k ++ replicate (4 - length (carried k)) (1 to 0)
-four_padded = each_item (λ (k : ItemKind). four_of (carried k) ≡ carried k ++ replicate (4 - length (carried k)) (1 to 0)) (refl, (refl, (refl, (refl, (refl, (refl, (refl, (refl, (refl, (refl, (refl, tt)))))))))))
+pub span_end : (ss : List Span) {ps : List (ℕ × ℕ)} (i : ℕ) → ps ≡ map pair_of ss → length ps ≤ i → drop i ss ≡ []
+span_end ss i same h = let past : length ss ≤ i = omega (arith, ap length same, length-map ss pair_of) in drop_of_length-le ss past
 
 -- spans one after the other
 abbrev pub Rising : List Span → Type 0

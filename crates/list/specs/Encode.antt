@@ -64,8 +64,11 @@ pub record HeaderMeant : Type 0 where
   pub kind : FlowKind
   pub body : List ℕ
 
+abbrev pub header_meant : FlowKind → List ℕ → HeaderMeant
+header_meant q body = record { kind = q; body = body }
+
 abbrev pub no_header : HeaderMeant
-no_header = record { kind = Requests; body = [] }
+no_header = header_meant Requests []
 
 -- the record of an item, with the seven digits of its number and the header meant
 abbrev pub encode_with : List ℕ → HeaderMeant → Item → List ℕ

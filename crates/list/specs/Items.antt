@@ -1,5 +1,5 @@
 -- A request list: items of one byte of kind and a body whose length the kind fixes (document 01, "Our request list"). Assumes nothing.
-use Rattle.std.specs.Prelude.{Result, Ok, Err, ℕ, zero, suc, ◌≤◌, Bool, cond, ◌≡◌, leb, length, take}
+use Rattle.std.specs.Prelude.{Result, Ok, Err, ◌++◌, ℕ, zero, suc, ◌≤◌, Bool, cond, ◌≡◌, leb, length, take}
 use mathlib.Core.List.{List, [], ◌∷◌, map, flatten}
 use Rattle.records.specs.Kinds.{opens}
 use Rattle.records.specs.Limits.{most_records}
@@ -62,7 +62,8 @@ items_or (faulty n) = []
 abbrev pub items_in : List ℕ → List Item
 items_in list = items_or (parse list)
 
--- for the contracts of private functions: how many items there are; and bytes that are a list of no more items than a flow has room for
+-- for the contracts of private functions: how many items there are; bytes that are a list of no more items than a flow has room for; and the
+-- item that bytes begin with, or none
 abbrev pub item_count : Parsed → Result ℕ ℕ
 item_count (items is) = Ok (length is)
 item_count (faulty n) = Err n
@@ -70,3 +71,14 @@ item_count (faulty n) = Err n
 pub record Listed (list : List ℕ) : Type 0 where
   pub said : parse list ≡ items (items_in list)
   pub few : suc (length (items_in list)) ≤ most_records
+
+pub record FirstItem (list : List ℕ) (k : ItemKind) (body after : List ℕ) : Type 0 where
+  pub said : (n : ℕ) → items_from n 0 list ≡ with_item (item k body) (items_from (suc n) 0 after)
+  pub bytes : list ≡ letter k ∷ (body ++ after)
+
+abbrev pub none_said : ℕ → List ℕ → Parsed
+none_said n [] = items []
+none_said n (b ∷ bs) = faulty (suc n)
+
+pub record NoFirst (list : List ℕ) : Type 0 where
+  pub said : (n : ℕ) → items_from n 0 list ≡ none_said n list

@@ -1,6 +1,6 @@
 -- Document 01's table of kinds ("Our request list"), with the Q of document 02, E1: for each kind of item its kind byte, its record and the
 -- positions that its body carries. Writing and reading back both go by it. Assumes nothing.
-use Rattle.std.specs.Prelude.{ℕ, Bool, cond, List, [], ◌∷◌, ◌++◌, map, ◌≡◌, eqb, take}
+use Rattle.std.specs.Prelude.{ℕ, Bool, cond, List, [], ◌∷◌, map, eqb}
 use Rattle.sequences.specs.Sum.{sum}
 use Rattle.sequences.specs.Text.{byte}
 use Rattle.records.specs.Field.{Span, ◌to◌, width}
@@ -68,17 +68,12 @@ carried Z = (94 to 94) ∷ (96 to 120) ∷ []
 abbrev pub body_length : ItemKind → ℕ
 body_length k = sum (map width (carried k))
 
--- for the contracts of private functions: the spans as the code keeps them, four, each by its first and its last position, and 1 to 0,
--- which is no position, where there are fewer
-abbrev pub four_of : List Span → List Span
-four_of ss = take 4 (ss ++ ((1 to 0) ∷ (1 to 0) ∷ (1 to 0) ∷ (1 to 0) ∷ []))
+-- for the contract of a private function: the spans as the code has them, each by its first and its last position
+abbrev pub pair_of : Span → ℕ × ℕ
+pair_of (a to e) = (a, e)
 
-abbrev pub bounds : List Span → List ℕ
-bounds [] = []
-bounds ((a to e) ∷ ss) = a ∷ e ∷ bounds ss
-
-abbrev pub bounds_of : ItemKind → List ℕ
-bounds_of k = bounds (four_of (carried k))
+abbrev pub carried_pairs : ItemKind → List (ℕ × ℕ)
+carried_pairs k = map pair_of (carried k)
 
 -- the first row that passes a test, where one does
 unfoldable pub first_row : (ItemKind → Bool) → List ItemKind → Option ItemKind
@@ -96,8 +91,3 @@ row_in q rec = first_row (λ (k : ItemKind). has_type (record_of k) rec) (rows_o
 abbrev pub with_row : {T : Type 0} → Option ItemKind → (ItemKind → T) → T → T
 with_row (Some k) some none = some k
 with_row None some none = none
-
--- for the contract of a private function: the table has the kind byte
-pub record KindByte (byte : ℕ) : Type 0 where
-  pub kind : ItemKind
-  pub row : row_of byte ≡ Some kind

@@ -6,10 +6,11 @@
 // refused call changes no byte, and an accepted one none beyond the length that it answers.
 #![tactic(auto)]
 
-mod count;
 mod encode;
 mod filled;
+mod item;
 mod limits;
+mod meant;
 mod own_list;
 mod same;
 mod table;

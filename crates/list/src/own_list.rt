@@ -9,8 +9,9 @@ ghost use Rattle.list.specs.ReadBack.{gather, item_of, item_length, list_of, rea
 ghost use Rattle.list.specs.Table.{body_length, row_in};
 ghost use Rattle.list.specs.Table.{carried as Table-carried};
 
+use crate::encode::place;
 use crate::filled::Filled;
-use crate::table::{ItemKind, body_length, carried, letter, row_in, width};
+use crate::table::{ItemKind, row_in};
 use flow::Refusal;
 use records::{FlowKind, field};
 use refusals::Reason;
@@ -52,7 +53,7 @@ fn item_length(row: Option<ItemKind>) -> usize
     ensures { result ≡ item_length row }
 {
     match row {
-        Some(kind) => 1 + body_length(kind),
+        Some(kind) => 1 + kind.body_length(),
         None => 0,
     }
 }
@@ -82,8 +83,8 @@ fn store_item(rec: &[u8], flow: FlowKind, out: &mut [u8], at: usize) -> usize
     let Some(kind) = row_in(rec, flow) else {
         return at;
     };
-    out[at] = letter(kind);
-    let end = at + 1 + body_length(kind);
+    out[at] = kind.letter();
+    let end = at + 1 + kind.body_length();
     store_body(rec, kind, &mut out[at + 1..end]);
     end
 }
@@ -94,16 +95,10 @@ fn store_body(rec: &[u8], kind: ItemKind, out: &mut [u8])
     requires out_len { length out.old ≡ body_length kind }
     ensures { out.new ≡ gather (Table-carried kind) rec.now }
 {
-    let spans = carried(kind);
     let mut from = 0;
-    let mut i = 0;
-    while i < 4 {
-        let first = spans[2 * i];
-        let last = spans[2 * i + 1];
-        let n = width(first, last);
-        let bytes = field(rec, first, last);
-        out[from..from + n].copy_from_slice(bytes);
-        from += n;
-        i += 1;
+    for (first, last) in kind.carried() {
+        let bytes = field(rec, *first, *last);
+        place(out, from + 1, bytes);
+        from += bytes.len();
     }
 }

@@ -3,7 +3,7 @@ ghost use Rattle.std.specs.Prelude.{◌≡◌};
 ghost use Rattle.list.specs.Same.{is_alike, carries_same};
 ghost use Rattle.list.specs.Table.{carried as Table-carried};
 
-use crate::table::{ItemKind, carried, record_of, row_in};
+use crate::table::{ItemKind, row_in};
 use records::{FlowKind, field};
 
 // Whether two records of flows of the kind have one type of the table and the same bytes at every position
@@ -14,25 +14,15 @@ pub fn carries_same(rec: &[u8], other: &[u8], flow: FlowKind) -> bool
     let Some(kind) = row_in(rec, flow) else {
         return false;
     };
-    if !records::has_type(other, record_of(kind)) {
-        return false;
-    }
-    alike(rec, other, kind)
+    records::has_type(other, kind.record()) && alike(rec, other, kind)
 }
 
 // Whether they have the same bytes at the positions that the kind carries.
 fn alike(rec: &[u8], other: &[u8], kind: ItemKind) -> bool
     ensures { result ≡ is_alike (Table-carried kind) rec.now other.now }
 {
-    let spans = carried(kind);
-    let mut i = 0;
-    while i < 4 {
-        let first = spans[2 * i];
-        let last = spans[2 * i + 1];
-        if !fields::equal(field(rec, first, last), field(other, first, last)) {
-            return false;
-        }
-        i += 1;
-    }
-    true
+    kind.carried().iter().all(|(first, last)| fields::equal(
+        field(rec, *first, *last),
+        field(other, *first, *last),
+    ))
 }

@@ -17,13 +17,13 @@ ghost use Rattle.list.specs.Table.{record_of};
 ghost use Rattle.list.specs.Write.{closed, judge_items, judge_list};
 ghost use Rattle.list.specs.Write.{write as Write-write};
 
-use crate::count::count_items;
 use crate::encode::{encode_item, encode_trailer, place};
 use crate::filled::Filled;
+use crate::item::{Item, count_items, first_item};
 use crate::limits::MOST_ITEMS;
-use crate::table::{ItemKind, body_length, kind_of, record_of};
+use crate::meant::{Meant, header_after};
 use flow::{Refusal, Totals, Walk};
-use records::{FlowKind, MOST_CENTS, field};
+use records::{MOST_CENTS, field};
 use refusals::Reason;
 
 // Writes the flow that the list encodes at the front of out, and answers its totals and its length.
@@ -68,23 +68,12 @@ fn judge_items(list: &[u8]) -> Result<Totals, Refusal>
     requires { Listed list.now }
     ensures { verdict result ≡ judge_items (items_in list.now) }
 {
-    if list.len() == 0 {
+    let Some(first) = first_item(list) else {
         return close(Walk::start(), 0);
-    }
-    let header = first_record(list);
+    };
+    let meant = Meant::start().counting(first.kind);
+    let header = encode_item(first, meant, &[]);
     judge_records(list, &header)
-}
-
-// The record of the first item.
-fn first_record(list: &[u8]) -> [u8; 120]
-    requires listed { Listed list.now }
-    requires list_nonzero { 0 < length list.now }
-    ensures { result ≡ take 120 (flatten (records_for (items_in list.now))) }
-{
-    let kind = kind_of(list[0]);
-    let body = &list[1..1 + body_length(kind)];
-    let number = records::seven_digits(dispositions_with(0, kind));
-    encode_item(kind, &number, FlowKind::Requests, &list[0..0], body)
 }
 
 // Each record in turn, built and judged, with the flow's header.
@@ -95,20 +84,14 @@ fn judge_records(list: &[u8], im: &[u8]) -> Result<Totals, Refusal>
         start [] 0 (records_for (items_in list.now)) }
 {
     let mut walk = Walk::start();
-    let mut company = &list[0..0];
-    let mut meant = FlowKind::Requests;
-    let mut header = &list[0..0];
-    let mut dispositions: u64 = 0;
-    let mut shown = records::seven_digits(0);
+    let mut company: &[u8] = &[];
+    let mut meant = Meant::start();
+    let mut header: &[u8] = &[];
     let mut n: u64 = 0;
-    let mut at = 0;
-    while at < list.len() {
-        let kind = kind_of(list[at]);
-        let end = at + 1 + body_length(kind);
-        let body = &list[at + 1..end];
-        dispositions = dispositions_with(dispositions, kind);
-        shown = shown_with(shown, dispositions, kind);
-        let rec = encode_item(kind, &shown, meant, header, body);
+    let mut rest = list;
+    while let Some(it) = first_item(rest) {
+        let own = meant.counting(it.kind);
+        let rec = encode_item(it, own, header);
         n += 1;
         match walk.judge(&rec, n, im, company) {
             Err(fault) => {
@@ -119,79 +102,27 @@ fn judge_records(list: &[u8], im: &[u8]) -> Result<Totals, Refusal>
                 });
             }
             Ok(right) => {
-                let first_company = company_after(company, body, kind);
-                company = first_company;
+                company = company_after(company, it);
                 walk = walk.next(right, &rec);
             }
         }
-        meant = kind_meant(meant, kind);
-        let latest_header = body_meant(header, body, kind);
-        header = latest_header;
-        at = end;
+        meant = own.after(it.kind);
+        header = header_after(header, it);
+        rest = it.after;
     }
     close(walk, n)
 }
 
-// The dispositions up to and with an item of the kind.
-fn dispositions_with(dispositions: u64, kind: ItemKind) -> u64
-    requires { dispositions < count_limit }
-    ensures { result ≡ dispositions + opened (record_of kind) }
+// The company code of the first 14, after an item: 92-96 of a 14 as its D carries them, since the record
+// itself does not outlive its turn. Of any other item the body is not looked at.
+fn company_after<'a>(company: &'a [u8], it: Item<'a>) -> &'a [u8]
+    ensures { result.now ≡ first_company company.now (record_of it.entry.kind) (Field-field 37 41 it.entry.body.now) }
 {
-    if records::opens(record_of(kind)) {
-        return dispositions + 1;
-    }
-    dispositions
-}
-
-// The seven digits of that number, made anew only where a disposition opens.
-fn shown_with(shown: [u8; 7], dispositions: u64, kind: ItemKind) -> [u8; 7]
-    requires { opens (record_of kind) ≡ false → shown ≡ digits 7 dispositions }
-    ensures { result ≡ digits 7 dispositions }
-{
-    if records::opens(record_of(kind)) {
-        return records::seven_digits(dispositions);
-    }
-    shown
-}
-
-// The company code of the first 14, after an item of the kind: 92-96 of a 14 as its D carries them, since
-// the record itself does not outlive its turn. Of any other item the body is not looked at.
-fn company_after<'a>(company: &'a [u8], body: &'a [u8], kind: ItemKind) -> &'a [u8]
-    ensures { result.now ≡ first_company company.now (record_of kind) (Field-field 37 41 body.now) }
-{
-    let record = record_of(kind);
+    let record = it.kind.record();
     if !records::opens(record) {
         return company;
     }
-    flow::first_company(company, field(body, 37, 41), record)
-}
-
-// The kind of flow meant by what comes after an item: its own where it is an H or a Q.
-fn kind_meant(flow: FlowKind, kind: ItemKind) -> FlowKind
-    ensures { result ≡ kind_meant flow kind }
-{
-    match kind {
-        ItemKind::H(own) => own,
-        ItemKind::D => flow,
-        ItemKind::S => flow,
-        ItemKind::C => flow,
-        ItemKind::B => flow,
-        ItemKind::A => flow,
-        ItemKind::R => flow,
-        ItemKind::X => flow,
-        ItemKind::K => flow,
-        ItemKind::Z => flow,
-    }
-}
-
-// The body of the header meant by what comes after an item: its own where it is an H or a Q.
-fn body_meant<'a>(header: &'a [u8], body: &'a [u8], kind: ItemKind) -> &'a [u8]
-    ensures { result.now ≡ cond (heads (record_of kind)) body.now header.now }
-{
-    if records::heads(record_of(kind)) {
-        return body;
-    }
-    header
+    flow::first_company(company, field(it.body, 37, 41), record)
 }
 
 // The answer after the last of n records, where EF is due.
@@ -219,25 +150,18 @@ fn store_items(list: &[u8], out: &mut [u8], totals: Totals)
     requires totals_value { totals ≡ list_totals (items_in list.now) }
     ensures { out.new ≡ put 0 (encode (items_in list.now)) out.old }
 {
-    let mut meant = FlowKind::Requests;
-    let mut header = &list[0..0];
-    let mut dispositions: u64 = 0;
-    let mut shown = records::seven_digits(0);
+    let mut meant = Meant::start();
+    let mut header: &[u8] = &[];
     let mut n = 0;
-    let mut at = 0;
-    while at < list.len() {
-        let kind = kind_of(list[at]);
-        let end = at + 1 + body_length(kind);
-        let body = &list[at + 1..end];
-        dispositions = dispositions_with(dispositions, kind);
-        shown = shown_with(shown, dispositions, kind);
-        let rec = encode_item(kind, &shown, meant, header, body);
+    let mut rest = list;
+    while let Some(it) = first_item(rest) {
+        let own = meant.counting(it.kind);
+        let rec = encode_item(it, own, header);
         place(out, 120 * n + 1, &rec);
-        meant = kind_meant(meant, kind);
-        let latest_header = body_meant(header, body, kind);
-        header = latest_header;
+        meant = own.after(it.kind);
+        header = header_after(header, it);
         n += 1;
-        at = end;
+        rest = it.after;
     }
     let trailer = encode_trailer(header, totals);
     place(out, 120 * n + 1, &trailer);

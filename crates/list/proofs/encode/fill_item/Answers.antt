@@ -8,9 +8,8 @@ use Rattle.list.proofs.encode.fill_item.Goals as goal
 
 pub returns : goal.returns
 returns c =
-    let own = c.record_of-own in
-    let args = c.args in
-    let kind = args.kind in
-    let all : Fills (place 2 (type_of own.result) ∷ (supplied (role own.result) args.flow args.number.now args.abi.now ++ body_placed (carried kind) args.body.now)) args.rec.now c.place_body.new.rec =
+    let own = c.record-own in
+    let it = c.args.it in
+    let all : Fills (place 2 (type_of own.result) ∷ (supplied (role own.result) c.args.meant.flow c.args.meant.number c.args.abi.now ++ body_placed (carried it.kind) it.body.now)) c.args.rec.now c.place_body.new.rec =
     fills_place c.place.ensures c.type_of-code.ensures (fills_both (record { done = c.supply.ensures }) (record { done = c.place_body.ensures })) in
     rw own.ensures at all.done

@@ -2,11 +2,10 @@
 use Prim.Native.Nat.{ℕ}
 use mathlib.Core.List.{List, [], ◌∷◌}
 use mathlib.Core.Path.{◌≡◌, refl, sym, ◌∙◌, ap}
-use mathlib.Core.Logic.{◌⊎◌, inl, inr}
 use Rattle.records.specs.Kinds.{Heads, Opens, Closes, role}
 use Rattle.records.specs.declared.flow_kind.FlowKind.{FlowKind}
 use Rattle.records.specs.declared.kind.RecordKind.{RecordKind}
-use Rattle.records.specs.declared.kind.RecordKind.TheVariants.{R16, R20, R30, R40, R50, R59, R51, R70}
+use Rattle.records.specs.declared.kind.RecordKind.TheVariants.{Im, R14, R16, R20, R30, R40, R50, R59, R51, R70, Ef}
 use Rattle.list.specs.Encode.{Placed, place, fill, supplied}
 use Rattle.list.proofs.Filling.{Fills, fills_none, fills_place}
 use Rattle.list.proofs.encode.supply.Goals as goal
@@ -37,29 +36,22 @@ returns-in-Ef c =
 
 -- every other kind has its number alone
 numbered :
-    (q : FlowKind) (number abi : List ℕ) {k : RecordKind} →
-    (k ≡ R16) ⊎ ((k ≡ R20) ⊎ ((k ≡ R30) ⊎ ((k ≡ R40) ⊎ ((k ≡ R50) ⊎ ((k ≡ R59) ⊎ ((k ≡ R51) ⊎ (k ≡ R70))))))) →
-    supplied (role k) q number abi ≡ place 4 number ∷ []
-numbered q number abi {k} other = by other
-  where
-    same : (l : RecordKind) → k ≡ l → supplied (role k) q number abi ≡ supplied (role l) q number abi
-    same l e = ap (λ (kind : RecordKind). supplied (role kind) q number abi) e
+    (q : FlowKind) (number abi : List ℕ) (k : RecordKind) → ¬ (k ≡ Im) → ¬ (k ≡ R14) → ¬ (k ≡ Ef) → place 4 number ∷ [] ≡ supplied (role k) q number abi
+numbered q number abi Im im r14 ef = absurd (im refl)
+numbered q number abi R14 im r14 ef = absurd (r14 refl)
+numbered q number abi R16 im r14 ef = refl
+numbered q number abi R20 im r14 ef = refl
+numbered q number abi R30 im r14 ef = refl
+numbered q number abi R40 im r14 ef = refl
+numbered q number abi R50 im r14 ef = refl
+numbered q number abi R59 im r14 ef = refl
+numbered q number abi R51 im r14 ef = refl
+numbered q number abi R70 im r14 ef = refl
+numbered q number abi Ef im r14 ef = absurd (ef refl)
 
-    by :
-        (k ≡ R16) ⊎ ((k ≡ R20) ⊎ ((k ≡ R30) ⊎ ((k ≡ R40) ⊎ ((k ≡ R50) ⊎ ((k ≡ R59) ⊎ ((k ≡ R51) ⊎ (k ≡ R70))))))) →
-        supplied (role k) q number abi ≡ place 4 number ∷ []
-    by (inl e) = same R16 e
-    by (inr (inl e)) = same R20 e
-    by (inr (inr (inl e))) = same R30 e
-    by (inr (inr (inr (inl e)))) = same R40 e
-    by (inr (inr (inr (inr (inl e))))) = same R50 e
-    by (inr (inr (inr (inr (inr (inl e)))))) = same R59 e
-    by (inr (inr (inr (inr (inr (inr (inl e))))))) = same R51 e
-    by (inr (inr (inr (inr (inr (inr (inr e))))))) = same R70 e
-
-pub returns-in-R16 : goal.returns-in-R16
-returns-in-R16 c =
+pub returns-in_default : goal.returns-in_default
+returns-in_default c =
     let number = c.args.number.now in
     let rec = c.args.rec.now in
-    let all : Fills (place 4 number ∷ []) rec c.place-in-R16.new.out = fills_place c.place-in-R16.ensures refl fills_none in
-    all.done ∙ ap (λ (ps : List Placed). fill ps rec) (sym (numbered c.args.flow number c.args.abi.now c.in-R16.is))
+    let all : Fills (place 4 number ∷ []) rec c.place-in_default.new.out = fills_place c.place-in_default.ensures refl fills_none in
+    all.done ∙ ap (λ (ps : List Placed). fill ps rec) (numbered c.args.flow number c.args.abi.now c.args.kind c.in_default.not-Im c.in_default.not-R14 c.in_default.not-Ef)
