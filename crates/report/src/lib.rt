@@ -4,19 +4,19 @@
 // the call with its error.
 #![tactic(auto)]
 
-use flow::{Answer, Refusal};
+use flow::{Refusal, Totals};
 use records::FlowKind;
 use std::{fmt, io};
 
 // What is printed of an answer: `accepted dispositions 2 cents 83050 records 16 kind requests`, or of a
 // refusal what `Refused` has.
 #[derive(Clone, Copy)]
-pub struct Told(pub Answer);
+pub struct Told(pub Result<Totals, Refusal>);
 
 impl fmt::Display for Told {
     fn fmt<W: fmt::Write>(&self, f: &mut fmt::Formatter<W>) -> fmt::Result {
         match self.0 {
-            Answer::Accepted(totals) => write!(
+            Ok(totals) => write!(
                 f,
                 "accepted dispositions {} cents {} records {} kind {}",
                 totals.dispositions,
@@ -24,7 +24,7 @@ impl fmt::Display for Told {
                 totals.records,
                 word(totals.kind)
             ),
-            Answer::Refused(refusal) => write!(f, "{}", Refused(refusal)),
+            Err(refusal) => write!(f, "{}", Refused(refusal)),
         }
     }
 }
@@ -43,10 +43,11 @@ pub struct Refused(pub Refusal);
 impl fmt::Display for Refused {
     fn fmt<W: fmt::Write>(&self, f: &mut fmt::Formatter<W>) -> fmt::Result {
         let Refusal {
-            number,
+            reason,
             record,
             position,
         } = self.0;
+        let number = reason.number();
         write!(f, "refused {number} record {record} position {position}")
     }
 }
