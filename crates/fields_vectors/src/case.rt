@@ -1,19 +1,24 @@
 // The line that each kind of case is answered by.
-use fields::{Date, Number};
+use fields::Day;
+use refusals::Reason;
 use std::io;
 
-pub(crate) fn number(rt: &impl Print, answer: Number) -> io::Result<()> {
+pub(crate) fn number(rt: &impl Print, answer: Result<u64, Reason>) -> io::Result<()> {
     match answer {
-        Number::Value(v) => println!(rt; "value {v}"),
-        Number::Refused(n) => println!(rt; "refused {n}"),
+        Ok(value) => println!(rt; "value {value}"),
+        Err(reason) => refused(rt, reason),
     }
 }
 
-pub(crate) fn date(rt: &impl Print, answer: Date) -> io::Result<()> {
+pub(crate) fn date(rt: &impl Print, answer: Result<Day, Reason>) -> io::Result<()> {
     match answer {
-        Date::On { day, month, year } => println!(rt; "day {day} month {month} year {year}"),
-        Date::Refused(n) => println!(rt; "refused {n}"),
+        Ok(Day { day, month, year }) => println!(rt; "day {day} month {month} year {year}"),
+        Err(reason) => refused(rt, reason),
     }
+}
+
+fn refused(rt: &impl Print, reason: Reason) -> io::Result<()> {
+    println!(rt; "refused {}", reason.number())
 }
 
 pub(crate) fn flag(rt: &impl Print, answer: bool) -> io::Result<()> {
@@ -49,24 +54,21 @@ pub(crate) fn compared(rt: &impl Print, bytes: &[u8]) -> io::Result<()> {
 // How the date rule answers all strings of six digits.
 pub(crate) fn six_digits(rt: &impl Print) -> io::Result<()> {
     let dates = count(None);
-    let no_days = count(Some(8));
-    let no_digits = count(Some(5));
+    let no_days = count(Some(Reason::NoSuchDay));
+    let no_digits = count(Some(Reason::NotDigits));
     println!(rt; "six digits: dates {dates} refused-8 {no_days} refused-5 {no_digits}")
 }
 
-// How many of the strings of six digits the date rule refuses by that number, or accepts.
-fn count(number: Option<u64>) -> usize {
-    (0..1_000_000).filter(|n| refusal(*n) == number).count()
+// How many of the strings of six digits the date rule refuses for that reason, or accepts.
+fn count(reason: Option<Reason>) -> usize {
+    (0..1_000_000).filter(|n| refusal(*n) == reason).count()
 }
 
-// What the date rule refuses the six digits of n by.
-fn refusal(n: u64) -> Option<u64> {
+// Why the date rule refuses the six digits of n.
+fn refusal(n: u64) -> Option<Reason> {
     let mut text = [0; 6];
     fields::write_digits(&mut text, n);
-    match fields::read_date(&text) {
-        Date::On { .. } => None,
-        Date::Refused(number) => Some(number),
-    }
+    fields::read_date(&text).err()
 }
 
 // The number that the bytes give, the highest first; of more than eight, the last eight.
