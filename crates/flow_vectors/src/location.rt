@@ -1,5 +1,4 @@
 // The line that says where a disposition is.
-use flow::Found;
 use report::{Refused, print_start};
 use std::io;
 
@@ -9,7 +8,7 @@ pub(crate) fn print(rt: &impl Print, bytes: &[u8], k: u64) -> io::Result<()> {
     let part = flow::disposition(bytes, k);
     let size = part.len();
     match flow::find(bytes, k) {
-        Found::At(location) => {
+        Ok(location) => {
             let first = location.first;
             let records = location.records;
             let cents = location.cents;
@@ -18,7 +17,7 @@ pub(crate) fn print(rt: &impl Print, bytes: &[u8], k: u64) -> io::Result<()> {
             print_start(rt, last_record(part))?;
             println!(rt)
         }
-        Found::Refused(refusal) => println!(rt; "{} part {size}", Refused(refusal)),
+        Err(refusal) => println!(rt; "{} part {size}", Refused(refusal)),
     }
 }
 
