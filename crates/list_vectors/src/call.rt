@@ -1,5 +1,6 @@
 // A call that fills an output, and the line that tells what it did.
 use crate::output;
+use flow::Refusal;
 use list::Filled;
 use std::io;
 use vector_memory::{least, mark, marks_end};
@@ -12,7 +13,7 @@ pub(crate) enum Way {
 }
 
 impl Way {
-    pub(crate) fn fill(self, given: &[u8], out: &mut [u8]) -> Filled {
+    pub(crate) fn fill(self, given: &[u8], out: &mut [u8]) -> Result<Filled, Refusal> {
         match self {
             Way::Written => list::write(given, out),
             Way::ReadBack => list::read_back(given, out),

@@ -1,6 +1,6 @@
 // A list to a flow and back, or a flow to its list and back.
 use crate::call::Way;
-use flow::{Answer, Refusal};
+use flow::Refusal;
 use report::Refused;
 use std::io;
 use vector_memory::{least, mark};
@@ -42,11 +42,7 @@ fn lengths(
 // The length of a call with all of `out` for its output, which holds nothing of an earlier call.
 fn fill_marked(way: Way, given: &[u8], out: &mut [u8]) -> Result<u64, Refusal> {
     mark(out, 0);
-    let filled = way.fill(given, out);
-    match filled.answer {
-        Answer::Accepted(_) => Ok(filled.length),
-        Answer::Refused(refusal) => Err(refusal),
-    }
+    way.fill(given, out).map(|filled| filled.length)
 }
 
 fn compared(rt: &impl Print, a: &[u8], b: &[u8]) -> io::Result<()> {
