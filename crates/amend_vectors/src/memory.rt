@@ -49,12 +49,15 @@ impl Memory {
         print!(rt; "{} ", Told(answer))
     }
 
-    // Writes the returned length too. A length above the flow's counts as the flow's.
+    // Writes the length of the flow left too, which where it is refused is that of the flow. A length
+    // above the flow's counts as the flow's.
     pub(crate) fn withdraw(&mut self, rt: &impl Print, text: &[u8]) -> io::Result<()> {
         let (flow, _) = self.space.split_at_mut(self.left);
-        let withdrawn = amend::withdraw(flow, decimal(text));
-        self.left = least(withdrawn.length, self.left);
-        print!(rt; "{} length {} ", Told(withdrawn.answer), withdrawn.length)
+        let answer = amend::withdraw(flow, decimal(text));
+        let length = answer.map_or(self.left as u64, |withdrawn| withdrawn.length);
+        self.left = least(length, self.left);
+        let told = Told(answer.map(|withdrawn| withdrawn.totals));
+        print!(rt; "{told} length {length} ")
     }
 
     // `reads accepted dispositions 1 cents 38050 records 9 list 643 adler 5 flow 1080 adler 7 blank 840
@@ -63,10 +66,10 @@ impl Memory {
     pub(crate) fn tell(&mut self, rt: &impl Print) -> io::Result<()> {
         let flow = &self.space[..self.left];
         print!(rt; "reads {}", Told(flow::read(flow)))?;
-        let filled = list::read_back(flow, &mut self.list);
-        // A length above the output's counts as the output's.
-        let n = least(filled.length, self.list.len());
-        print!(rt; " list {} adler {}", filled.length, adler(&self.list[..n]))?;
+        // A refused call has written no byte. A length above the output's counts as the output's.
+        let length = list::read_back(flow, &mut self.list).map_or(0, |filled| filled.length);
+        let n = least(length, self.list.len());
+        print!(rt; " list {length} adler {}", adler(&self.list[..n]))?;
         print!(rt; " flow {} adler {}", flow.len(), adler(flow))?;
         let first = &self.space[..self.first];
         let other = (self.left..first.len()).find(|i| first[*i] != b' ');
