@@ -68,6 +68,7 @@ exporting && /;$/ {
     name = $3
     sub(/[^A-Za-z0-9_].*/, "", name)
     at[crate "::" module "::" name]
+    if (module == "lib") exports_type[crate "::" name "::"]
 }
 match($0, /^ *pub ([a-z]+ )*(extern "C" )?fn [a-z0-9_]+/) {
     name = substr($0, 1, RLENGTH)
