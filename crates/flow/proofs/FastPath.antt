@@ -3,7 +3,7 @@
 use Prim.Native.Nat.{ℕ, suc, ◌+◌, ◌-◌, ◌/◌, min, ◌≤◌, ◌<◌}
 use mathlib.Core.Bool.{Bool, true, false, and-eq-true_iff, true≢false}
 use mathlib.Core.List.{List, ◌∷◌}
-use mathlib.Core.Path.{◌≡◌, refl, sym, ◌∙◌, ap, subst}
+use mathlib.Core.Path.{◌≡◌, refl, sym, ◌∙◌, ap}
 use native.Mathlib.Omega.{arith}
 use lib.Dec.{eqb}
 use lib.ListN.{length}
@@ -24,7 +24,7 @@ use Rattle.records.proofs.RightOrBroken.{right_exact}
 use Rattle.records.proofs.QuickTestRight.{quick_test_right}
 use Rattle.flow.specs.FastPath.{is_inside, Inside, NumberBefore, at_place, PassedOver}
 use Rattle.flow.specs.Judge.{walk_from}
-use Rattle.flow.specs.Order.{permitted, is_due, all_go_on, place_after, among}
+use Rattle.flow.specs.Order.{permitted, is_due, all_go_on, place_after}
 use Rattle.flow.specs.Records.{record_at, records_from}
 use Rattle.flow.specs.Walking.{kind_after, dispositions_with, step, company_after, judge_record, saturated}
 use Rattle.flow.specs.Verdict.{Verdict}
@@ -36,15 +36,7 @@ use Rattle.flow.proofs.Cut.{cut_next, record_whole}
 use Rattle.flow.proofs.Exact.{last-kind, right_typed}
 use Rattle.flow.proofs.Places.{handed, handed_alike, of_type}
 use Rattle.flow.proofs.Reading.{Reading}
-use Rattle.std.specs.Prelude.{Option, Some, None}
-
--- a kind that was found among those permitted, where a disposition goes on
-pub inside_found : {due known : Due} (rec : List ℕ) {r : Option RecordKind} → due ≡ known → is_inside known ≡ true → r ≡ among (permitted known) rec → Inside due rec r
-inside_found {due} {known} rec {r} d inside e = subst (λ (x : Due). Inside x rec r) (sym d) (by r e)
-  where
-    by : (x : Option RecordKind) → x ≡ among (permitted known) rec → Inside known rec x
-    by None e = tt
-    by (Some k) e = (inside, sym e)
+use Rattle.std.specs.Prelude.{Some}
 
 -- a record that passes the quick test is right at its place
 right_at_place :

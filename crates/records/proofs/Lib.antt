@@ -5,7 +5,6 @@ pub mod EachKind
 pub mod FieldTests
 pub mod FirstFault
 pub mod FlowKinds
-pub mod Listed
 pub mod NumberWritten
 pub mod Numbers
 pub mod Printable

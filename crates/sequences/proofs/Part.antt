@@ -1,13 +1,13 @@
 -- Laws of `part` and `put`: a part's length, a part written back, and what stays outside it. Assumes nothing.
 use mathlib.Core.Path.{◌≡◌, refl, sym, ◌∙◌, ap, ap₂}
-use mathlib.Core.List.{List, [], ◌∷◌, ◌++◌, append-nil, append_assoc}
+use mathlib.Core.List.{List, [], ◌∷◌, ◌++◌, append_assoc}
 use mathlib.Core.Bool.{Bool, true, false}
 use Prim.Native.Nat.{ℕ, zero, suc, ◌+◌, ◌-◌, ◌≤◌, ◌<◌}
 use native.Mathlib.Nat.{le_refl, add-zero}
 use native.Mathlib.Omega.{arith}
 use lib.Dec.{leb}
-use lib.ListN.{length, take, drop, get_or, length-append, length-take, length-drop, drop_of_length-le, take-append-drop}
-use lib.Seq.{length-take-le, take-length, take-nil, drop-drop, take_at, drop_at, get_or-take, get_or-drop, take-append_seam, take-append-le, drop-append-le, take-append-add, drop-append-add, take-take, take-add}
+use lib.ListN.{length, take, drop, get_or, length-append, length-take, length-drop, take-append-drop}
+use lib.Seq.{length-take-le, take-nil, drop-drop, take_at, drop_at, get_or-take, get_or-drop, take-append_seam, take-append-le, drop-append-le, take-append-add, drop-append-add, take-take, take-add}
 use borrow.Author.Tests.{leb-true, leb-false}
 use borrow.Rule.Slice.PartMut.{put_mid}
 use Rattle.sequences.specs.All.{All}
@@ -144,15 +144,6 @@ lent_changed a n xs back g size came =
     let lent : a + n - a ≡ n = omega arith in
     let whole : back ≡ g (part a n xs) = came ∙ ap (λ (m : ℕ). g (part a m xs)) lent in
     ap (put_mid a (a + n - a) xs) whole ∙ lent_is_put a (a + n) xs (g (part a n xs)) (size ∙ sym lent)
-
--- bytes that `bytes::copy` copied to a part of their length, lent so, are written over
-pub copied_over :
-    (a e : ℕ) (xs ys back : List ℕ) → a ≤ e → e ≤ length xs → length ys ≡ e - a
-    → back ≡ take (length ys) ys ++ drop (length ys) (part a (e - a) xs) → put_mid a (e - a) xs back ≡ put a ys xs
-copied_over a e xs ys back begins ends size came =
-    let lent : length (part a (e - a) xs) ≤ length ys = omega (arith, part_length a (e - a) xs (omega arith)) in
-    let whole : back ≡ ys = came ∙ rw (take-length, drop_of_length-le (part a (e - a) xs) lent, append-nil) in
-    ap (put_mid a (e - a) xs) whole ∙ lent_is_put a e xs ys size
 
 -- written over in the front, or in the back, of two lists joined
 module _ (a : ℕ) (bs xs ys : List ℕ) where
