@@ -1,6 +1,7 @@
 // The account between two flows, and the line that tells it.
 use crate::work::Work;
-use evenings::{Compared, Comparison};
+use evenings::Compared;
+use flow::Refusal;
 use printing::Quoted;
 use report::Refused;
 use std::io;
@@ -18,18 +19,22 @@ pub(crate) fn print(
     let n = least(room, out.len());
     let end = marks_end(n, out.len());
     mark(&mut out[..end], 0);
-    let compared = work.compare(old, new, &mut out[..n]);
-    print_compared(rt, compared, &out[..end], work)
+    let answer = work.compare(old, new, &mut out[..n]);
+    print_answer(rt, answer, &out[..end], work)
 }
 
 // `accepted kept 1 dropped 1 added 0 length 2 kept 64 "DK" zero 66049 as before 64`: the answer, the length,
 // whether the bytes after it are as before, the bytes written, and the working memory; or `refused 27 record
 // 0 position 0 length 0 kept 66 as before 66113`. A length above that of `out` counts as that.
-fn print_compared(rt: &impl Print, compared: Compared, out: &[u8], work: &Work) -> io::Result<()> {
-    let length = compared.length;
-    let n = least(length, out.len());
-    match compared.answer {
-        Comparison::Accepted(lines) => {
+fn print_answer(
+    rt: &impl Print,
+    answer: Result<Compared, Refusal>,
+    out: &[u8],
+    work: &Work,
+) -> io::Result<()> {
+    match answer {
+        Ok(Compared { lines, length }) => {
+            let n = least(length, out.len());
             let kept = lines.kept;
             let dropped = lines.dropped;
             let added = lines.added;
@@ -38,9 +43,9 @@ fn print_compared(rt: &impl Print, compared: Compared, out: &[u8], work: &Work) 
             print!(rt; " {}", Quoted(&out[..n]))?;
             work.print_zero(rt, work.seen())?;
         }
-        Comparison::Refused(refusal) => {
-            print!(rt; "{} length {length}", Refused(refusal))?;
-            print_kept(rt, out, n)?;
+        Err(refusal) => {
+            print!(rt; "{} length 0", Refused(refusal))?;
+            print_kept(rt, out, 0)?;
             work.print_before(rt, work.seen())?;
         }
     }

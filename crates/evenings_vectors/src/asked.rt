@@ -1,6 +1,6 @@
 // A line of the account that is asked for, and the line that tells it.
 use crate::work::Work;
-use evenings::{AccountLine, LineFound};
+use evenings::AccountLine;
 use report::{Refused, print_start};
 use std::io;
 
@@ -22,11 +22,11 @@ pub(crate) fn print(
     let found = work.find_line(old, new, n);
     let left = after_line.both(work.seen());
     match found {
-        LineFound::At(told) => {
+        Ok(told) => {
             print_line(rt, told, part)?;
             work.print_zero(rt, left)?;
         }
-        LineFound::Refused(refusal) => {
+        Err(refusal) => {
             print!(rt; "{} part {}", Refused(refusal), part.len())?;
             work.print_before(rt, left)?;
         }

@@ -1,7 +1,8 @@
 // The working memory: the marks that stand in it before a call, and what is found of it after one.
 ghost use Rattle.std.specs.Prelude.{◌≤◌};
 
-use evenings::{Compared, LineFound};
+use evenings::{AccountLine, Compared};
+use flow::Refusal;
 use reading::buffer;
 use std::io;
 use vector_memory::{changed, least, mark, marks_end, print_found};
@@ -50,7 +51,12 @@ impl Work {
     }
 
     // The account, with a working memory that is marked before.
-    pub(crate) fn compare(&mut self, old: &[u8], new: &[u8], account: &mut [u8]) -> Compared {
+    pub(crate) fn compare(
+        &mut self,
+        old: &[u8],
+        new: &[u8],
+        account: &mut [u8],
+    ) -> Result<Compared, Refusal> {
         self.mark();
         let (work, _) = self.numbers.split_at_mut(self.lent);
         evenings::compare(old, new, work, account)
@@ -64,7 +70,12 @@ impl Work {
     }
 
     // What line n tells, likewise.
-    pub(crate) fn find_line(&mut self, old: &[u8], new: &[u8], n: u64) -> LineFound {
+    pub(crate) fn find_line(
+        &mut self,
+        old: &[u8],
+        new: &[u8],
+        n: u64,
+    ) -> Result<AccountLine, Refusal> {
         self.mark();
         let (work, _) = self.numbers.split_at_mut(self.lent);
         evenings::find_line(old, new, work, n)
