@@ -6,7 +6,7 @@ ghost use Rattle.list.specs.Table.{body_length as Table-body_length};
 use crate::table::{ItemKind, row_of};
 
 // An item at the front of a list, and the bytes after it.
-#[derive(Clone, Copy)]
+#[derive(Clone, Copy, Debug, PartialEq, Eq)]
 pub(crate) struct Item<'a> {
     pub kind: ItemKind,
     pub body: &'a [u8],

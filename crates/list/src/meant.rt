@@ -14,7 +14,7 @@ use records::FlowKind;
 // The kind of flow of the latest H or Q, or requests; and the number of the latest D, with its seven
 // digits, which are made anew only where a disposition opens. The body of the H or Q goes beside it: a
 // part of the list within it would hide the rest from the proofs of the loops.
-#[derive(Clone, Copy)]
+#[derive(Clone, Copy, Debug, PartialEq, Eq)]
 pub(crate) struct Meant {
     pub flow: FlowKind,
     pub dispositions: u64,

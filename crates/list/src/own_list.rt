@@ -40,10 +40,8 @@ fn list_length(flow: &[u8], kind: FlowKind) -> usize
     ensures { result ≡ length (list_of flow.now) }
 {
     let mut length = 0;
-    let mut i = 0;
-    while i < flow.len() / 120 {
+    for i in 0..flow.len() / 120 {
         length += item_length(row_in(&flow[120 * i..120 * i + 120], kind));
-        i += 1;
     }
     length
 }
@@ -65,10 +63,8 @@ fn store_list(flow: &[u8], out: &mut [u8], kind: FlowKind)
     ensures { out.new ≡ put 0 (list_of flow.now) out.old }
 {
     let mut at = 0;
-    let mut i = 0;
-    while i < flow.len() / 120 {
+    for i in 0..flow.len() / 120 {
         at = store_item(&flow[120 * i..120 * i + 120], kind, out, at);
-        i += 1;
     }
 }
 

@@ -12,7 +12,7 @@ use Rattle.list.proofs.OwnList.{item_at_most, list_from, list_all, length_next, 
 use Rattle.list.proofs.own_list.list_length.Goals as goal
 
 pub loop-i-init : goal.loop-i-init
-loop-i-init c = (omega arith, omega arith, omega (arith, ap length (list_all c.args.kind c.args.flow.now c.requires.kind_value)))
+loop-i-init c = (omega arith, omega (arith, ap length (list_all c.args.kind c.args.flow.now c.requires.kind_value)))
 
 pub overflow_add-length : goal.overflow_add-length
 overflow_add-length c = omega (arith, c.item_length-length.ensures, item_at_most c.row_in.result)
@@ -24,7 +24,7 @@ loop-i-preserved c =
     let i = c.loop-i.i in
     let size : c.item_length-length.result ≡ item_length (row_in kind (record_at i flow)) = c.item_length-length.ensures ∙ ap item_length (c.row_in.ensures ∙ ap (row_in kind) (record_part i flow)) in
     let on : length (list_from kind flow (i + 1)) ≡ length (list_from kind flow (suc i)) = ap (λ (j : ℕ). length (list_from kind flow j)) (add-one i) in
-    (omega arith, omega (arith, item_at_most (row_in kind (record_at i flow))), omega (arith, length_next kind flow i c.loop-i-test.true))
+    (omega (arith, item_at_most (row_in kind (record_at i flow))), omega (arith, length_next kind flow i c.loop-i-test.true))
 
 pub returns : goal.returns
 returns c =
