@@ -10,14 +10,15 @@ use crate::walk::Walk;
 use records::{RecordKind, field};
 
 // The walk after the records that were passed over, and the index of the next one.
-#[derive(Clone, Copy)]
+#[derive(Clone, Copy, Debug, PartialEq, Eq)]
 pub(crate) struct Passed {
     pub walk: Walk,
     pub index: usize,
 }
 
 // Passes over the records from index `from` on, up to the first that fails the quick test. The
-// record before them is right.
+// record before them is right. An index and no iterator goes along: this loop and the plain one take up
+// where the other has stopped, and here the record before is looked at too.
 pub(crate) fn pass_over(flow: &[u8], from: usize, walk: Walk) -> Passed
     requires le_from { 1 ≤ from }
     requires from_in_bounds { from ≤ length flow.now / 120 }

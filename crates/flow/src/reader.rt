@@ -34,7 +34,8 @@ fn is_length(n: usize) -> bool
     n != 0 && n % 120 == 0 && n <= MOST_BYTES
 }
 
-// Each record in turn, with the header: by the rules, and then those that are passed over.
+// Each record in turn, with the header: by the rules, and then those that are passed over. The index is
+// handed on to the fast path, which says where it has stopped.
 fn read_records(flow: &[u8], header: &[u8]) -> Result<Totals, Refusal>
     requires { is_length (length flow.now) ≡ true }
     ensures { verdict result ≡ walk_from ended
