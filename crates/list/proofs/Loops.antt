@@ -28,7 +28,7 @@ use Rattle.flow.specs.Verdict.{refused, refusal}
 use Rattle.flow.specs.declared.walk.Walk.{Walk}
 use Rattle.flow.proofs.Cut.{Whole, flatten-length}
 use Rattle.flow.proofs.Exact.{right_typed}
-use Rattle.flow.proofs.Reading.{Reading, one_at_most, begin, go_on, refuse, finish}
+use Rattle.flow.proofs.Reading.{Reading, one_at_most, go_on, refuse, finish}
 use Rattle.list.specs.Encode.{carried_at, HeaderMeant, header_meant, no_header, header_after, last_header, list_totals, encode_item, encode_from, records_for, trailer_for, encode}
 use Rattle.list.specs.Items.{Item, item, record_kind, is_d, Proper, items, items_from, items_in, Listed, FirstItem, NoFirst}
 use Rattle.list.specs.Table.{record_of, carried, body_length}
@@ -68,10 +68,6 @@ pub record JudgingAt (h : Header) (list rest : List ℕ) (n dispositions : ℕ) 
   pub count : n + length left ≡ length (items_in list)
   pub few : dispositions ≤ n
   pub reading : Reading closed h (records_for (items_in list)) w company n (encode_from dispositions header left)
-
-pub judging_begins : (h : Header) (list : List ℕ) → Listed list → JudgingAt h list list 0 0 no_header start []
-judging_begins h list listed =
-    record { left = items_in list; said = listed.said; count = omega arith; few = omega arith; reading = begin closed h (records_for (items_in list)) }
 
 -- bytes that begin with no item, where they are items, are none
 pub none_judged : (list : List ℕ) → Listed list → NoFirst list → judge_items (items_in list) ≡ closed start 0

@@ -1,11 +1,11 @@
 -- What the bytes of a list say, item by item. Assumes nothing.
 use Prim.Native.Nat.{ℕ, zero, suc, ◌+◌, ◌≤◌, ◌<◌}
 use mathlib.Core.List.{List, [], ◌∷◌}
-use mathlib.Core.Path.{◌≡◌, refl, sym, ◌∙◌, ap}
+use mathlib.Core.Path.{◌≡◌, refl, sym, ◌∙◌}
 use native.Mathlib.Omega.{arith}
 use lib.ListN.{length, take, drop, take-append-drop}
 use borrow.Author.Tests.{le-leb, lt-leb}
-use Rattle.list.specs.Items.{Item, item, Parsed, items, faulty, with_item, items_from, item_count, FirstItem, NoFirst}
+use Rattle.list.specs.Items.{Item, item, Parsed, items, faulty, with_item, items_from, FirstItem, NoFirst}
 use Rattle.list.specs.Table.{body_length, row_of}
 use Rattle.list.specs.declared.table.ItemKind.{ItemKind}
 use Rattle.list.proofs.ItemKinds.{row-letter}
@@ -46,25 +46,6 @@ module _ (b : ℕ) (bs : List ℕ) where
 abbrev pub counted_from : ℕ → Parsed → Result ℕ ℕ
 counted_from n (items is) = Ok (n + length is)
 counted_from n (faulty m) = Err m
-
-pub counted-all : (p : Parsed) → item_count p ≡ counted_from 0 p
-counted-all (items is) = let none : 0 + length is ≡ length is = omega arith in ap Ok (sym none)
-counted-all (faulty m) = refl
-
-pub counted_on : {list : List ℕ} {k : ItemKind} {body after : List ℕ} → FirstItem list k body after → (n : ℕ) → counted_from n (items_from n 0 list) ≡ counted_from (suc n) (items_from (suc n) 0 after)
-counted_on {k = k} {body = body} {after = after} first n = ap (counted_from n) (first.said n) ∙ by (items_from (suc n) 0 after)
-  where
-    by : (rest : Parsed) → counted_from n (with_item (item k body) rest) ≡ counted_from (suc n) rest
-    by (items is) = let one : n + suc (length is) ≡ suc n + length is = omega arith in ap Ok one
-    by (faulty m) = refl
-
-pub counted_end : (list : List ℕ) → NoFirst list → (n : ℕ) → length list ≡ 0 → counted_from n (items_from n 0 list) ≡ Ok n
-counted_end [] none n e = let all : n + 0 ≡ n = omega arith in ap (counted_from n) (none.said n) ∙ ap Ok all
-counted_end (b ∷ bs) none n e = absurd (omega arith)
-
-pub counted_none : (list : List ℕ) → NoFirst list → (n : ℕ) → ¬ (length list ≡ 0) → counted_from n (items_from n 0 list) ≡ Err (suc n)
-counted_none [] none n e = absurd (e refl)
-counted_none (b ∷ bs) none n e = ap (counted_from n) (none.said n)
 
 pub items-not-faulty : {is : List Item} {n : ℕ} → items is ≡ faulty n → ⊥
 items-not-faulty e = let never : ◌≡◌ {A = ℕ} 0 1 = cc in omega arith
