@@ -1,7 +1,8 @@
 // The C interface: the library's calls under plain names, for programs in C or Rust to link.
 //
 // A slice is a pointer and a length, and `answer` a pointer to eight numbers of 64 bits. Each function is
-// the one of `capi` of the same name, and promises what that one promises.
+// the one of `capi` of the same name, and promises what that one promises, in the same words: C needs the
+// exported names, and the laws of `claims` are on functions of a library.
 #![tactic(auto)]
 
 ghost use Rattle.std.specs.Prelude.{◌≡◌, length};

@@ -25,7 +25,8 @@ pub struct Refusal {
     pub position: u64,
 }
 
-// The refusal of a call for a reason that stands at no record.
+// The refusal of a call for a reason that stands at no record. By this name, and no `From`, since
+// `EntryPoints` has a law on it.
 pub fn refusal_of_call(reason: Reason) -> Refusal
     ensures { result ≡ refused_call reason }
 {

@@ -1,5 +1,5 @@
 // Numbers of 64 bits, which answers are made of, and those that a slice is counted with: each as the
-// other, and the same.
+// other, and the same. Two functions and no trait, since `EntryPoints` has a law on each.
 ghost use Rattle.std.specs.Prelude.{◌≡◌};
 
 pub fn as_count(n: usize) -> u64

@@ -25,7 +25,7 @@ impl fmt::Display for Quoted<'_> {
     }
 }
 
-// Writes the bytes as they are, and a line feed.
+// Writes the bytes as they are, and a line feed. No Display: they need not be text.
 pub fn line(rt: &impl Print, bytes: &[u8]) -> io::Result<()> {
     rt.write_all(bytes)?;
     println!(rt)

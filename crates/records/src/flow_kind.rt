@@ -1,6 +1,7 @@
 // The kinds of flow (document 02, E1): new requests, and recalls of requests already sent. What differs
 // between them is asked here: the causale and the sign of a record 14, and the place of the total in
-// the trailer.
+// the trailer. Each has a function of its own, and not a part of one answer, since `EntryPoints` has a law
+// on each.
 ghost use Rattle.std.specs.Prelude.{◌≡◌};
 ghost use Rattle.fields.specs.Bytes.{is_equal};
 ghost use Rattle.records.specs.Field.{first_of, last_of};

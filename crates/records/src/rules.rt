@@ -1,5 +1,6 @@
 // What the table of checks says of one field: tests, and checks that end the judgement of a record by its
-// first fault.
+// first fault. A field is told by its first and its last position, two numbers as in that table: of a type
+// of its own each would be a value to be built first, in lines that say no more.
 ghost use Rattle.std.specs.Prelude.{◌+◌, ◌≤◌, not, ◌||◌, ◌≡◌, [], ◌∷◌, eqb, IfOk};
 ghost use Rattle.fields.specs.Amount.{amount_field};
 ghost use Rattle.fields.specs.FieldVerdict.{field_verdict};

@@ -14,7 +14,8 @@ ghost use Rattle.std.specs.Prelude.{◌≤◌, min, ◌≡◌};
 pub use checksum::adler;
 pub use marks::{Markable, changed, mark, marks_end, print_found, print_kept};
 
-// The smaller one of a length that a call has told and a length that there is.
+// The smaller one of a length that a call has told and a length that there is. They differ in width, and
+// `min` takes two of the same.
 pub fn least(a: u64, b: usize) -> usize
     ensures value { result ≡ min a b }
     ensures upper_bound { (result ≤ a) × (result ≤ b) }
