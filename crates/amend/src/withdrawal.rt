@@ -85,8 +85,7 @@ fn recount(flow: &mut [u8], totals: Totals)
     write_totals(&mut flow[at..at + 120], totals);
 }
 
-// Writes 46-52, the total at the place of its kind, and 83-89 of a trailer: a part of the flow, which is
-// written where it stands and not made an array of 120 bytes first.
+// Writes 46-52, the total at the place of its kind, and 83-89 of a trailer.
 fn write_totals(rec: &mut [u8], totals: Totals)
     requires { length rec.old ≡ 120 }
     ensures { rec.new ≡ recounted totals rec.old }

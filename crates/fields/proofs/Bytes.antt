@@ -1,12 +1,14 @@
 -- Tests on bytes, and what they say of lists: laws of `is_blank` and `is_equal`. Assumes nothing.
-use Prim.Native.Nat.{ℕ, zero, suc}
+use Prim.Native.Nat.{ℕ, zero, suc, ◌+◌, ◌≤◌, ◌<◌}
 use mathlib.Core.Path.{◌≡◌, refl, ap₂}
-use mathlib.Core.Bool.{Bool, true, false, and-eq-true_iff, false≢true}
+use mathlib.Core.Bool.{Bool, true, false, ◌&&◌, and-eq-true_iff, false≢true}
 use mathlib.Core.List.{List, [], ◌∷◌}
+use native.Mathlib.Omega.{arith}
 use lib.Dec.{eqb}
-use lib.ListN.{length, replicate}
+use lib.ListN.{length, drop, get_or, replicate, drop_of_length-le}
 use borrow.Author.Tests.{eq-eqb, eqb-true}
 use Rattle.std.specs.Bool.{Decides, one_answer}
+use Rattle.sequences.proofs.Drop.{drop_next}
 use Rattle.fields.specs.Bytes.{is_blank, is_blank_byte, is_equal}
 use Rattle.fields.specs.Laws.{BlankExact, EqualExact}
 
@@ -50,3 +52,17 @@ equal_exact xs ys = (is_equal_true xs ys, λ e. rw (← e) (is_equal_refl xs))
 -- a test that is true exactly where they are equal answers the same
 pub is_equal_decides : (xs ys : List ℕ) (b : Bool) → Decides b (xs ≡ ys) → b ≡ is_equal xs ys
 is_equal_decides xs ys b d = one_answer b (is_equal xs ys) d (equal_exact xs ys)
+
+-- for a loop over i, where the lengths agree: the elements at i, then the rest; and past the end nothing is left to compare
+module _ (xs ys : List ℕ) (i : ℕ) (same : length xs ≡ length ys) where
+  pub is_equal_next : i < length xs → is_equal (drop i xs) (drop i ys) ≡ (eqb (get_or xs i 0) (get_or ys i 0) && is_equal (drop (i + 1) xs) (drop (i + 1) ys))
+  unfolding is_equal
+  is_equal_next h =
+      let k : i < length ys = omega arith in
+      rw (drop_next xs i h, drop_next ys i k)
+
+  pub is_equal_end : length xs ≤ i → is_equal (drop i xs) (drop i ys) ≡ true
+  unfolding is_equal
+  is_equal_end h =
+      let k : length ys ≤ i = omega arith in
+      rw (drop_of_length-le xs h, drop_of_length-le ys k)

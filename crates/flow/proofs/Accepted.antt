@@ -20,7 +20,7 @@ use Rattle.records.proofs.ByKind.{right-asked, opens-type}
 use Rattle.records.proofs.Numbers.{one_for_length}
 use Rattle.flow.specs.Judge.{unless_fault, walk_totals, ended, walk_from, judge}
 use Rattle.flow.specs.Records.{RightLength, is_length, records_of, most_bytes}
-use Rattle.flow.specs.Laws.{LengthRefused, Ceiling, AcceptedExact, AnswerDetermined, VerdictDetermined, FoundDetermined, FoundWithTotalsDetermined}
+use Rattle.flow.specs.Laws.{LengthRefused, Ceiling, AcceptedExact, AnswerDetermined, CallRefused, VerdictDetermined, FoundDetermined, FoundWithTotalsDetermined}
 use Rattle.flow.specs.Order.{permitted, is_due, among}
 use Rattle.flow.specs.Walking.{start, counts_at, kind_after, step, company_after, judge_typed, judge_record}
 use Rattle.flow.specs.ExactTotals.{opening_count, amount_sum, kind_from, kind_of}
@@ -171,6 +171,9 @@ length-refused f r p = (λ e. given (is_length (length f)) refl e, λ h. wrong (
 
 pub ceiling : Ceiling
 ceiling f h = (length-refused f 0 0).1 (refl, refl, λ k. omega arith)
+
+pub call_refused : CallRefused
+call_refused r = refl
 
 -- what an answer stands for determines it
 paper_told : (x y : Code-Refusal) → on_paper x ≡ on_paper y → x ≡ y

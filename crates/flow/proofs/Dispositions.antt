@@ -96,7 +96,7 @@ groups-counted (rec ∷ recs) = by (is_opening rec) (groups-counted recs)
     by false e = omega arith
 
 -- where one kind is permitted, a right record is of it
-only-kind : {k l : RecordKind} → In k (l ∷ []) → k ≡ l
+pub only-kind : {k l : RecordKind} → In k (l ∷ []) → k ≡ l
 only-kind (inl e) = e
 only-kind (inr e) = elim e [ ]
 

@@ -12,7 +12,9 @@ use Rattle.flow.specs.Judge.{judge}
 use Rattle.flow.specs.Output.{output, with_room, FilledWith, LeftAlone}
 use Rattle.flow.specs.Records.{RightLength, records_of, most_bytes}
 use Rattle.flow.specs.ExactTotals.{opening_count, amount_sum, kind_of}
-use Rattle.flow.specs.Verdict.{Verdict, Refusal, accepted, refused, verdict, refusal, of_call}
+use Rattle.refusals.specs.Numbers.{number_of}
+use Rattle.refusals.specs.declared.Reason.{Reason}
+use Rattle.flow.specs.Verdict.{Verdict, Refusal, accepted, refused, verdict, refusal, of_call, on_paper, refused_call}
 use Rattle.flow.specs.declared.answer.Refusal.{Refusal as Code-Refusal}
 use Rattle.flow.specs.declared.answer.Totals.{Totals}
 use Rattle.flow.specs.declared.location.Location.{Location}
@@ -53,6 +55,10 @@ RoomExact =
     (A : Type 0) (v : Verdict A) (size room : ℕ)
     → ((a : A) → (with_room v size room ≡ accepted a) ↔ ((v ≡ accepted a) × (size ≤ room)))
     × ((x : Refusal) → (with_room v size room ≡ refused x) ↔ ((v ≡ refused x) ⊎ ((a : A) × (v ≡ accepted a) × (room < size) × (x ≡ of_call 21))))
+
+-- the refusal of a call for a reason is, on paper, that of the reason's number
+abbrev pub CallRefused : Type 0
+CallRefused = (r : Reason) → on_paper (refused_call r) ≡ of_call (number_of r)
 
 -- what an answer stands for on paper determines it, whatever it gives where it is accepted
 abbrev pub VerdictDetermined : Type 1

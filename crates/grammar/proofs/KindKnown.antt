@@ -17,6 +17,7 @@ use Rattle.flow.specs.Walking.{start, kind_after, step, company_after}
 use Rattle.flow.specs.declared.order.Due.{Due}
 use Rattle.flow.specs.declared.order.Due.TheVariants.{OnlyIm, OnlyR14}
 use Rattle.flow.specs.declared.walk.Walk.{Walk}
+use Rattle.flow.proofs.Dispositions.{only-kind}
 use Rattle.grammar.specs.Grammar.{Typed}
 use Rattle.grammar.proofs.AtPlace.{asks, RightAt}
 use Rattle.grammar.proofs.Walked.{state_after, Walked}
@@ -27,10 +28,6 @@ use Rattle.std.specs.Prelude.{Option, Some, None}
 abbrev Early : Walk → Type 0
 Early w = (is_known w.kind ≡ true) ⊎ ((w.place.due ≡ OnlyIm) ⊎ (w.place.due ≡ OnlyR14))
 
-only : {k l : RecordKind} → In k (l ∷ []) → k ≡ l
-only (inl e) = e
-only (inr e) = elim e [ ]
-
 early_on : (h : Header) (w : Walk) (code : List ℕ) (i : ℕ) (k : RecordKind) (rec : List ℕ) → RightAt h w code i k rec → Early w → Early (step w k (asked k rec) rec)
 unfolding checks
 early_on h w code i k rec right-at (inl known) = inl (stays w.kind known (kind_in rec) (opens k))
@@ -40,10 +37,10 @@ early_on h w code i k rec right-at (inl known) = inl (stays w.kind known (kind_i
     stays (Some p) e x false = refl
     stays None e x b = absurd (true≢false (sym e))
 early_on h w code i k rec right-at (inr (inl due)) =
-    let im : k ≡ Im = only (subst (λ (d : Due). In k (permitted d)) due right-at.may) in
+    let im : k ≡ Im = only-kind (subst (λ (d : Due). In k (permitted d)) due right-at.may) in
     inr (inr (ap (λ (l : RecordKind). (place_after w.place.further l).due) im))
 early_on h w code i k rec right-at (inr (inr due)) =
-    let opening : k ≡ R14 = only (subst (λ (d : Due). In k (permitted d)) due right-at.may) in
+    let opening : k ≡ R14 = only-kind (subst (λ (d : Due). In k (permitted d)) due right-at.may) in
     let keeps : Hold (checks R14 (asks h w code i R14) rec) = subst (λ (l : RecordKind). Hold (checks l (asks h w code i l) rec)) opening right-at.keeps in
     inl (ap (λ (l : RecordKind). is_known (kind_after w.kind l rec)) opening ∙ told w.kind (kind_in rec) keeps.1.1.1.1.0)
   where

@@ -85,8 +85,7 @@ fn store_item(rec: &[u8], flow: FlowKind, out: &mut [u8], at: usize) -> usize
     end
 }
 
-// The carried bytes of a record, in order. The record is a part of the flow, here and above; an array made of
-// it would say its length once more.
+// The carried bytes of a record, in order.
 fn store_body(rec: &[u8], kind: ItemKind, out: &mut [u8])
     requires rec_len { length rec.now ≡ 120 }
     requires out_len { length out.old ≡ body_length kind }

@@ -5,7 +5,8 @@ ghost use Rattle.records.specs.Bytes.{is_printable, bad_byte};
 
 // The position of the record's first byte outside 32 to 126, or 0 where it has none. A right record is
 // seen to be right by loops with no early exit, which the compiler turns into instructions on sixteen
-// bytes at a time: over 96 bytes, six such steps, and over the 24 that are left.
+// bytes at a time: over 96 bytes, six such steps, and over the 24 that are left. A number and no Option,
+// since `EntryPoints` has a law on it.
 pub fn bad_byte(rec: &[u8]) -> u64
     ensures { result ≡ bad_byte rec.now }
 {

@@ -3,11 +3,12 @@ use mathlib.Core.Path.{◌≡◌, refl, sym, ◌∙◌, ap}
 use mathlib.Core.Bool.{Bool, true, ◌&&◌, and_assoc, and-true, and-eq-true_iff}
 use mathlib.Core.List.{List, [], ◌∷◌, ◌++◌}
 use mathlib.Core.Logic.{◌↔◌}
-use Prim.Native.Nat.{ℕ}
-use lib.ListN.{take, drop, take-append-drop}
+use Prim.Native.Nat.{ℕ, ◌+◌, ◌≤◌, ◌<◌}
+use lib.ListN.{length, take, drop, get_or, drop_of_length-le, take-append-drop}
 use Rattle.sequences.specs.All.{All}
 use Rattle.std.specs.List.{fold}
 use Rattle.sequences.specs.Every.{every}
+use Rattle.sequences.proofs.Drop.{drop_next}
 
 -- of two lists joined, each passes
 pub every_append : (p : ℕ → Bool) (xs ys : List ℕ) → every p (xs ++ ys) ≡ (every p xs && every p ys)
@@ -17,6 +18,13 @@ every_append p (x ∷ xs) ys = ap (λ (b : Bool). p x && b) (every_append p xs y
 -- of a list cut in two, each part passes
 pub every_split : (p : ℕ → Bool) (n : ℕ) (xs : List ℕ) → every p xs ≡ (every p (take n xs) && every p (drop n xs))
 every_split p n xs = ap (every p) (sym (take-append-drop n xs)) ∙ every_append p (take n xs) (drop n xs)
+
+-- for a loop over i: the test at i, then the rest; and past the end nothing is left to test
+pub every_next : (p : ℕ → Bool) (xs : List ℕ) (i : ℕ) → i < length xs → every p (drop i xs) ≡ (p (get_or xs i 0) && every p (drop (i + 1) xs))
+every_next p xs i h = rw (drop_next xs i) refl
+
+pub every_end : (p : ℕ → Bool) (xs : List ℕ) (i : ℕ) → length xs ≤ i → every p (drop i xs) ≡ true
+every_end p xs i h = rw (drop_of_length-le xs h) refl
 
 -- of a fold over a list: all of it, after what came before
 pub every_fold : (p : ℕ → Bool) (before : Bool) (xs : List ℕ) → fold (λ (b : Bool) (x : ℕ). b && p x) before xs ≡ (before && every p xs)
