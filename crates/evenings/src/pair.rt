@@ -16,6 +16,15 @@ pub(crate) struct Sides {
     pub new: u64,
 }
 
+// Two flows that fit, and what they have. That they do stands in the contracts and not here: a ghost field is a
+// proposition, and what `Comparable` holds of a flow has its totals in it.
+#[derive(Clone, Copy)]
+pub(crate) struct Pair<'a> {
+    pub old: &'a [u8],
+    pub new: &'a [u8],
+    pub sides: Sides,
+}
+
 // Refused, in this order: what the reader refuses of the old flow, then of the new one; 27, one has too many
 // requests; 28, they are of different kinds; 34, too little working memory is lent.
 pub(crate) fn judge_pair(old: &[u8], new: &[u8], lent: usize) -> Result<Sides, Refusal>

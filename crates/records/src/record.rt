@@ -43,10 +43,8 @@ pub fn judge(
         RecordKind::R16 => judge_coordinates(rec, n, header),
         RecordKind::R20 => judge_with_text(rec, kind, n, 34),
         RecordKind::R30 => judge_with_text(rec, kind, n, 40),
-        RecordKind::R40 => judge_numbered(rec, kind, n),
-        RecordKind::R50 => judge_numbered(rec, kind, n),
         RecordKind::R59 => judge_with_text(rec, kind, n, 65),
-        RecordKind::R51 => judge_numbered(rec, kind, n),
+        RecordKind::R40 | RecordKind::R50 | RecordKind::R51 => judge_numbered(rec, kind, n),
         RecordKind::R70 => judge_control(rec, n),
         RecordKind::Ef => judge_trailer(rec, counts, header, or_requests(found)),
     }
