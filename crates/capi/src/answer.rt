@@ -7,6 +7,7 @@ ghost use Rattle.capi.specs.Returned.{returned, returned_three, kind_entry, of_r
 use flow::{Refusal, Totals};
 use records::FlowKind;
 
+// What C is told by: numbers.
 const ACCEPTED: u8 = 1;
 
 const REFUSED: u8 = 0;

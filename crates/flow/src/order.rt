@@ -23,7 +23,8 @@ pub enum Due {
 }
 
 // A place in the flow: what may come next, and, where a further 59 may come, how many stand right
-// before it; else 0.
+// before it; else 0. The number stands beside and not in a case, so that the next place depends on the
+// record's kind and this number alone.
 #[derive(Clone, Copy, Debug, PartialEq, Eq)]
 pub struct Place {
     pub due: Due,

@@ -97,7 +97,8 @@ fn fill_trailer(rec: &mut [u8; 120], copied: &[u8], totals: Totals)
     place(rec, 114, &CURRENCY);
 }
 
-// The counts of EF, and the sum at the place of its kind; zeros at the other.
+// The counts of EF, and the sum at the place of its kind; zeros at the other. In a trailer that stands, `amend`
+// leaves the other as it is.
 fn write_totals(rec: &mut [u8; 120], totals: Totals)
     ensures { rec.new ≡ fill (totals_placed totals) rec.old }
 {

@@ -5,7 +5,8 @@ use list::Filled;
 use std::io;
 use vector_memory::{least, mark, marks_end};
 
-// A list is written to a flow, or a flow is read back to its list.
+// A list is written to a flow, or a flow is read back to its list. An enum and no closure: whoever handed a
+// closure on would have to require that it may be called with any slices.
 #[derive(Clone, Copy)]
 pub(crate) enum Way {
     Written,

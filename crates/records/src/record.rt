@@ -17,7 +17,8 @@ use refusals::Reason;
 // The first fault of a record of the kind, or its cents. `header` is the flow's IM, of which the rules look
 // at no other position than `header_of` names: what stands elsewhere in it may be anything. `company` is the
 // company code of the first record 14, empty where none came before this record; `found` is the kind of
-// flow, where a record 14 before this one has told it.
+// flow, where a record 14 before this one has told it. The four are lent apart, since `EntryPoints` has a
+// law on this and on `Walk::judge`.
 pub fn judge(
     rec: &[u8],
     kind: RecordKind,
@@ -43,8 +44,10 @@ pub fn judge(
         RecordKind::R16 => judge_coordinates(rec, n, header),
         RecordKind::R20 => judge_with_text(rec, kind, n, 34),
         RecordKind::R30 => judge_with_text(rec, kind, n, 40),
+        RecordKind::R40 => judge_numbered(rec, kind, n),
+        RecordKind::R50 => judge_numbered(rec, kind, n),
         RecordKind::R59 => judge_with_text(rec, kind, n, 65),
-        RecordKind::R40 | RecordKind::R50 | RecordKind::R51 => judge_numbered(rec, kind, n),
+        RecordKind::R51 => judge_numbered(rec, kind, n),
         RecordKind::R70 => judge_control(rec, n),
         RecordKind::Ef => judge_trailer(rec, counts, header, or_requests(found)),
     }

@@ -1,6 +1,7 @@
 // What the table of checks says of one field: tests, and checks that end the judgement of a record by its
 // first fault. A field is told by its first and its last position, two numbers as in that table: of a type
-// of its own each would be a value to be built first, in lines that say no more.
+// of its own each would be a value to be built first, in lines that say no more. That they lie within a
+// record is seen of the numbers in each line.
 ghost use Rattle.std.specs.Prelude.{◌+◌, ◌≤◌, not, ◌||◌, ◌≡◌, [], ◌∷◌, eqb, IfOk};
 ghost use Rattle.fields.specs.Amount.{amount_field};
 ghost use Rattle.fields.specs.FieldVerdict.{field_verdict};
@@ -39,13 +40,10 @@ pub(crate) fn check(holds: bool, reason: Reason, position: u64) -> Result<(), Fa
 fn at<T>(position: usize, found: Result<T, Reason>) -> Result<T, Fault>
     ensures { result ≡ placed position found }
 {
-    match found {
-        Ok(value) => Ok(value),
-        Err(reason) => Err(Fault {
-            reason,
-            position: position as u64,
-        }),
-    }
+    found.map_err(|reason| Fault {
+        reason,
+        position: position as u64,
+    })
 }
 
 pub(crate) fn blank(rec: &[u8], first: usize, last: usize) -> bool
