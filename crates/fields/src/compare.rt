@@ -10,7 +10,7 @@ pub fn all_blank(field: &[u8]) -> bool
 }
 
 // Whether a and b have the same length and the same bytes. A field has few of them, and one by one they
-// are compared in half the time of `a == b`.
+// are compared in less than a third of the time of `a == b`. `EntryPoints` has a law on it.
 pub fn equal(a: &[u8], b: &[u8]) -> bool
     ensures { result ≡ is_equal a.now b.now }
 {

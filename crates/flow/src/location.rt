@@ -49,7 +49,7 @@ pub fn find_with_totals(flow: &[u8], k: u64) -> Result<WithTotals, Refusal>
 }
 
 // The part of the caller's flow that disposition k is, at its place in it; where `find` refuses, an
-// empty part at its start.
+// empty part at its start: `EntryPoints` has a law on it.
 pub fn disposition(flow: &[u8], k: u64) -> &[u8]
     ensures bytes { result.now ≡ part_of flow.now k }
     ensures place { StartsAt result flow.entry (offset_of flow.now k) }

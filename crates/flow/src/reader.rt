@@ -70,7 +70,8 @@ fn read_records(flow: &[u8], header: &[u8]) -> Result<Totals, Refusal>
 }
 
 // The company code of the first record 14, after a record of the kind that has the code at 92-96: one of
-// the two slices, as it was lent. `company` is empty until a 14 has come.
+// the two slices, as it was lent. `company` is empty until a 14 has come, and no
+// Option, since `EntryPoints` has a law on this and on `Walk::judge`.
 pub fn first_company<'a>(company: &'a [u8], code: &'a [u8], kind: RecordKind) -> &'a [u8]
     ensures bytes { result.now ≡ first_company company.now kind code.now }
     ensures place { result.ref_ptr ≡ first_by company.now kind company.entry.ref_ptr code.entry.ref_ptr }

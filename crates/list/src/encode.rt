@@ -14,7 +14,7 @@ use flow::Totals;
 use records::{CURRENCY, FlowKind, RecordKind, field, total_at, write_number};
 
 // The record of an item, by what is meant at its place; `header` is the body of the latest H or Q before
-// it, or empty.
+// it, or empty, as the company code is that `Walk::judge` is lent.
 pub(crate) fn encode_item(it: Item, meant: Meant, header: &[u8]) -> [u8; 120]
     ensures { result ≡ Encode-encode_item
         meant.dispositions
