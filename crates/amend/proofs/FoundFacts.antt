@@ -4,10 +4,12 @@ use mathlib.Core.List.{List, [], flatten}
 use mathlib.Core.Path.{◌≡◌, sym, ◌∙◌, ap}
 use native.Mathlib.Omega.{arith}
 use lib.ListN.{length, take, get_or}
+use Rattle.std.specs.Prelude.{Result, Ok}
 use Rattle.records.specs.Limits.{cents_limit, count_limit}
 use Rattle.flow.specs.Find.{dispositions_in, find_with_totals}
 use Rattle.flow.specs.Judge.{judge}
-use Rattle.flow.specs.Verdict.{accepted}
+use Rattle.flow.specs.Verdict.{accepted, verdict}
+use Rattle.flow.specs.declared.answer.Refusal.{Refusal}
 use Rattle.flow.specs.declared.location.Location.{Location}
 use Rattle.flow.specs.declared.location.WithTotals.{WithTotals}
 use Rattle.flow.proofs.Dispositions.{dispositions-counted, found-has, found_within}
@@ -65,3 +67,7 @@ pub bounds_found :
 bounds_found f k v e =
     let s = found_facts f k (sym e) in
     (s.some, omega arith, s.cents, s.records, s.share, omega arith, s.ends, s.size)
+
+-- what was found stands there
+pub found_there : (f : List ℕ) (k : ℕ) {a : Result WithTotals Refusal} {v : WithTotals} → verdict a ≡ find_with_totals f k → a ≡ Ok v → find_with_totals f k ≡ accepted v
+found_there f k told is = sym told ∙ ap verdict is

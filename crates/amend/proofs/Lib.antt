@@ -1,4 +1,5 @@
 pub mod Answered
+pub mod Copied
 pub mod FoundFacts
 pub mod LeavesAndTouches
 pub mod Neighbours
