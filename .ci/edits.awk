@@ -104,7 +104,7 @@ function is_fact(error) {
 }
 
 function is_open(error) {
-    return error ~ /^note: (\.\/)?src\/[^ ]*: it is not proved that /
+    return error ~ /^note: (\.\/)?src\/[^ ]*: (it is not proved that |`search` found no proof \()/
 }
 
 # What the gate told of the file that is judged: the first error of its check.

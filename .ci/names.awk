@@ -11,7 +11,7 @@
 BEGIN {
     # fragments of code
     exempt("&[u8]|[b' '; 120]|&flow[120 * i..120 * i + 120]|calls : List Call|requires|&flow[a..e]|&mut rec[..]")
-    exempt("present(rec, 20, 39)|check(!blank(rec, 20, 39), Reason::Absent, 21)|pub use module::name|unsafe|return|specs/")
+    exempt("present(rec, 20, 39)|present(rec, 21, 39)|pub use module::name|unsafe|return|specs/")
     # signs of the statements
     exempt("×|⊎|¬|↔|P → Q|(x : A) → P|(x : A) × P|∷|++|cond b x y|r.name|result|rec.now|out.old|out.new|ℕ")
     # words of a command line, and what programs print
