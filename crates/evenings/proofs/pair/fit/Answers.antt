@@ -1,6 +1,7 @@
 -- `evenings::fit` meets its contract. Assumes nothing.
-use mathlib.Core.Bool.{Bool, not}
+use mathlib.Core.Bool.{Bool, true, not}
 use mathlib.Core.Path.{◌≡◌, sym, ◌∙◌, ap}
+use lib.Dec.{leb}
 use borrow.Author.Tests.{le-leb, lt-leb}
 use denote.Enum.Bare.{sameb}
 use Rattle.fields.specs.Bytes.{is_equal}
@@ -20,28 +21,31 @@ by_causale Recalls Recalls differ b e f = ap not (sym e ∙ f)
 
 pub returns-then-ne : goal.returns-then-ne
 returns-then-ne c =
+    let few : leb c.args.new.dispositions 256 ≡ true = le-leb _ _ c.if-new-gt-MOST_REQUESTS.false in
     rw (
       c.refusal_of_call-then-ne.ensures,
       le-leb _ _ c.if-old-gt-MOST_REQUESTS.false,
-      le-leb _ _ c.if-new-gt-MOST_REQUESTS.false,
+      few,
       by_causale _ _ _ _ c.ne.ensures c.if-ne.true,
     )
 
 pub returns-then-lent-lt-LEAST_MEMORY : goal.returns-then-lent-lt-LEAST_MEMORY
 returns-then-lent-lt-LEAST_MEMORY c =
+    let few : leb c.args.new.dispositions 256 ≡ true = le-leb _ _ c.if-new-gt-MOST_REQUESTS.false in
     rw (
       c.refusal_of_call-then-lent-lt-LEAST_MEMORY.ensures,
       le-leb _ _ c.if-old-gt-MOST_REQUESTS.false,
-      le-leb _ _ c.if-new-gt-MOST_REQUESTS.false,
+      few,
       by_causale _ _ _ _ c.ne.ensures c.if-ne.false,
       lt-leb _ _ c.if-lent-lt-LEAST_MEMORY.true,
     )
 
 pub returns : goal.returns
 returns c =
+    let few : leb c.args.new.dispositions 256 ≡ true = le-leb _ _ c.if-new-gt-MOST_REQUESTS.false in
     rw (
       le-leb _ _ c.if-old-gt-MOST_REQUESTS.false,
-      le-leb _ _ c.if-new-gt-MOST_REQUESTS.false,
+      few,
       by_causale _ _ _ _ c.ne.ensures c.if-ne.false,
       le-leb _ _ c.if-lent-lt-LEAST_MEMORY.false,
     )
