@@ -4,7 +4,7 @@ ghost use Rattle.fields.specs.Digits.{digits};
 ghost use Rattle.amend.specs.Amended.{amended, written_in_record};
 ghost use Rattle.amend.specs.Change.{change as Change-change};
 
-use flow::{Refusal, Totals, refusal_of_call};
+use flow::{Refusal, Totals, refused_call};
 use records::{AMOUNT_FIRST, AMOUNT_LAST, MOST_CENTS, total_first, total_last};
 use refusals::Reason;
 
@@ -18,7 +18,7 @@ pub fn change(flow: &mut [u8], k: u64, cents: u64) -> Result<Totals, Refusal>
 {
     let found = flow::find_with_totals(flow, k)?;
     if !fields::is_amount(cents) {
-        return Err(refusal_of_call(Reason::NotAnAmount));
+        return Err(refused_call(Reason::NotAnAmount));
     }
     let location = found.location;
     let before = found.totals;
@@ -27,7 +27,7 @@ pub fn change(flow: &mut [u8], k: u64, cents: u64) -> Result<Totals, Refusal>
         ..before
     };
     if MOST_CENTS < totals.cents {
-        return Err(refusal_of_call(Reason::TotalTooLarge));
+        return Err(refused_call(Reason::TotalTooLarge));
     }
     let kind = totals.kind;
     place_number(flow, location.first, AMOUNT_FIRST, AMOUNT_LAST, cents);

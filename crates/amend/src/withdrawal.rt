@@ -8,7 +8,7 @@ ghost use Rattle.amend.specs.Amended.{withdrawn_amended};
 ghost use Rattle.amend.specs.Withdraw.{renumbered_from, recounted, counted_at};
 ghost use Rattle.amend.specs.Withdraw.{withdraw as Withdraw-withdraw};
 
-use flow::{Refusal, Totals, as_index, refusal_of_call};
+use flow::{Refusal, Totals, as_index, refused_call};
 use records::{seven_digits, total_first, total_last, write_number};
 use refusals::Reason;
 
@@ -31,7 +31,7 @@ pub fn withdraw(flow: &mut [u8], k: u64) -> Result<Withdrawn, Refusal>
     let location = found.location;
     let before = found.totals;
     if before.dispositions <= 1 {
-        return Err(refusal_of_call(Reason::OnlyDisposition));
+        return Err(refused_call(Reason::OnlyDisposition));
     }
     let totals = Totals {
         dispositions: before.dispositions - 1,

@@ -1,5 +1,5 @@
 // The memory that the calls write to, and the lines that tell what is left in it.
-ghost use Rattle.std.specs.Prelude.{◌≤◌};
+ghost use Rattle.std.specs.Prelude.{◌≤◌, ◌≡◌};
 
 use printing::Quoted;
 use reading::buffer;
@@ -42,7 +42,9 @@ impl Memory {
     }
 
     // `2 40000` stands for the number 2 and the amount 40000.
-    pub(crate) fn change(&mut self, rt: &impl Print, text: &[u8]) -> io::Result<()> {
+    pub(crate) fn change(&mut self, rt: &impl Print, text: &[u8]) -> io::Result<()>
+        ensures { self.new.left ≡ self.old.left }
+    {
         let (k, cents) = two_decimals(text);
         let (flow, _) = self.space.split_at_mut(self.left);
         let answer = amend::change(flow, k, cents);
@@ -51,7 +53,9 @@ impl Memory {
 
     // Writes the length of the flow left too, which where it is refused is that of the flow. A length
     // above the flow's counts as the flow's.
-    pub(crate) fn withdraw(&mut self, rt: &impl Print, text: &[u8]) -> io::Result<()> {
+    pub(crate) fn withdraw(&mut self, rt: &impl Print, text: &[u8]) -> io::Result<()>
+        ensures { self.new.left ≤ self.old.left }
+    {
         let (flow, _) = self.space.split_at_mut(self.left);
         let answer = amend::withdraw(flow, decimal(text));
         let length = answer.map_or(self.left as u64, |withdrawn| withdrawn.length);

@@ -1,10 +1,10 @@
 // The eight entries that the caller's `answer` receives, and what is returned beside them.
 ghost use Rattle.std.specs.Prelude.{◌≡◌};
-ghost use Rattle.flow.specs.Verdict.{verdict, on_paper};
+ghost use Rattle.flow.specs.Verdict.{verdict, on_paper, numbered};
 ghost use Rattle.flow.specs.Verdict.{accepted as Verdict-accepted};
 ghost use Rattle.capi.specs.Returned.{returned, returned_three, kind_entry, of_refusal, of_verdict};
 
-use flow::{Refusal, Totals};
+use flow::{NumberedRefusal, Refusal, Totals};
 use records::FlowKind;
 
 // What C is told by: numbers.
@@ -51,8 +51,20 @@ fn kind_entry(kind: FlowKind) -> u64
 pub(crate) fn refuse(answer: &mut [u64; 8], refusal: Refusal, length: u64) -> u8
     ensures { returned result answer.new ≡ of_refusal (on_paper refusal) length }
 {
+    let numbered = NumberedRefusal {
+        number: refusal.reason.number(),
+        record: refusal.record,
+        position: refusal.position,
+    };
+    refuse_by_number(answer, numbered, length)
+}
+
+// The same of a refusal by its number.
+pub(crate) fn refuse_by_number(answer: &mut [u64; 8], refusal: NumberedRefusal, length: u64) -> u8
+    ensures { returned result answer.new ≡ of_refusal (numbered refusal) length }
+{
     *answer = [
-        refusal.reason.number(),
+        refusal.number,
         refusal.record,
         refusal.position,
         length,

@@ -24,7 +24,7 @@ ghost use Rattle.capi.specs.Returned.{returned, of_number, of_day, of_verdict, o
 
 mod answer;
 
-use answer::{accept, accept_flow, refuse, tell};
+use answer::{accept, accept_flow, refuse, refuse_by_number, tell};
 use flow::{Refusal, refusal_of_call};
 use list::Filled;
 use refusals::Reason;
@@ -49,7 +49,7 @@ pub fn mav_date(field: &[u8], answer: &mut [u64; 8]) -> u8
 {
     match fields::read_date(field) {
         Ok(_) => accept(answer, 0, 0, 0, 0),
-        Err(reason) => refuse(answer, refusal_of_call(reason), 0),
+        Err(reason) => refuse_by_number(answer, refusal_of_call(reason.number()), 0),
     }
 }
 
@@ -150,7 +150,7 @@ fn tell_number(answer: &mut [u64; 8], told: Result<u64, Reason>) -> u8
 {
     match told {
         Ok(value) => accept(answer, value, 0, 0, 0),
-        Err(reason) => refuse(answer, refusal_of_call(reason), 0),
+        Err(reason) => refuse_by_number(answer, refusal_of_call(reason.number()), 0),
     }
 }
 

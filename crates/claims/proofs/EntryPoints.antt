@@ -43,6 +43,7 @@ use Rattle.flow.proofs.next_opening.Met.{met as next_opening-met}
 use Rattle.flow.proofs.as_count.Met.{met as as_count-met}
 use Rattle.flow.proofs.as_index.Met.{met as as_index-met}
 use Rattle.flow.proofs.refusal_of_call.Met.{met as refusal_of_call-met}
+use Rattle.flow.proofs.refused_call.Met.{met as refused_call-met}
 use Rattle.list.proofs.write.Met.{met as write-met}
 use Rattle.list.proofs.read_back.Met.{met as read_back-met}
 use Rattle.list.proofs.carries_same.Met.{met as carries_same-met}
@@ -107,6 +108,7 @@ entry_points =
       find_with_totals = (λ M. find_with_totals-met, λ κs a g w. refl);
       next_opening = (λ M. next_opening-met, λ κs a g w. refl);
       refusal_of_call = (λ M. refusal_of_call-met, λ κs a g w. refl);
+      refused_call = (λ M. refused_call-met, λ κs a g w. refl);
       as_count = (λ M. as_count-met, λ κs a g w. refl);
       as_index = (λ M. as_index-met, λ κs a g w. refl);
       write = (λ M. write-met, λ κs a g w. refl);

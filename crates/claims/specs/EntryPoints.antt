@@ -87,6 +87,8 @@ use Rattle.flow.proofs.as_index.Reads.{requires as as_index-requires}
 use Rattle.flow.proofs.as_index.Statement.{statement as as_index-statement}
 use Rattle.flow.proofs.refusal_of_call.Reads.{requires as refusal_of_call-requires}
 use Rattle.flow.proofs.refusal_of_call.Statement.{statement as refusal_of_call-statement}
+use Rattle.flow.proofs.refused_call.Reads.{requires as refused_call-requires}
+use Rattle.flow.proofs.refused_call.Statement.{statement as refused_call-statement}
 use Rattle.list.proofs.write.Reads.{requires as write-requires}
 use Rattle.list.proofs.write.Statement.{statement as write-statement}
 use Rattle.list.proofs.read_back.Reads.{requires as read_back-requires}
@@ -176,6 +178,7 @@ pub record EntryPoints : Type 2 where
   pub find_with_totals : EntryPoint find_with_totals-statement find_with_totals-requires
   pub next_opening : EntryPoint next_opening-statement next_opening-requires
   pub refusal_of_call : EntryPoint refusal_of_call-statement refusal_of_call-requires
+  pub refused_call : EntryPoint refused_call-statement refused_call-requires
   pub as_count : EntryPoint as_count-statement as_count-requires
   pub as_index : EntryPoint as_index-statement as_index-requires
   -- list: a list: writing it, reading a flow back, and whether two records have the same item

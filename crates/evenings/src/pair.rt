@@ -4,7 +4,7 @@ ghost use Rattle.flow.specs.Verdict.{verdict};
 ghost use Rattle.evenings.specs.Pair.{judge_fit, judge_pair};
 
 use crate::limits::{LEAST_MEMORY, MOST_REQUESTS};
-use flow::{Refusal, Totals, refusal_of_call};
+use flow::{Refusal, Totals, refused_call};
 use records::FlowKind;
 use refusals::Reason;
 
@@ -39,13 +39,13 @@ fn fit(old: Totals, new: Totals, lent: usize) -> Result<Sides, Refusal>
     ensures { verdict result ≡ judge_fit old new lent }
 {
     if MOST_REQUESTS < old.dispositions || MOST_REQUESTS < new.dispositions {
-        return Err(refusal_of_call(Reason::TooManyRequests));
+        return Err(refused_call(Reason::TooManyRequests));
     }
     if old.kind != new.kind {
-        return Err(refusal_of_call(Reason::KindsDiffer));
+        return Err(refused_call(Reason::KindsDiffer));
     }
     if lent < LEAST_MEMORY {
-        return Err(refusal_of_call(Reason::WorkingMemory));
+        return Err(refused_call(Reason::WorkingMemory));
     }
     Ok(Sides {
         kind: old.kind,

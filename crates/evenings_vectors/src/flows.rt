@@ -2,15 +2,16 @@
 use crate::work::Work;
 use crate::{account, asked};
 use reading::buffer;
-use std::{io, mem};
+use std::io;
 use vector_lines::{Held, two_decimals};
 
-// The two flows, the working memory and the account. The account has room for 2,000 lines and the marks
-// after them.
+// Two flows, of which the first is the old one and, where they are exchanged, the new one; the working memory
+// and the account. The account has room for 2,000 lines and the marks after them.
 #[derive(Drop)]
 pub(crate) struct Evenings {
-    old: Held<262144>,
-    new: Held<262144>,
+    first: Held<262144>,
+    second: Held<262144>,
+    exchanged: bool,
     work: Work,
     account: [u8; 2064],
 }
@@ -18,8 +19,9 @@ pub(crate) struct Evenings {
 impl Evenings {
     pub(crate) fn new() -> Evenings {
         Evenings {
-            old: Held::new(),
-            new: Held::new(),
+            first: Held::new(),
+            second: Held::new(),
+            exchanged: false,
             work: Work::new(),
             account: buffer(),
         }
@@ -31,20 +33,27 @@ impl Evenings {
         match line {
             [b'#', ..] => printing::line(rt, line),
             [b'(', text @ ..] => {
-                self.old.take_over(text);
-                println!(rt; "old {}", self.old.bytes().len())
+                let old = if self.exchanged {
+                    &mut self.second
+                } else {
+                    &mut self.first
+                };
+                old.take_over(text);
+                println!(rt; "old {}", old.bytes().len())
             }
             [b')', text @ ..] => {
-                self.new.take_over(text);
-                println!(rt; "new {}", self.new.bytes().len())
+                let new = if self.exchanged {
+                    &mut self.first
+                } else {
+                    &mut self.second
+                };
+                new.take_over(text);
+                println!(rt; "new {}", new.bytes().len())
             }
             [b'~', ..] => {
-                mem::swap(&mut self.old, &mut self.new);
-                println!(rt;
-                    "old {} new {}",
-                    self.old.bytes().len(),
-                    self.new.bytes().len()
-                )
+                self.exchanged = !self.exchanged;
+                let (old, new) = in_turn(&self.first, &self.second, self.exchanged);
+                println!(rt; "old {} new {}", old.len(), new.len())
             }
             [b'=', text @ ..] => self.compare(rt, text),
             [b'?', text @ ..] => self.ask(rt, text),
@@ -56,8 +65,7 @@ impl Evenings {
     fn compare(&mut self, rt: &impl Print, text: &[u8]) -> io::Result<()> {
         let (lent, room) = two_decimals(text);
         self.work.lend(lent);
-        let old = self.old.bytes();
-        let new = self.new.bytes();
+        let (old, new) = in_turn(&self.first, &self.second, self.exchanged);
         account::print(rt, old, new, &mut self.work, &mut self.account, room)
     }
 
@@ -65,6 +73,20 @@ impl Evenings {
     fn ask(&mut self, rt: &impl Print, text: &[u8]) -> io::Result<()> {
         let (lent, n) = two_decimals(text);
         self.work.lend(lent);
-        asked::print(rt, self.old.bytes(), self.new.bytes(), &mut self.work, n)
+        let (old, new) = in_turn(&self.first, &self.second, self.exchanged);
+        asked::print(rt, old, new, &mut self.work, n)
+    }
+}
+
+// The old flow and the new one. No swap of the two: that would move 262,144 bytes each way.
+fn in_turn<'a>(
+    first: &'a Held<262144>,
+    second: &'a Held<262144>,
+    exchanged: bool,
+) -> (&'a [u8], &'a [u8]) {
+    if exchanged {
+        (second.bytes(), first.bytes())
+    } else {
+        (first.bytes(), second.bytes())
     }
 }

@@ -2,6 +2,7 @@
 use Rattle.std.specs.Prelude.{ℕ, Result, Ok, Err}
 use Rattle.refusals.specs.Numbers.{number_of}
 use Rattle.refusals.specs.declared.Reason.{Reason}
+use Rattle.flow.specs.declared.answer.NumberedRefusal.{NumberedRefusal}
 use Rattle.flow.specs.declared.answer.Refusal.{Refusal as Code-Refusal}
 
 -- a refusal, by its number, record and position; and that of a call, by a number that stands for no record
@@ -28,6 +29,10 @@ on_paper x = refusal (number_of x.reason) x.record x.position
 abbrev pub verdict : {A : Type 0} → Result A Code-Refusal → Verdict A
 verdict (Ok a) = accepted a
 verdict (Err x) = refused (on_paper x)
+
+-- the paper's values for a refusal that the code has by its number
+abbrev pub numbered : NumberedRefusal → Refusal
+numbered x = refusal x.number x.«record» x.position
 
 -- the code's refusal of a call: on paper `of_call` of the reason's number
 abbrev pub refused_call : Reason → Code-Refusal

@@ -1,6 +1,6 @@
 // What reading a flow answers.
 ghost use Rattle.std.specs.Prelude.{◌≡◌};
-ghost use Rattle.flow.specs.Verdict.{refused_call};
+ghost use Rattle.flow.specs.Verdict.{refused_call, numbered, of_call};
 
 use records::FlowKind;
 use refusals::Reason;
@@ -25,13 +25,32 @@ pub struct Refusal {
     pub position: u64,
 }
 
-// The refusal of a call for a reason that stands at no record. By this name, and no `From`, since
-// `EntryPoints` has a law on it.
-pub fn refusal_of_call(reason: Reason) -> Refusal
+// The refusal of a call for a reason that stands at no record.
+pub fn refused_call(reason: Reason) -> Refusal
     ensures { result ≡ refused_call reason }
 {
     Refusal {
         reason,
+        record: 0,
+        position: 0,
+    }
+}
+
+// A refusal as a clerk is told it: by its number, which may be any.
+#[derive(Clone, Copy, Debug, PartialEq, Eq)]
+pub struct NumberedRefusal {
+    pub number: u64,
+    pub record: u64,
+    pub position: u64,
+}
+
+// The refusal of a call by a number that stands at no record. By this name, and no `From`, since
+// `EntryPoints` has a law on it.
+pub fn refusal_of_call(number: u64) -> NumberedRefusal
+    ensures { numbered result ≡ of_call number }
+{
+    NumberedRefusal {
+        number,
         record: 0,
         position: 0,
     }

@@ -16,7 +16,7 @@ mod order;
 mod reader;
 mod walk;
 
-pub use answer::{Refusal, Totals, refusal_of_call};
+pub use answer::{NumberedRefusal, Refusal, Totals, refusal_of_call, refused_call};
 pub use casts::{as_count, as_index};
 pub use location::{Location, WithTotals, disposition, find, find_with_totals, next_opening};
 pub use order::{Due, Place};

@@ -7,7 +7,7 @@ ghost use Rattle.flow.specs.Find.{dispositions_in, start_of, location_of, part_o
 ghost use Rattle.flow.specs.Find.{find as Find-find};
 ghost use Rattle.flow.specs.Verdict.{verdict};
 
-use crate::answer::{Refusal, Totals, refusal_of_call};
+use crate::answer::{Refusal, Totals, refused_call};
 use crate::casts::{as_count, as_index};
 use crate::reader::read;
 use refusals::Reason;
@@ -42,7 +42,7 @@ pub fn find_with_totals(flow: &[u8], k: u64) -> Result<WithTotals, Refusal>
 {
     let totals = read(flow)?;
     if k == 0 || totals.dispositions < k {
-        return Err(refusal_of_call(Reason::NoDisposition));
+        return Err(refused_call(Reason::NoDisposition));
     }
     let location = location_of(flow, k);
     Ok(WithTotals { totals, location })

@@ -8,7 +8,7 @@ ghost use Rattle.flow.specs.Judge.{judge as Judge-judge};
 ghost use Rattle.flow.specs.Walking.{start, first_by, first_company};
 ghost use Rattle.flow.specs.Verdict.{verdict};
 
-use crate::answer::{Refusal, Totals, refusal_of_call};
+use crate::answer::{Refusal, Totals, refused_call};
 use crate::casts::as_count;
 use crate::fast_path::pass_over;
 use crate::limits::MOST_BYTES;
@@ -22,7 +22,7 @@ pub fn read(flow: &[u8]) -> Result<Totals, Refusal>
     ensures { verdict result ≡ Judge-judge flow.now }
 {
     if !is_length(flow.len()) {
-        return Err(refusal_of_call(Reason::WrongLength));
+        return Err(refused_call(Reason::WrongLength));
     }
     let header = &flow[0..120];
     read_records(flow, header)

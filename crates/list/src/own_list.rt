@@ -24,7 +24,7 @@ pub fn read_back(flow: &[u8], out: &mut [u8]) -> Result<Filled, Refusal>
     let totals = flow::read(flow)?;
     let length = list_length(flow, totals.kind);
     if out.len() < length {
-        return Err(flow::refusal_of_call(Reason::NoRoom));
+        return Err(flow::refused_call(Reason::NoRoom));
     }
     store_list(flow, out, totals.kind);
     Ok(Filled {

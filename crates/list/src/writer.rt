@@ -53,10 +53,10 @@ fn judge_list(list: &[u8], room: usize) -> Result<Totals, Refusal>
         }),
         Ok(items) => {
             if MOST_ITEMS < items {
-                return Err(flow::refusal_of_call(Reason::WrongLength));
+                return Err(flow::refused_call(Reason::WrongLength));
             }
             if room < 120 * (items + 1) {
-                return Err(flow::refusal_of_call(Reason::NoRoom));
+                return Err(flow::refused_call(Reason::NoRoom));
             }
             judge_items(list)
         }
@@ -138,7 +138,7 @@ fn close(walk: Walk, n: u64) -> Result<Totals, Refusal>
         });
     }
     if MOST_CENTS < walk.cents {
-        return Err(flow::refusal_of_call(Reason::TotalTooLarge));
+        return Err(flow::refused_call(Reason::TotalTooLarge));
     }
     Ok(walk.totals(n + 1))
 }

@@ -25,8 +25,8 @@ pub fn hex_byte(high: u8, low: u8) -> u8
     16 * hex_digit(high) + hex_digit(low)
 }
 
-// What a digit stands for; that of std takes upper case too.
-fn hex_digit(b: u8) -> u8
+// What a hexadecimal digit in lower case stands for; 0 where b is none. That of std takes upper case too.
+pub fn hex_digit(b: u8) -> u8
     ensures value { result ≡ hex_digit b }
     ensures upper_bound { result ≤ 15 }
 {

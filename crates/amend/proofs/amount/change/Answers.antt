@@ -20,7 +20,7 @@ returns-in_err-found c =
 
 pub returns-then-not-is_amount : goal.returns-then-not-is_amount
 returns-then-not-is_amount c =
-    rw c.refusal_of_call.ensures (sym (no-amount _ _ (sym c.in_ok-found.ensures) _ (sym c.is_amount.ensures ∙ c.if-not-is_amount.true)))
+    rw c.refused_call.ensures (sym (no-amount _ _ (sym c.in_ok-found.ensures) _ (sym c.is_amount.ensures ∙ c.if-not-is_amount.true)))
 
 pub overflow_add-totals : goal.overflow_add-totals
 overflow_add-totals c =
@@ -29,7 +29,7 @@ overflow_add-totals c =
 
 pub returns-then-totals-gt-MOST_CENTS : goal.returns-then-totals-gt-MOST_CENTS
 returns-then-totals-gt-MOST_CENTS c =
-    rw c.refusal_of_call-then-totals-gt-MOST_CENTS.ensures (sym (too-large _ _ (sym c.in_ok-found.ensures) _ (sym c.is_amount.ensures ∙ c.if-not-is_amount.false) c.if-totals-gt-MOST_CENTS.true))
+    rw c.refused_call-then-totals-gt-MOST_CENTS.ensures (sym (too-large _ _ (sym c.in_ok-found.ensures) _ (sym c.is_amount.ensures ∙ c.if-not-is_amount.false) c.if-totals-gt-MOST_CENTS.true))
 
 pub returns : goal.returns
 returns c =

@@ -16,7 +16,7 @@ returns-in_err-found c =
     rw passed_on (sym (withdraw-found _ _ (sym c.in_err-found.ensures)))
 
 pub returns-then-before-le1 : goal.returns-then-before-le1
-returns-then-before-le1 c = rw c.refusal_of_call.ensures (sym (the-only _ _ (sym c.in_ok-found.ensures) c.if-before-le1.true))
+returns-then-before-le1 c = rw c.refused_call.ensures (sym (the-only _ _ (sym c.in_ok-found.ensures) c.if-before-le1.true))
 
 pub slice_bounds-fill-count : goal.slice_bounds-fill-count
 slice_bounds-fill-count c = omega (arith, found_facts _ _ (sym c.in_ok-found.ensures))

@@ -26,7 +26,7 @@ returns-in_err-totals c =
     rw passed_on (sym (not_read _ _ (sym c.in_err-totals.ensures)))
 
 pub returns-then-k-eq0 : goal.returns-then-k-eq0
-returns-then-k-eq0 c = rw c.refusal_of_call.ensures (sym (no_number _ _ (sym c.in_ok-totals.ensures) (is_none _ _ c.then-k-eq0.either)))
+returns-then-k-eq0 c = rw c.refused_call.ensures (sym (no_number _ _ (sym c.in_ok-totals.ensures) (is_none _ _ c.then-k-eq0.either)))
 
 pub location_of-location-requires : goal.location_of-location-requires
 location_of-location-requires c = has-disposition _ _ (sym c.in_ok-totals.ensures) (is_number _ _ c.if-k-eq0.false c.if-totals-k.false)

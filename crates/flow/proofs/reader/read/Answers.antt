@@ -10,7 +10,7 @@ pub returns-then-not-is_length : goal.returns-then-not-is_length
 unfolding judge
 returns-then-not-is_length c =
     let wrong : is_length (length c.args.flow.now) ≡ false = sym c.is_length.ensures ∙ c.if-not-is_length.true in
-    rw (wrong, c.refusal_of_call.ensures)
+    rw (wrong, c.refused_call.ensures)
 
 pub returns : goal.returns
 unfolding judge

@@ -28,7 +28,7 @@ pub returns-then-out-length : goal.returns-then-out-length
 unfolding read_back judge_room
 returns-then-out-length c =
     let short : leb (length (list_of c.args.flow.now)) (length c.args.out.now) ≡ false = lt-leb _ _ (rw c.list_length-length.ensures at c.if-out-length.true) in
-    rw (← c.in_ok-totals.ensures, short, c.refusal_of_call.ensures) refl
+    rw (← c.in_ok-totals.ensures, short, c.refused_call.ensures) refl
 
 pub store_list-requires-clause-kind_value : goal.store_list-requires-clause-kind_value
 store_list-requires-clause-kind_value c = (accepted_exact _ _ (sym c.in_ok-totals.ensures)).3

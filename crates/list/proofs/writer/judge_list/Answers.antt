@@ -21,7 +21,7 @@ unfolding judge_list
 returns-then-items-gt-MOST_ITEMS c =
     let so = items-counted _ _ (sym c.in-Ok.ensures) in
     let over : leb (suc (length (items_in c.args.list.now))) most_records ≡ false = lt-leb _ _ (omega (arith, so.1)) in
-    rw (so.0, over, c.refusal_of_call.ensures) refl
+    rw (so.0, over, c.refused_call.ensures) refl
 
 pub returns-then-room-items : goal.returns-then-room-items
 unfolding judge_list
@@ -29,7 +29,7 @@ returns-then-room-items c =
     let so = items-counted _ _ (sym c.in-Ok.ensures) in
     let few : leb (suc (length (items_in c.args.list.now))) most_records ≡ true = le-leb _ _ (omega (arith, so.1)) in
     let short : leb (120 * suc (length (items_in c.args.list.now))) c.args.room ≡ false = lt-leb _ _ (omega (arith, so.1)) in
-    rw (so.0, few, short, c.refusal_of_call-then-room-items.ensures) refl
+    rw (so.0, few, short, c.refused_call-then-room-items.ensures) refl
 
 pub judge_items-requires : goal.judge_items-requires
 judge_items-requires c =
